@@ -1,0 +1,8 @@
+pub mod Words
+pub mod Keys
+pub mod Request
+pub mod Field
+pub mod Line
+pub mod Begins
+pub mod Section
+pub mod Reading

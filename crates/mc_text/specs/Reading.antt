@@ -1,0 +1,84 @@
+-- The plain way to read a section: the command at its front, then those behind it.
+use Rattle.std.specs.Prelude.{ℕ, zero, suc, ◌+◌, ◌^◌, Bool, true, false, ◌&&◌, List, [], ◌∷◌, length, take, drop, Option, Some, None, option_and_then, codes, nat_lt, nat_le, ◌==◌, if◌then◌else◌, slice_index}
+use Rattle.std.specs.List.{list_all, position_or_len}
+use Rattle.std.specs.Option.{option_map_or}
+use Rattle.std.specs.Str.{bytes_eq}
+use Rattle.mc_text.specs.declared.command.How.{How}
+use Rattle.mc_text.specs.declared.command.How.TheVariants.{Set}
+use Rattle.mc_text.specs.Request.{Request, Store, Get, WholeCommand}
+use Rattle.mc_text.specs.Field.{is_key, number_below, exptime_of}
+use Rattle.mc_text.specs.Line.{line_length, line_words, behind_line, Header, Line, Storage, Retrieval}
+use Rattle.mc_text.specs.Begins.{value_limit, storing}
+
+infixl 10 ◌>>=◌
+abbrev pub ◌>>=◌ : {A B : Type 0} → Option A → (A → Option B) → Option B
+o >>= f = option_and_then f o
+
+abbrev pub only_if : Bool → Option (Unit {0})
+only_if true = Some tt
+only_if false = None
+
+-- whether the words behind the last field ask for no reply
+unfoldable pub quiet_of : List (List ℕ) → Option Bool
+quiet_of [] = Some false
+quiet_of (word ∷ []) = if bytes_eq word (codes "noreply") then Some true else None
+quiet_of (_ ∷ _ ∷ _) = None
+
+-- the fields of a storage line, behind its name
+unfoldable pub storage_fields : How → List (List ℕ) → Option Line
+storage_fields how [] = None
+storage_fields how (key ∷ []) = None
+storage_fields how (key ∷ flags ∷ []) = None
+storage_fields how (key ∷ flags ∷ exptime ∷ []) = None
+storage_fields how (key ∷ flags ∷ exptime ∷ bytes ∷ more) = do
+  quiet ← quiet_of more
+  _ ← only_if (is_key key)
+  flags_value ← number_below (2 ^ 32) flags
+  exptime_value ← exptime_of exptime
+  bytes_value ← number_below (2 ^ 32) bytes
+  Some (Storage (record { how = how; key = key; flags = flags_value; exptime = exptime_value; bytes = bytes_value; unique = 0; quiet = quiet }))
+
+-- the keys of a retrieval line, behind its name
+unfoldable pub retrieval_fields : List (List ℕ) → Option Line
+retrieval_fields keys = if nat_lt 0 (length keys) && list_all is_key keys then Some (Retrieval false keys) else None
+
+-- what the words of a line say
+unfoldable pub said_by : List (List ℕ) → Option Line
+said_by [] = None
+said_by (name ∷ fields) =
+    if bytes_eq name (codes "set") then storage_fields Set fields else (if bytes_eq name (codes "get") then retrieval_fields fields else None)
+
+-- what a line asks for, with what stands behind it, and how many bytes behind it belong to the command
+unfoldable pub asked_by : Line → List ℕ → Option (Request × ℕ)
+asked_by (Storage header) behind = do
+  _ ← only_if (nat_le (header.bytes + 2) (length behind))
+  _ ← only_if ((slice_index behind header.bytes == 13) && (slice_index behind (header.bytes + 1) == 10))
+  _ ← only_if (nat_le header.bytes value_limit)
+  Some (Store (storing header (take header.bytes behind)), header.bytes + 2)
+asked_by (Retrieval uniques keys) behind = Some (Get uniques keys, 0)
+
+-- the whole command at the front of a text
+unfoldable pub first_command : List ℕ → Option WholeCommand
+first_command text = do
+  _ ← only_if (nat_lt (position_or_len (λ byte. byte == 10) text) (length text))
+  line ← said_by (line_words text)
+  asked ← asked_by line (behind_line text)
+  Some (record { request = asked.0; spelling = take (line_length text + asked.1) text })
+
+-- the commands at the front of a text, and what stands behind them; at most so many
+unfoldable pub commands_within : ℕ → List ℕ → List WholeCommand
+commands_within zero text = []
+commands_within (suc k) text =
+    option_map_or (λ command. command ∷ commands_within k (drop (length command.spelling) text)) (first_command text) []
+
+unfoldable pub rest_within : ℕ → List ℕ → List ℕ
+rest_within zero text = text
+rest_within (suc k) text =
+    option_map_or (λ command. rest_within k (drop (length command.spelling) text)) (first_command text) text
+
+-- the commands of a section, and its rest: a command has at least one byte
+unfoldable pub commands_of : List ℕ → List WholeCommand
+commands_of section = commands_within (length section) section
+
+unfoldable pub rest_of : List ℕ → List ℕ
+rest_of section = rest_within (length section) section

@@ -1,0 +1,45 @@
+-- The commands of a section, and its rest.
+use Rattle.std.specs.Prelude.{◌≡◌, ℕ, ◌+◌, ◌<◌, ◌≤◌, ◌≢◌, ◌⊎◌, List, [], ◌∷◌, ◌++◌, length, slice_index}
+use Rattle.std.specs.List.{flat_map}
+use Rattle.mc_text.specs.Request.{WholeCommand}
+use Rattle.mc_text.specs.Line.{HasLine, line_words, behind_line, Header, Line, Storage, Says}
+use Rattle.mc_text.specs.Begins.{Begins, value_limit}
+
+-- the spellings of the commands, one after another
+abbrev pub spellings : List WholeCommand → List ℕ
+spellings commands = flat_map (λ command. command.spelling) commands
+
+-- each command begins what stands from its place on
+abbrev pub EachBegins : List WholeCommand → List ℕ → Type 0
+EachBegins [] rest = Unit {0}
+EachBegins (command ∷ commands) rest =
+    Begins (command.spelling ++ (spellings commands ++ rest)) command (length command.spelling) × EachBegins commands rest
+
+-- a text begins with no whole command
+abbrev pub NoCommand : List ℕ → Type 0
+NoCommand text = (command : WholeCommand) (count : ℕ) → Begins text command count → ⊥
+
+-- the section is these commands, and then a rest that begins with no whole command
+pub record Spelled (section : List ℕ) (commands : List WholeCommand) (rest : List ℕ) : Type 0 where
+  pub whole : section ≡ spellings commands ++ rest
+  pub each : EachBegins commands rest
+  pub ends : NoCommand rest
+
+-- a block can't be served: it is longer than a value may be, or it isn't followed by `\r\n`
+abbrev pub IsBadBlock : List ℕ → Header → Type 0
+IsBadBlock behind header =
+    (header.bytes + 2 ≤ length behind) × ((value_limit < header.bytes) ⊎ ((slice_index behind header.bytes ≢ 13) ⊎ (slice_index behind (header.bytes + 1) ≢ 10)))
+
+-- a text begins with a line that isn't built: one that says nothing, or a storage line whose block can't be served
+abbrev pub IsUnbuiltForm : List ℕ → Type 0
+IsUnbuiltForm text =
+    HasLine text
+    × (((line : Line) → Says (line_words text) line → ⊥)
+    ⊎ ((header : Header) × Says (line_words text) (Storage header) × IsBadBlock (behind_line text) header))
+
+-- behind the commands of the section stands a form that isn't built
+pub record IsUnbuilt (section : List ℕ) : Type 0 where
+  pub commands : List WholeCommand
+  pub rest : List ℕ
+  pub spelled : Spelled section commands rest
+  pub form : IsUnbuiltForm rest
