@@ -1,7 +1,8 @@
 -- The whole command that a text begins with. By memcached's protocol.txt and this project's profile.
 use Rattle.std.specs.Prelude.{◌≡◌, ℕ, ◌+◌, ◌≤◌, List, ◌∷◌, ◌++◌, length, take}
+use Rattle.byte_text.specs.Cuts.{IsCutAt}
 use Rattle.mc_text.specs.Request.{Storing, Request, Store, Get, WholeCommand}
-use Rattle.mc_text.specs.Line.{HasLine, line_length, line_words, behind_line, Header, Line, Storage, Retrieval, Says}
+use Rattle.mc_text.specs.Line.{words_of_line, Header, Line, Storage, Retrieval, Says}
 
 -- the greatest number of bytes of a value
 abbrev pub value_limit : ℕ
@@ -32,12 +33,14 @@ Asks (Storage header) behind request more =
     (block : List ℕ) × HasBlock behind header.bytes block × (header.bytes ≤ value_limit) × (request ≡ Store (storing header block)) × (more ≡ header.bytes + 2)
 Asks (Retrieval uniques keys) behind request more = (request ≡ Get uniques keys) × (more ≡ 0)
 
--- a text begins with a whole command, spelled by its first `count` bytes
+-- a text begins with a whole command, spelled by its first `count` bytes: a line, and what it asks for behind it
 pub record Begins (text : List ℕ) (command : WholeCommand) (count : ℕ) : Type 0 where
+  pub content : List ℕ
+  pub behind : List ℕ
   pub line : Line
   pub more : ℕ
-  pub has_line : HasLine text
-  pub says : Says (line_words text) line
-  pub asks : Asks line (behind_line text) command.request more
-  pub count_is : count ≡ line_length text + more
+  pub cut : IsCutAt 10 text content behind
+  pub says : Says (words_of_line content) line
+  pub asks : Asks line behind command.request more
+  pub count_is : count ≡ length content + 1 + more
   pub spelling_is : command.spelling ≡ take count text

@@ -1,4 +1,3 @@
-pub mod Words
 pub mod Keys
 pub mod Request
 pub mod Field
@@ -6,3 +5,4 @@ pub mod Line
 pub mod Begins
 pub mod Section
 pub mod Reading
+pub mod Commands

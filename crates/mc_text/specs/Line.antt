@@ -1,30 +1,18 @@
--- The line that a text begins with, and what its words say. By memcached's protocol.txt and this project's profile.
-use Rattle.std.specs.Prelude.{◌≡◌, ℕ, ◌+◌, ◌-◌, ◌<◌, ◌^◌, ℤ, Bool, true, false, List, [], ◌∷◌, ◌++◌, length, take, drop, Option, Some, None, codes, ◌==◌, if◌then◌else◌, slice_index}
-use Rattle.std.specs.List.{position_or_len, before_first, after_first, AllByRecursion}
+-- What the words of a line say. By memcached's protocol.txt and this project's profile.
+use Rattle.std.specs.Prelude.{◌≡◌, ℕ, ◌-◌, ◌<◌, ◌^◌, ℤ, Bool, true, false, List, ◌∷◌, length, take, Some, codes, ◌==◌, if◌then◌else◌, slice_index}
+use Rattle.std.specs.List.{AllByRecursion}
+use Rattle.byte_text.specs.Words.{words}
 use Rattle.mc_text.specs.declared.command.How.{How}
 use Rattle.mc_text.specs.declared.command.How.TheVariants.{Set}
-use Rattle.mc_text.specs.Words.{words}
 use Rattle.mc_text.specs.Field.{is_key, number_below, exptime_of, noreply}
-
--- a text has a line where a `\n` stands in it
-abbrev pub HasLine : List ℕ → Type 0
-HasLine text = position_or_len (λ byte. byte == 10) text < length text
-
--- how many bytes the line has, its `\n` included
-abbrev pub line_length : List ℕ → ℕ
-line_length text = position_or_len (λ byte. byte == 10) text + 1
 
 -- a text without a `\r` at its end
 abbrev pub without_return : List ℕ → List ℕ
 without_return text = if slice_index text (length text - 1) == 13 then take (length text - 1) text else text
 
--- the words of the line: the `\n`, and a `\r` directly before it, aren't part of them
-abbrev pub line_words : List ℕ → List (List ℕ)
-line_words text = words (without_return (before_first (λ byte. byte == 10) text))
-
--- what stands behind the line
-abbrev pub behind_line : List ℕ → List ℕ
-behind_line text = after_first (λ byte. byte == 10) text
+-- the words of a line, whose `\n` is cut off: a `\r` directly before that isn't part of them either
+abbrev pub words_of_line : List ℕ → List (List ℕ)
+words_of_line content = words (without_return content)
 
 -- what a storage line says
 pub record Header : Type 0 where

@@ -1,13 +1,13 @@
 -- The plain way to read a section: the command at its front, then those behind it.
-use Rattle.std.specs.Prelude.{ℕ, zero, suc, ◌+◌, ◌^◌, Bool, true, false, ◌&&◌, List, [], ◌∷◌, length, take, drop, Option, Some, None, option_and_then, codes, nat_lt, nat_le, ◌==◌, if◌then◌else◌, slice_index}
-use Rattle.std.specs.List.{list_all, position_or_len}
+use Rattle.std.specs.Prelude.{ℕ, zero, suc, ◌+◌, ◌^◌, Bool, true, false, ◌&&◌, List, [], ◌∷◌, length, take, drop, Option, Some, None, option_map, option_and_then, codes, nat_lt, nat_le, ◌==◌, if◌then◌else◌, slice_index}
+use Rattle.std.specs.List.{list_all}
 use Rattle.std.specs.Option.{option_map_or}
 use Rattle.std.specs.Str.{bytes_eq}
 use Rattle.mc_text.specs.declared.command.How.{How}
 use Rattle.mc_text.specs.declared.command.How.TheVariants.{Set}
 use Rattle.mc_text.specs.Request.{Request, Store, Get, WholeCommand}
 use Rattle.mc_text.specs.Field.{is_key, number_below, exptime_of}
-use Rattle.mc_text.specs.Line.{line_length, line_words, behind_line, Header, Line, Storage, Retrieval}
+use Rattle.mc_text.specs.Line.{words_of_line, Header, Line, Storage, Retrieval}
 use Rattle.mc_text.specs.Begins.{value_limit, storing}
 
 infixl 10 ◌>>=◌
@@ -17,6 +17,12 @@ o >>= f = option_and_then f o
 abbrev pub only_if : Bool → Option (Unit {0})
 only_if true = Some tt
 only_if false = None
+
+-- what stands before the first such byte, and what stands behind it
+abbrev pub cut_first : ℕ → List ℕ → Option (List ℕ × List ℕ)
+cut_first byte [] = None
+cut_first byte (first ∷ more) =
+    if first == byte then Some ([], more) else option_map (λ parts. (first ∷ parts.0, parts.1)) (cut_first byte more)
 
 -- whether the words behind the last field ask for no reply
 unfoldable pub quiet_of : List (List ℕ) → Option Bool
@@ -60,10 +66,10 @@ asked_by (Retrieval uniques keys) behind = Some (Get uniques keys, 0)
 -- the whole command at the front of a text
 unfoldable pub first_command : List ℕ → Option WholeCommand
 first_command text = do
-  _ ← only_if (nat_lt (position_or_len (λ byte. byte == 10) text) (length text))
-  line ← said_by (line_words text)
-  asked ← asked_by line (behind_line text)
-  Some (record { request = asked.0; spelling = take (line_length text + asked.1) text })
+  cut ← cut_first 10 text
+  line ← said_by (words_of_line cut.0)
+  asked ← asked_by line cut.1
+  Some (record { request = asked.0; spelling = take (length cut.0 + 1 + asked.1) text })
 
 -- the commands at the front of a text, and what stands behind them; at most so many
 unfoldable pub commands_within : ℕ → List ℕ → List WholeCommand

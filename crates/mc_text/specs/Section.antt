@@ -1,8 +1,9 @@
 -- The commands of a section, and its rest.
 use Rattle.std.specs.Prelude.{◌≡◌, ℕ, ◌+◌, ◌<◌, ◌≤◌, ◌≢◌, ◌⊎◌, List, [], ◌∷◌, ◌++◌, length, slice_index}
 use Rattle.std.specs.List.{flat_map}
+use Rattle.byte_text.specs.Cuts.{IsCutAt}
 use Rattle.mc_text.specs.Request.{WholeCommand}
-use Rattle.mc_text.specs.Line.{HasLine, line_words, behind_line, Header, Line, Storage, Says}
+use Rattle.mc_text.specs.Line.{words_of_line, Header, Line, Storage, Says}
 use Rattle.mc_text.specs.Begins.{Begins, value_limit}
 
 -- the spellings of the commands, one after another
@@ -31,11 +32,12 @@ IsBadBlock behind header =
     (header.bytes + 2 ≤ length behind) × ((value_limit < header.bytes) ⊎ ((slice_index behind header.bytes ≢ 13) ⊎ (slice_index behind (header.bytes + 1) ≢ 10)))
 
 -- a text begins with a line that isn't built: one that says nothing, or a storage line whose block can't be served
-abbrev pub IsUnbuiltForm : List ℕ → Type 0
-IsUnbuiltForm text =
-    HasLine text
-    × (((line : Line) → Says (line_words text) line → ⊥)
-    ⊎ ((header : Header) × Says (line_words text) (Storage header) × IsBadBlock (behind_line text) header))
+pub record IsUnbuiltForm (text : List ℕ) : Type 0 where
+  pub content : List ℕ
+  pub behind : List ℕ
+  pub cut : IsCutAt 10 text content behind
+  pub cause : ((line : Line) → Says (words_of_line content) line → ⊥)
+    ⊎ ((header : Header) × Says (words_of_line content) (Storage header) × IsBadBlock behind header)
 
 -- behind the commands of the section stands a form that isn't built
 pub record IsUnbuilt (section : List ℕ) : Type 0 where

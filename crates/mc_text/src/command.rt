@@ -1,11 +1,10 @@
 // What a command asks for.
-
 use crate::keys::Keys;
 
 /// How an item is stored.
 #[derive(Clone, Copy, Debug, PartialEq, Eq)]
 pub enum How {
-    /// Store the item, whether its key is present or not.
+    /// The item is stored, whether its key is present or not.
     Set,
 }
 
@@ -14,19 +13,30 @@ pub enum How {
 pub enum Command<'a> {
     /// Stores an item.
     Store {
+        /// How it is stored.
         how: How,
+        /// Its key.
         key: &'a [u8],
+        /// A number that is kept with it.
         flags: u32,
+        /// When it expires: at once, where it is negative.
         exptime: i32,
+        /// The unique number that the present item must have, and 0 for a command that names none.
         unique: u64,
+        /// Its value.
         block: &'a [u8],
+        /// Whether the reply is left out.
         quiet: bool,
+        /// The bytes of the command.
         spelling: &'a [u8],
     },
-    /// Asks for the items of these keys, in this order.
+    /// Gives the items of some keys.
     Get {
+        /// Whether the items' uniques are given too.
         uniques: bool,
+        /// The keys, in the order of the line.
         keys: Keys<'a>,
+        /// The bytes of the command.
         spelling: &'a [u8],
     },
 }

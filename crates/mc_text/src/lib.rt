@@ -2,8 +2,12 @@
 #![tactic(auto)]
 
 mod command;
+mod commands;
 mod keys;
-mod words;
+mod line;
+mod section;
 
 pub use command::{Command, How};
+pub use commands::Commands;
 pub use keys::Keys;
+pub use section::{count, unbuilt};
