@@ -6,3 +6,4 @@ pub mod Begins
 pub mod Section
 pub mod Reading
 pub mod Commands
+pub mod View

@@ -1,5 +1,5 @@
 -- The plain way to read a section: the command at its front, then those behind it.
-use Rattle.std.specs.Prelude.{ℕ, zero, suc, ◌+◌, ◌^◌, Bool, true, false, ◌&&◌, List, [], ◌∷◌, length, take, drop, Option, Some, None, option_map, option_and_then, codes, nat_lt, nat_le, ◌==◌, if◌then◌else◌, slice_index}
+use Rattle.std.specs.Prelude.{ℕ, zero, suc, ◌+◌, ◌^◌, Bool, true, false, ◌&&◌, List, [], ◌∷◌, length, take, drop, Option, Some, None, option_map, option_and_then, codes, nat_lt, nat_le, ◌==◌, if◌then◌else◌}
 use Rattle.std.specs.List.{list_all}
 use Rattle.std.specs.Option.{option_map_or}
 use Rattle.std.specs.Str.{bytes_eq}
@@ -19,10 +19,18 @@ only_if true = Some tt
 only_if false = None
 
 -- what stands before the first such byte, and what stands behind it
-abbrev pub cut_first : ℕ → List ℕ → Option (List ℕ × List ℕ)
+unfoldable pub cut_first : ℕ → List ℕ → Option (List ℕ × List ℕ)
 cut_first byte [] = None
 cut_first byte (first ∷ more) =
     if first == byte then Some ([], more) else option_map (λ parts. (first ∷ parts.0, parts.1)) (cut_first byte more)
+
+-- the words of a storage line behind its name
+pub record Fields : Type 0 where
+  pub key : List ℕ
+  pub flags : List ℕ
+  pub exptime : List ℕ
+  pub bytes : List ℕ
+  pub quiet : Bool
 
 -- whether the words behind the last field ask for no reply
 unfoldable pub quiet_of : List (List ℕ) → Option Bool
@@ -30,37 +38,50 @@ quiet_of [] = Some false
 quiet_of (word ∷ []) = if bytes_eq word (codes "noreply") then Some true else None
 quiet_of (_ ∷ _ ∷ _) = None
 
--- the fields of a storage line, behind its name
-unfoldable pub storage_fields : How → List (List ℕ) → Option Line
-storage_fields how [] = None
-storage_fields how (key ∷ []) = None
-storage_fields how (key ∷ flags ∷ []) = None
-storage_fields how (key ∷ flags ∷ exptime ∷ []) = None
-storage_fields how (key ∷ flags ∷ exptime ∷ bytes ∷ more) = do
+unfoldable pub fields_of : List (List ℕ) → Option Fields
+fields_of [] = None
+fields_of (key ∷ []) = None
+fields_of (key ∷ flags ∷ []) = None
+fields_of (key ∷ flags ∷ exptime ∷ []) = None
+fields_of (key ∷ flags ∷ exptime ∷ bytes ∷ more) = do
   quiet ← quiet_of more
-  _ ← only_if (is_key key)
-  flags_value ← number_below (2 ^ 32) flags
-  exptime_value ← exptime_of exptime
-  bytes_value ← number_below (2 ^ 32) bytes
-  Some (Storage (record { how = how; key = key; flags = flags_value; exptime = exptime_value; bytes = bytes_value; unique = 0; quiet = quiet }))
+  Some (record { key = key; flags = flags; exptime = exptime; bytes = bytes; quiet = quiet })
 
--- the keys of a retrieval line, behind its name
-unfoldable pub retrieval_fields : List (List ℕ) → Option Line
-retrieval_fields keys = if nat_lt 0 (length keys) && list_all is_key keys then Some (Retrieval false keys) else None
+-- what the words of a storage line say
+unfoldable pub header_of : How → Fields → Option Header
+header_of how fields = do
+  _ ← only_if (is_key fields.key)
+  flags ← number_below (2 ^ 32) fields.flags
+  exptime ← exptime_of fields.exptime
+  bytes ← number_below (2 ^ 32) fields.bytes
+  Some (record { how = how; key = fields.key; flags = flags; exptime = exptime; bytes = bytes; unique = 0; quiet = fields.quiet })
+
+unfoldable pub storage_of : How → List (List ℕ) → Option Line
+storage_of how words = do
+  fields ← fields_of words
+  header ← header_of how fields
+  Some (Storage header)
+
+-- the keys of a retrieval line
+unfoldable pub retrieval_of : List (List ℕ) → Option Line
+retrieval_of keys = if nat_lt 0 (length keys) && list_all is_key keys then Some (Retrieval false keys) else None
 
 -- what the words of a line say
 unfoldable pub said_by : List (List ℕ) → Option Line
 said_by [] = None
-said_by (name ∷ fields) =
-    if bytes_eq name (codes "set") then storage_fields Set fields else (if bytes_eq name (codes "get") then retrieval_fields fields else None)
+said_by (name ∷ words) =
+    if bytes_eq name (codes "set") then storage_of Set words else (if bytes_eq name (codes "get") then retrieval_of words else None)
+
+-- the block behind a storage line, where `\r\n` follows it and it isn't too long
+unfoldable pub block_of : ℕ → List ℕ → Option (List ℕ)
+block_of bytes behind =
+    if bytes_eq (take 2 (drop bytes behind)) (codes "\r\n") && nat_le bytes value_limit then Some (take bytes behind) else None
 
 -- what a line asks for, with what stands behind it, and how many bytes behind it belong to the command
 unfoldable pub asked_by : Line → List ℕ → Option (Request × ℕ)
 asked_by (Storage header) behind = do
-  _ ← only_if (nat_le (header.bytes + 2) (length behind))
-  _ ← only_if ((slice_index behind header.bytes == 13) && (slice_index behind (header.bytes + 1) == 10))
-  _ ← only_if (nat_le header.bytes value_limit)
-  Some (Store (storing header (take header.bytes behind)), header.bytes + 2)
+  block ← block_of header.bytes behind
+  Some (Store (storing header block), header.bytes + 2)
 asked_by (Retrieval uniques keys) behind = Some (Get uniques keys, 0)
 
 -- the whole command at the front of a text

@@ -1,10 +1,10 @@
 -- The commands of a section, and its rest.
-use Rattle.std.specs.Prelude.{◌≡◌, ℕ, ◌+◌, ◌<◌, ◌≤◌, ◌≢◌, ◌⊎◌, List, [], ◌∷◌, ◌++◌, length, slice_index}
+use Rattle.std.specs.Prelude.{◌≡◌, ℕ, ◌+◌, ◌<◌, ◌≤◌, ◌⊎◌, List, [], ◌∷◌, ◌++◌, length}
 use Rattle.std.specs.List.{flat_map}
 use Rattle.byte_text.specs.Cuts.{IsCutAt}
 use Rattle.mc_text.specs.Request.{WholeCommand}
 use Rattle.mc_text.specs.Line.{words_of_line, Header, Line, Storage, Says}
-use Rattle.mc_text.specs.Begins.{Begins, value_limit}
+use Rattle.mc_text.specs.Begins.{Begins, HasBlock, value_limit}
 
 -- the spellings of the commands, one after another
 abbrev pub spellings : List WholeCommand → List ℕ
@@ -29,7 +29,7 @@ pub record Spelled (section : List ℕ) (commands : List WholeCommand) (rest : L
 -- a block can't be served: it is longer than a value may be, or it isn't followed by `\r\n`
 abbrev pub IsBadBlock : List ℕ → Header → Type 0
 IsBadBlock behind header =
-    (header.bytes + 2 ≤ length behind) × ((value_limit < header.bytes) ⊎ ((slice_index behind header.bytes ≢ 13) ⊎ (slice_index behind (header.bytes + 1) ≢ 10)))
+    (header.bytes + 2 ≤ length behind) × ((value_limit < header.bytes) ⊎ ((block : List ℕ) → HasBlock behind header.bytes block → ⊥))
 
 -- a text begins with a line that isn't built: one that says nothing, or a storage line whose block can't be served
 pub record IsUnbuiltForm (text : List ℕ) : Type 0 where

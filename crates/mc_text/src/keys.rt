@@ -14,7 +14,7 @@ pub struct Keys<'a> {
 impl<'a> Keys<'a> {
     /// The words of a line that are its keys.
     pub(crate) fn new(words: Words<'a>) -> Keys<'a>
-        ensures { keys_left result ≡ words_left words }
+        ensures { keys_left result ≡ words_left words.entry }
     {
         Keys { words }
     }

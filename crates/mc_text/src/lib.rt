@@ -3,6 +3,8 @@
 
 mod command;
 mod commands;
+mod field;
+mod first;
 mod keys;
 mod line;
 mod section;

@@ -1,0 +1,80 @@
+// The command at the front of a text.
+ghost use Rattle.std.specs.Prelude.{◌≡◌, ◌↔◌, IsTrue, option_map};
+ghost use Rattle.mc_text.specs.Request.{view};
+ghost use Rattle.mc_text.specs.Reading.{block_of, first_command};
+ghost use Rattle.mc_text.specs.Section.{IsUnbuiltForm};
+
+use crate::command::Command;
+use crate::line::{Header, Line, read_line};
+use byte_text::cut_at;
+
+// The greatest number of bytes of a value.
+const VALUE_LIMIT: usize = 1_048_576;
+
+/// The whole command with which a text begins; `None` where it begins with none.
+#[tactic(auto, unfolding(crate::specs::Reading::first_command, crate::specs::Reading::asked_by))]
+pub(crate) fn first_command(text: &[u8]) -> Option<Command<'_>>
+    ensures { option_map view result ≡ first_command text.now }
+{
+    let (content, behind) = cut_at(text, b'\n')?;
+    let line_length = content.len() + 1;
+    match read_line(content)? {
+        Line::Storage(header) => {
+            let block = read_block(header.bytes, behind)?;
+            Some(store(header, block, &text[..line_length + block.len() + 2]))
+        }
+        Line::Retrieval { uniques, keys } => Some(Command::Get {
+            uniques,
+            keys,
+            spelling: &text[..line_length],
+        }),
+    }
+}
+
+// The command of a storage line and its block.
+fn store<'a>(header: Header<'a>, block: &'a [u8], spelling: &'a [u8]) -> Command<'a> {
+    Command::Store {
+        how: header.how,
+        key: header.key,
+        flags: header.flags,
+        exptime: header.exptime,
+        unique: header.unique,
+        block,
+        quiet: header.quiet,
+        spelling,
+    }
+}
+
+// The block behind a storage line, where `\r\n` follows it and it isn't too long.
+#[tactic(auto, unfolding(crate::specs::Reading::block_of))]
+fn read_block(bytes: u32, behind: &[u8]) -> Option<&[u8]>
+    ensures { option_map (λ block. block.now) result ≡ block_of bytes behind.now }
+{
+    let bytes = bytes as usize;
+    if behind.len() < bytes + 2 {
+        return None;
+    }
+    let (block, after) = behind.split_at(bytes);
+    if &after[..2] == b"\r\n".as_slice() && bytes <= VALUE_LIMIT {
+        Some(block)
+    } else {
+        None
+    }
+}
+
+/// Whether a text begins with a line that isn't built, or with a storage line whose block can't be served.
+pub(crate) fn is_unbuilt_form(text: &[u8]) -> bool
+    ensures { IsTrue result ↔ IsUnbuiltForm text.now }
+{
+    let Some((content, behind)) = cut_at(text, b'\n') else {
+        return false;
+    };
+    match read_line(content) {
+        None => true,
+        Some(Line::Storage(header)) => {
+            behind.len() >= header.bytes as usize + 2
+                && read_block(header.bytes, behind).is_none()
+        }
+        Some(Line::Retrieval { .. }) => false,
+    }
+}
