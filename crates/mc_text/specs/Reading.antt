@@ -1,6 +1,6 @@
 -- The plain way to read a section: the command at its front, then those behind it.
-use Rattle.std.specs.Prelude.{ℕ, zero, suc, ◌+◌, ◌^◌, Bool, true, false, ◌&&◌, List, [], ◌∷◌, length, take, drop, Option, Some, None, option_map, option_and_then, codes, nat_lt, nat_le, ◌==◌, if◌then◌else◌}
-use Rattle.std.specs.List.{list_all}
+use Rattle.std.specs.Prelude.{ℕ, zero, suc, ◌+◌, ◌^◌, Bool, true, false, ◌&&◌, List, [], ◌∷◌, length, take, drop, Option, Some, None, option_map, option_and_then, codes, nat_lt, nat_le, nat_eq, ◌==◌, if◌then◌else◌}
+use Rattle.std.specs.List.{list_all, starts_with}
 use Rattle.std.specs.Option.{option_map_or}
 use Rattle.std.specs.Str.{bytes_eq}
 use Rattle.mc_text.specs.declared.command.How.{How}
@@ -75,7 +75,7 @@ said_by (name ∷ words) =
 -- the block behind a storage line, where `\r\n` follows it and it isn't too long
 unfoldable pub block_of : ℕ → List ℕ → Option (List ℕ)
 block_of bytes behind =
-    if bytes_eq (take 2 (drop bytes behind)) (codes "\r\n") && nat_le bytes value_limit then Some (take bytes behind) else None
+    if starts_with nat_eq (drop bytes behind) (codes "\r\n") && nat_le bytes value_limit then Some (take bytes behind) else None
 
 -- what a line asks for, with what stands behind it, and how many bytes behind it belong to the command
 unfoldable pub asked_by : Line → List ℕ → Option (Request × ℕ)

@@ -1,6 +1,8 @@
 // The command at the front of a text.
-ghost use Rattle.std.specs.Prelude.{◌≡◌, ◌↔◌, IsTrue, option_map};
-ghost use Rattle.mc_text.specs.Request.{view};
+ghost use Rattle.std.specs.Prelude.{◌≡◌, ◌+◌, ◌≤◌, ◌↔◌, length, IsTrue, IfSome, option_map};
+ghost use Rattle.mc_text.specs.Request.{Store, view};
+ghost use Rattle.mc_text.specs.Begins.{storing};
+ghost use Rattle.mc_text.specs.View.{header_view};
 ghost use Rattle.mc_text.specs.Reading.{block_of, first_command};
 ghost use Rattle.mc_text.specs.Section.{IsUnbuiltForm};
 
@@ -12,7 +14,7 @@ use byte_text::cut_at;
 const VALUE_LIMIT: usize = 1_048_576;
 
 /// The whole command with which a text begins; `None` where it begins with none.
-#[tactic(auto, unfolding(crate::specs::Reading::first_command, crate::specs::Reading::asked_by))]
+#[tactic(auto, using(crate::proofs::Steps::steps))]
 pub(crate) fn first_command(text: &[u8]) -> Option<Command<'_>>
     ensures { option_map view result ≡ first_command text.now }
 {
@@ -32,7 +34,10 @@ pub(crate) fn first_command(text: &[u8]) -> Option<Command<'_>>
 }
 
 // The command of a storage line and its block.
-fn store<'a>(header: Header<'a>, block: &'a [u8], spelling: &'a [u8]) -> Command<'a> {
+fn store<'a>(header: Header<'a>, block: &'a [u8], spelling: &'a [u8]) -> Command<'a>
+    ensures { view result
+        ≡ record { request = Store (storing (header_view header.entry) block.now); spelling = spelling.now } }
+{
     Command::Store {
         how: header.how,
         key: header.key,
@@ -48,14 +53,11 @@ fn store<'a>(header: Header<'a>, block: &'a [u8], spelling: &'a [u8]) -> Command
 // The block behind a storage line, where `\r\n` follows it and it isn't too long.
 #[tactic(auto, unfolding(crate::specs::Reading::block_of))]
 fn read_block(bytes: u32, behind: &[u8]) -> Option<&[u8]>
-    ensures { option_map (λ block. block.now) result ≡ block_of bytes behind.now }
+    ensures value { option_map (λ block. block.now) result ≡ block_of bytes behind.now }
+    ensures bound { IfSome result (λ block. (length block.now ≡ bytes) × (bytes + 2 ≤ length behind.now)) }
 {
-    let bytes = bytes as usize;
-    if behind.len() < bytes + 2 {
-        return None;
-    }
-    let (block, after) = behind.split_at(bytes);
-    if &after[..2] == b"\r\n".as_slice() && bytes <= VALUE_LIMIT {
+    let (block, after) = behind.split_at_checked(bytes as usize)?;
+    if after.starts_with(b"\r\n") && block.len() <= VALUE_LIMIT {
         Some(block)
     } else {
         None

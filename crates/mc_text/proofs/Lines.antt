@@ -1,0 +1,77 @@
+-- What the words of a line say: the relation and the reading of them agree.
+use Rattle.std.proofs.Common.{◌≡◌, ℕ, ℤ, ◌^◌, ◌<◌, Bool, true, false, ◌&&◌, ltb, List, [], ◌∷◌, length, Option, Some, None, codes, refl, sym, ap, ◌∙◌, subst, arith}
+use Rattle.std.specs.List.{list_all, AllByRecursion}
+use Rattle.std.specs.Str.{bytes_eq}
+use Rattle.mc_text.specs.declared.command.How.{How}
+use Rattle.mc_text.specs.declared.command.How.TheVariants.{Set}
+use Rattle.mc_text.specs.Field.{is_key, number_below, exptime_of, noreply}
+use Rattle.mc_text.specs.Line.{Header, Line, Storage, Retrieval, IsStorage, IsRetrieval, Says, storage_name}
+use Rattle.mc_text.specs.Reading.{Fields, quiet_of, fields_of, header_of, storage_of, retrieval_of, said_by, only_if}
+use Rattle.std.proofs.lemmas.Slice.Eq.{bytes_eq-Decides}
+use Rattle.std.proofs.lemmas.Option.{cond_some, option_and_then_some}
+use Rattle.std.proofs.lemmas.Bool.{lt-ltb, and_from, and_parts, ltb-true}
+
+quiet_noreply : (quiet : Bool) → quiet_of (noreply quiet) ≡ Some quiet
+unfolding quiet_of
+quiet_noreply true = refl
+quiet_noreply false = refl
+
+all_keys : (keys : List (List ℕ)) → AllByRecursion (λ key. is_key key ≡ true) keys → list_all is_key keys ≡ true
+all_keys [] are = refl
+all_keys (key ∷ keys) are = and_from (is_key key) (list_all is_key keys) are.0 (all_keys keys are.1)
+
+storage_said : (how : How) (key flags exptime bytes : List ℕ) (f : ℕ) (e : ℤ) (n : ℕ) (quiet : Bool) → is_key key ≡ true → number_below (2 ^ 32) flags ≡ Some f → exptime_of exptime ≡ Some e → number_below (2 ^ 32) bytes ≡ Some n → said_by (storage_name how ∷ key ∷ flags ∷ exptime ∷ bytes ∷ noreply quiet) ≡ Some (Storage (record { how = how; key = key; flags = f; exptime = e; bytes = n; unique = 0; quiet = quiet }))
+unfolding said_by storage_of fields_of header_of
+storage_said Set key flags exptime bytes f e n quiet key_is flags_are exptime_is bytes_are =
+    rw (quiet_noreply quiet, key_is, flags_are, exptime_is, bytes_are) refl
+
+says_storage : (words : List (List ℕ)) (header : Header) (storage : IsStorage words header) → said_by words ≡ Some (Storage header)
+says_storage words header storage =
+    let words_are = storage.words_are in
+    let unique_is = storage.unique_is in
+    rw words_are (storage_said header.how header.key storage.flags storage.exptime storage.bytes header.flags header.exptime header.bytes header.quiet storage.key_is storage.flags_are storage.exptime_is storage.bytes_are
+    ∙ ap (λ u. Some (Storage (record { how = header.how; key = header.key; flags = header.flags; exptime = header.exptime; bytes = header.bytes; unique = u; quiet = header.quiet }))) (sym unique_is))
+
+says_retrieval : (words : List (List ℕ)) (uniques : Bool) (keys : List (List ℕ)) → IsRetrieval words uniques keys → said_by words ≡ Some (Retrieval uniques keys)
+unfolding said_by retrieval_of
+says_retrieval words uniques keys retrieval =
+    let words_are = retrieval.words_are in
+    let uniques_are = retrieval.uniques_are in
+    let some : ltb 0 (length keys) ≡ true = lt-ltb 0 (length keys) retrieval.some in
+    let are = all_keys keys retrieval.keys_are in
+    rw (words_are, some, are, uniques_are) refl
+
+-- what the words say is read of them
+pub says_said : (words : List (List ℕ)) (line : Line) → Says words line → said_by words ≡ Some line
+says_said words (Storage header) says = says_storage words header says
+says_said words (Retrieval uniques keys) says = says_retrieval words uniques keys says
+
+keys_all : (keys : List (List ℕ)) → list_all is_key keys ≡ true → AllByRecursion (λ key. is_key key ≡ true) keys
+keys_all [] are = tt
+keys_all (key ∷ keys) are =
+    let parts = and_parts (is_key key) (list_all is_key keys) are in
+    (parts.0, keys_all keys parts.1)
+
+noreply_quiet : (words : List (List ℕ)) (quiet : Bool) → quiet_of words ≡ Some quiet → words ≡ noreply quiet
+unfolding quiet_of
+noreply_quiet [] true is = cc
+noreply_quiet [] false is = refl
+noreply_quiet (word ∷ []) quiet is =
+    let chosen = cond_some (bytes_eq word (codes "noreply")) true quiet is in
+    let word_is = (bytes_eq-Decides word (codes "noreply")).0 chosen.0 in
+    subst (λ quiet. word ∷ [] ≡ noreply quiet) chosen.1 (ap (λ w. w ∷ []) word_is)
+noreply_quiet (_ ∷ _ ∷ _) quiet is = cc
+
+said_retrieval : (keys : List (List ℕ)) (line : Line) → retrieval_of keys ≡ Some line → Says (codes "get" ∷ keys) line
+unfolding retrieval_of
+said_retrieval keys line is =
+    let chosen = cond_some (ltb 0 (length keys) && list_all is_key keys) (Retrieval false keys) line is in
+    let parts = and_parts (ltb 0 (length keys)) (list_all is_key keys) chosen.0 in
+    subst (λ line. Says (codes "get" ∷ keys) line) chosen.1
+    (record { words_are = refl; some = ltb-true 0 (length keys) parts.0; keys_are = keys_all keys parts.1; uniques_are = refl })
+
+
+-- the parts of a storage line that is read
+said_header : (how : How) (words : List (List ℕ)) (fields : Fields) (header : Header) → fields_of words ≡ Some fields → header_of how fields ≡ Some header → IsStorage (storage_name how ∷ words) header
+unfolding fields_of header_of
+said_header how words fields header fields_are header_is = ?
