@@ -1,5 +1,5 @@
 -- What the words of a line say: the relation and the reading of them agree.
-use Rattle.std.proofs.Common.{◌≡◌, ℕ, ℤ, ◌^◌, ◌<◌, Bool, true, false, ◌&&◌, ltb, List, [], ◌∷◌, length, Option, Some, None, codes, refl, sym, ap, ◌∙◌, subst, arith}
+use Rattle.std.proofs.Common.{◌≡◌, ℕ, ℤ, ◌^◌, ◌<◌, Bool, true, false, ◌&&◌, ltb, List, [], ◌∷◌, length, cond, Option, Some, None, option_and_then, codes, refl, sym, ap, ◌∙◌, subst, arith}
 use Rattle.std.specs.List.{list_all, AllByRecursion}
 use Rattle.std.specs.Str.{bytes_eq}
 use Rattle.mc_text.specs.declared.command.How.{How}
@@ -71,7 +71,76 @@ said_retrieval keys line is =
     (record { words_are = refl; some = ltb-true 0 (length keys) parts.0; keys_are = keys_all keys parts.1; uniques_are = refl })
 
 
--- the parts of a storage line that is read
-said_header : (how : How) (words : List (List ℕ)) (fields : Fields) (header : Header) → fields_of words ≡ Some fields → header_of how fields ≡ Some header → IsStorage (storage_name how ∷ words) header
-unfolding fields_of header_of
-said_header how words fields header fields_are header_is = ?
+fields_with : (key flags exptime bytes : List ℕ) (more : List (List ℕ)) (fields : Fields) (quiet : Option Bool) → quiet_of more ≡ quiet → option_and_then (λ (quiet : Bool). Some (record { key = key; flags = flags; exptime = exptime; bytes = bytes; quiet = quiet })) quiet ≡ Some fields → key ∷ flags ∷ exptime ∷ bytes ∷ more ≡ fields.key ∷ fields.flags ∷ fields.exptime ∷ fields.bytes ∷ noreply fields.quiet
+fields_with key flags exptime bytes more fields None quiet_is is = cc
+fields_with key flags exptime bytes more fields (Some quiet) quiet_is is =
+    let read : Fields = record { key = key; flags = flags; exptime = exptime; bytes = bytes; quiet = quiet } in
+    let same : read ≡ fields = cc in
+    subst (λ (f : Fields). key ∷ flags ∷ exptime ∷ bytes ∷ more ≡ f.key ∷ f.flags ∷ f.exptime ∷ f.bytes ∷ noreply f.quiet) same
+    (ap (λ rest. key ∷ flags ∷ exptime ∷ bytes ∷ rest) (noreply_quiet more quiet quiet_is))
+
+-- the words of a storage line whose fields are read
+said_fields : (words : List (List ℕ)) (fields : Fields) → fields_of words ≡ Some fields → words ≡ fields.key ∷ fields.flags ∷ fields.exptime ∷ fields.bytes ∷ noreply fields.quiet
+unfolding fields_of
+said_fields [] fields is = cc
+said_fields (key ∷ []) fields is = cc
+said_fields (key ∷ flags ∷ []) fields is = cc
+said_fields (key ∷ flags ∷ exptime ∷ []) fields is = cc
+said_fields (key ∷ flags ∷ exptime ∷ bytes ∷ more) fields is = fields_with key flags exptime bytes more fields (quiet_of more) refl is
+
+-- what a storage line says whose fields are read
+header_with : (how : How) (fields : Fields) (header : Header) (key : Bool) (flags : Option ℕ) (exptime : Option ℤ) (bytes : Option ℕ) → is_key fields.key ≡ key → number_below (2 ^ 32) fields.flags ≡ flags → exptime_of fields.exptime ≡ exptime → number_below (2 ^ 32) fields.bytes ≡ bytes
+  → option_and_then (λ _. option_and_then (λ (f : ℕ). option_and_then (λ (e : ℤ). option_and_then (λ (n : ℕ). Some (record { how = how; key = fields.key; flags = f; exptime = e; bytes = n; unique = 0; quiet = fields.quiet })) bytes) exptime) flags) (only_if key) ≡ Some header
+  → IsStorage (storage_name how ∷ fields.key ∷ fields.flags ∷ fields.exptime ∷ fields.bytes ∷ noreply fields.quiet) header
+header_with how fields header false flags exptime bytes key_is flags_are exptime_is bytes_are is = cc
+header_with how fields header true None exptime bytes key_is flags_are exptime_is bytes_are is = cc
+header_with how fields header true (Some f) None bytes key_is flags_are exptime_is bytes_are is = cc
+header_with how fields header true (Some f) (Some e) None key_is flags_are exptime_is bytes_are is = cc
+header_with how fields header true (Some f) (Some e) (Some n) key_is flags_are exptime_is bytes_are is =
+    let read : Header = record { how = how; key = fields.key; flags = f; exptime = e; bytes = n; unique = 0; quiet = fields.quiet } in
+    let same : read ≡ header = cc in
+    subst (λ header. IsStorage (storage_name how ∷ fields.key ∷ fields.flags ∷ fields.exptime ∷ fields.bytes ∷ noreply fields.quiet) header) same
+    (record {
+      flags = fields.flags;
+      exptime = fields.exptime;
+      bytes = fields.bytes;
+      words_are = refl;
+      key_is = key_is;
+      flags_are = flags_are;
+      exptime_is = exptime_is;
+      bytes_are = bytes_are;
+      unique_is = refl;
+    })
+
+said_header : (how : How) (fields : Fields) (header : Header) → header_of how fields ≡ Some header → IsStorage (storage_name how ∷ fields.key ∷ fields.flags ∷ fields.exptime ∷ fields.bytes ∷ noreply fields.quiet) header
+unfolding header_of
+said_header how fields header is =
+    header_with how fields header (is_key fields.key) (number_below (2 ^ 32) fields.flags) (exptime_of fields.exptime) (number_below (2 ^ 32) fields.bytes) refl refl refl refl is
+
+storage_from : (how : How) (words : List (List ℕ)) (line : Line) (fields : Fields) (header : Option Header) → fields_of words ≡ Some fields → header_of how fields ≡ header → option_and_then (λ (h : Header). Some (Storage h)) header ≡ Some line → Says (storage_name how ∷ words) line
+storage_from how words line fields None fields_are header_is is = cc
+storage_from how words line fields (Some header) fields_are header_is is =
+    let same : Storage header ≡ line = cc in
+    subst (λ line. Says (storage_name how ∷ words) line) same
+    (subst (λ ws. IsStorage (storage_name how ∷ ws) header) (sym (said_fields words fields fields_are)) (said_header how fields header header_is))
+
+storage_with : (how : How) (words : List (List ℕ)) (line : Line) (fields : Option Fields) → fields_of words ≡ fields → option_and_then (λ (f : Fields). option_and_then (λ (h : Header). Some (Storage h)) (header_of how f)) fields ≡ Some line → Says (storage_name how ∷ words) line
+storage_with how words line None fields_are is = cc
+storage_with how words line (Some fields) fields_are is = storage_from how words line fields (header_of how fields) fields_are refl is
+
+said_storage : (how : How) (words : List (List ℕ)) (line : Line) → storage_of how words ≡ Some line → Says (storage_name how ∷ words) line
+unfolding storage_of
+said_storage how words line is = storage_with how words line (fields_of words) refl is
+
+named : (name : List ℕ) (words : List (List ℕ)) (line : Line) (set get : Bool) → bytes_eq name (codes "set") ≡ set → bytes_eq name (codes "get") ≡ get → cond set (storage_of Set words) (cond get (retrieval_of words) None) ≡ Some line → Says (name ∷ words) line
+named name words line true get set_is get_is is =
+    subst (λ name. Says (name ∷ words) line) (sym ((bytes_eq-Decides name (codes "set")).0 set_is)) (said_storage Set words line is)
+named name words line false true set_is get_is is =
+    subst (λ name. Says (name ∷ words) line) (sym ((bytes_eq-Decides name (codes "get")).0 get_is)) (said_retrieval words line is)
+named name words line false false set_is get_is is = cc
+
+-- what is read of the words is what they say
+pub said_says : (words : List (List ℕ)) (line : Line) → said_by words ≡ Some line → Says words line
+unfolding said_by
+said_says [] line is = cc
+said_says (name ∷ words) line is = named name words line (bytes_eq name (codes "set")) (bytes_eq name (codes "get")) refl refl is

@@ -33,4 +33,9 @@ pub retrieved : (text content behind : List ℕ) (uniques : Bool) (keys : List (
 unfolding first_command asked_by
 retrieved text content behind uniques keys cut said = rw (cut_first_is 10 text content behind cut, said, add-zero) refl
 
+-- a line that asks for something
+pub something_asked : (text content behind : List ℕ) (line : Line) (request : Request) (more : ℕ) → IsCutAt 10 text content behind → said_by (words_of_line content) ≡ Some line → asked_by line behind ≡ Some (request, more) → first_command text ≡ Some (record { request = request; spelling = take (length content + 1 + more) text })
+unfolding first_command
+something_asked text content behind line request more cut said asks = rw (cut_first_is 10 text content behind cut, said, asks) refl
+
 pub ruleset steps = (no_line, nothing_said, no_block, stored, retrieved)

@@ -92,20 +92,19 @@ first_command text = do
   asked ← asked_by line cut.1
   Some (record { request = asked.0; spelling = take (length cut.0 + 1 + asked.1) text })
 
--- the commands at the front of a text, and what stands behind them; at most so many
-unfoldable pub commands_within : ℕ → List ℕ → List WholeCommand
-commands_within zero text = []
-commands_within (suc k) text =
-    option_map_or (λ command. command ∷ commands_within k (drop (length command.spelling) text)) (first_command text) []
+-- a command in front of what is read behind it
+abbrev pub in_front : WholeCommand → List WholeCommand × List ℕ → List WholeCommand × List ℕ
+in_front command read = (command ∷ read.0, read.1)
 
-unfoldable pub rest_within : ℕ → List ℕ → List ℕ
-rest_within zero text = text
-rest_within (suc k) text =
-    option_map_or (λ command. rest_within k (drop (length command.spelling) text)) (first_command text) text
+-- the commands at the front of a text, and what stands behind them; at most so many
+unfoldable pub read_within : ℕ → List ℕ → List WholeCommand × List ℕ
+read_within zero text = ([], text)
+read_within (suc k) text =
+    option_map_or (λ command. in_front command (read_within k (drop (length command.spelling) text))) (first_command text) ([], text)
 
 -- the commands of a section, and its rest: a command has at least one byte
 unfoldable pub commands_of : List ℕ → List WholeCommand
-commands_of section = commands_within (length section) section
+commands_of section = (read_within (length section) section).0
 
 unfoldable pub rest_of : List ℕ → List ℕ
-rest_of section = rest_within (length section) section
+rest_of section = (read_within (length section) section).1
