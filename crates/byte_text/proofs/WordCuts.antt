@@ -1,5 +1,5 @@
 -- The words of a text that is cut at its first space.
-use Rattle.std.proofs.Common.{cond, suc, ◌≡◌, ℕ, ◌<◌, List, [], ◌∷◌, ◌++◌, length, get_or, eqb, ltb, Bool, true, false, subst, sym, ap, ◌∙◌, refl, arith, rules}
+use Rattle.std.proofs.Common.{cond, suc, ◌≡◌, ℕ, ◌<◌, List, [], ◌∷◌, length, get_or, eqb, ltb, true, false, subst, ap, ◌∙◌, refl, arith}
 use Rattle.std.specs.List.{All, Contains, slice_split, filter}
 use Rattle.std.proofs.lemmas.List.Elements.{Contains-get_or}
 use Rattle.std.proofs.lemmas.List.Splits.{slice_split_at, slice_split_none}

@@ -1,10 +1,10 @@
 -- The whole command that a text begins with: the relation and the reading of it agree.
-use Rattle.std.proofs.Common.{◌≡◌, ℕ, ◌+◌, ◌<◌, ◌≤◌, List, [], ◌∷◌, ◌++◌, length, take, drop, Option, Some, None, option_and_then, refl, sym, ap, ◌∙◌, subst, arith}
+use Rattle.std.proofs.Common.{◌≡◌, ℕ, ◌+◌, ◌<◌, ◌≤◌, List, ◌∷◌, ◌++◌, length, take, drop, Option, Some, None, option_and_then, refl, sym, ap, ◌∙◌, subst, arith}
 use Rattle.std.proofs.lemmas.List.{length-append, length-take-le, take-append-drop}
 use Rattle.byte_text.specs.Cuts.{IsCutAt}
 use Rattle.mc_text.specs.Request.{Request, Store, Get, WholeCommand}
 use Rattle.mc_text.specs.Line.{Header, Line, Storage, Retrieval, Says, words_of_line}
-use Rattle.mc_text.specs.Begins.{HasBlock, Asks, Begins, storing, value_limit}
+use Rattle.mc_text.specs.Begins.{Asks, Begins, storing}
 use Rattle.mc_text.specs.Section.{NoCommand}
 use Rattle.mc_text.specs.Reading.{cut_first, said_by, block_of, asked_by, first_command}
 use Rattle.mc_text.proofs.Pairs.{some_pair}
@@ -84,20 +84,21 @@ read_asked : (text content behind : List ℕ) (line : Line) (command : WholeComm
 read_asked text content behind line command None cut says asked_is is = cc
 read_asked text content behind line command (Some asked) cut says asked_is is =
     let read : WholeCommand = record { request = asked.0; spelling = take (length content + 1 + asked.1) text } in
-    let same : read ≡ command = cc in
-    (length content + 1 + asked.1,
-     subst (λ c. Begins text c (length content + 1 + asked.1)) same
-     (record {
-       content = content;
-       behind = behind;
-       line = line;
-       more = asked.1;
-       cut = cut;
-       says = says;
-       asks = asked_asks line behind asked.0 asked.1 asked_is;
-       count_is = refl;
-       spelling_is = refl;
-     }))
+    let same : read ≡ command = cc in (
+      length content + 1 + asked.1,
+      subst (λ c. Begins text c (length content + 1 + asked.1)) same
+          (record {
+            content = content;
+            behind = behind;
+            line = line;
+            more = asked.1;
+            cut = cut;
+            says = says;
+            asks = asked_asks line behind asked.0 asked.1 asked_is;
+            count_is = refl;
+            spelling_is = refl;
+          }),
+    )
 
 read_said : (text content behind : List ℕ) (command : WholeCommand) (line : Option Line) → IsCutAt 10 text content behind → said_by (words_of_line content) ≡ line → option_and_then (λ (l : Line). option_and_then {U = WholeCommand} (λ (a : Request × ℕ). Some (record { request = a.0; spelling = take (length content + 1 + a.1) text })) (asked_by l behind)) line ≡ Some command → (count : ℕ) × Begins text command count
 read_said text content behind command None cut said is = cc

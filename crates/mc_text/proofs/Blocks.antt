@@ -1,9 +1,9 @@
 -- The block behind a storage line.
-use Rattle.std.proofs.Common.{◌≡◌, ℕ, ◌+◌, ◌<◌, ◌≤◌, List, [], ◌∷◌, ◌++◌, length, take, drop, nat_eq, leb, Bool, true, false, ◌&&◌, cond, Option, Some, None, refl, sym, ap, ◌∙◌, subst, arith}
+use Rattle.std.proofs.Common.{◌≡◌, ℕ, ◌≤◌, List, [], ◌∷◌, ◌++◌, length, take, drop, nat_eq, leb, true, ◌&&◌, Some, refl, sym, ap, ◌∙◌, subst, arith}
 use Rattle.std.specs.List.{starts_with}
 use Rattle.std.proofs.lemmas.List.{take_at, drop_at, length-take-le, length-drop, take-append-drop}
 use Rattle.std.proofs.lemmas.Option.{cond_some}
-use Rattle.std.proofs.lemmas.Bool.{leb-true, and_parts, and_from, le-leb}
+use Rattle.std.proofs.lemmas.Bool.{leb-true, and_parts, le-leb}
 use Rattle.std.proofs.lemmas.Bool.Decides.{Decides-eqb}
 use Rattle.std.proofs.lemmas.Slice.Eq.{starts_is}
 use Rattle.mc_text.specs.Begins.{HasBlock, value_limit}
@@ -29,9 +29,11 @@ block_of_has bytes behind block is =
     let both = and_parts test (leb bytes value_limit) chosen.0 in
     let ends = (starts_is Decides-eqb (drop bytes behind) (13 ∷ 10 ∷ []) test refl).0 both.0 in
     let behind_is : behind ≡ take bytes behind ++ (13 ∷ 10 ∷ drop 2 (drop bytes behind)) = sym (take-append-drop bytes behind) ∙ ap (λ rest. take bytes behind ++ rest) ends in
-    let within : bytes ≤ length behind = omega (arith, length-drop bytes behind, ap length ends) in
-    (record {
-      after = drop 2 (drop bytes behind);
-      behind_is = subst (λ front. behind ≡ front ++ (13 ∷ 10 ∷ drop 2 (drop bytes behind))) chosen.1 behind_is;
-      length_is = subst (λ front. length front ≡ bytes) chosen.1 (length-take-le bytes behind within);
-    }, leb-true bytes value_limit both.1)
+    let within : bytes ≤ length behind = omega (arith, length-drop bytes behind, ap length ends) in (
+      record {
+        after = drop 2 (drop bytes behind);
+        behind_is = subst (λ front. behind ≡ front ++ (13 ∷ 10 ∷ drop 2 (drop bytes behind))) chosen.1 behind_is;
+        length_is = subst (λ front. length front ≡ bytes) chosen.1 (length-take-le bytes behind within);
+      },
+      leb-true bytes value_limit both.1,
+    )

@@ -6,3 +6,4 @@ pub mod Steps
 pub mod Lines
 pub mod Beginnings
 pub mod Sections
+pub mod Forms

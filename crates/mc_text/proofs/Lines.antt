@@ -1,5 +1,5 @@
 -- What the words of a line say: the relation and the reading of them agree.
-use Rattle.std.proofs.Common.{◌≡◌, ℕ, ℤ, ◌^◌, ◌<◌, Bool, true, false, ◌&&◌, ltb, List, [], ◌∷◌, length, cond, Option, Some, None, option_and_then, codes, refl, sym, ap, ◌∙◌, subst, arith}
+use Rattle.std.proofs.Common.{◌≡◌, ℕ, ℤ, ◌^◌, Bool, true, false, ◌&&◌, ltb, List, [], ◌∷◌, length, cond, Option, Some, None, option_and_then, codes, refl, sym, ap, ◌∙◌, subst}
 use Rattle.std.specs.List.{list_all, AllByRecursion}
 use Rattle.std.specs.Str.{bytes_eq}
 use Rattle.mc_text.specs.declared.command.How.{How}
@@ -8,7 +8,7 @@ use Rattle.mc_text.specs.Field.{is_key, number_below, exptime_of, noreply}
 use Rattle.mc_text.specs.Line.{Header, Line, Storage, Retrieval, IsStorage, IsRetrieval, Says, storage_name}
 use Rattle.mc_text.specs.Reading.{Fields, quiet_of, fields_of, header_of, storage_of, retrieval_of, said_by, only_if}
 use Rattle.std.proofs.lemmas.Slice.Eq.{bytes_eq-Decides}
-use Rattle.std.proofs.lemmas.Option.{cond_some, option_and_then_some}
+use Rattle.std.proofs.lemmas.Option.{cond_some}
 use Rattle.std.proofs.lemmas.Bool.{lt-ltb, and_from, and_parts, ltb-true}
 
 quiet_noreply : (quiet : Bool) → quiet_of (noreply quiet) ≡ Some quiet
@@ -70,7 +70,6 @@ said_retrieval keys line is =
     subst (λ line. Says (codes "get" ∷ keys) line) chosen.1
     (record { words_are = refl; some = ltb-true 0 (length keys) parts.0; keys_are = keys_all keys parts.1; uniques_are = refl })
 
-
 fields_with : (key flags exptime bytes : List ℕ) (more : List (List ℕ)) (fields : Fields) (quiet : Option Bool) → quiet_of more ≡ quiet → option_and_then (λ (quiet : Bool). Some (record { key = key; flags = flags; exptime = exptime; bytes = bytes; quiet = quiet })) quiet ≡ Some fields → key ∷ flags ∷ exptime ∷ bytes ∷ more ≡ fields.key ∷ fields.flags ∷ fields.exptime ∷ fields.bytes ∷ noreply fields.quiet
 fields_with key flags exptime bytes more fields None quiet_is is = cc
 fields_with key flags exptime bytes more fields (Some quiet) quiet_is is =
@@ -90,8 +89,8 @@ said_fields (key ∷ flags ∷ exptime ∷ bytes ∷ more) fields is = fields_wi
 
 -- what a storage line says whose fields are read
 header_with : (how : How) (fields : Fields) (header : Header) (key : Bool) (flags : Option ℕ) (exptime : Option ℤ) (bytes : Option ℕ) → is_key fields.key ≡ key → number_below (2 ^ 32) fields.flags ≡ flags → exptime_of fields.exptime ≡ exptime → number_below (2 ^ 32) fields.bytes ≡ bytes
-  → option_and_then (λ _. option_and_then (λ (f : ℕ). option_and_then (λ (e : ℤ). option_and_then (λ (n : ℕ). Some (record { how = how; key = fields.key; flags = f; exptime = e; bytes = n; unique = 0; quiet = fields.quiet })) bytes) exptime) flags) (only_if key) ≡ Some header
-  → IsStorage (storage_name how ∷ fields.key ∷ fields.flags ∷ fields.exptime ∷ fields.bytes ∷ noreply fields.quiet) header
+    → option_and_then (λ _. option_and_then (λ (f : ℕ). option_and_then (λ (e : ℤ). option_and_then (λ (n : ℕ). Some (record { how = how; key = fields.key; flags = f; exptime = e; bytes = n; unique = 0; quiet = fields.quiet })) bytes) exptime) flags) (only_if key) ≡ Some header
+    → IsStorage (storage_name how ∷ fields.key ∷ fields.flags ∷ fields.exptime ∷ fields.bytes ∷ noreply fields.quiet) header
 header_with how fields header false flags exptime bytes key_is flags_are exptime_is bytes_are is = cc
 header_with how fields header true None exptime bytes key_is flags_are exptime_is bytes_are is = cc
 header_with how fields header true (Some f) None bytes key_is flags_are exptime_is bytes_are is = cc

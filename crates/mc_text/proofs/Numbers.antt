@@ -1,9 +1,9 @@
 -- Numbers with a limit.
-use Rattle.std.proofs.Common.{◌≡◌, ℕ, ◌^◌, pos, [], ◌∷◌, get_or, ◌+◌, ◌<◌, ◌≤◌, List, length, Bool, true, false, cond, ◌&&◌, ltb, Option, Some, None, refl, sym, ap, ◌∙◌, subst, arith, rules}
+use Rattle.std.proofs.Common.{◌≡◌, ℕ, ◌^◌, pos, [], ◌∷◌, get_or, ◌+◌, ◌<◌, ◌≤◌, List, length, true, ◌&&◌, ltb, Option, Some, None, refl, sym, ap, arith}
 use Rattle.std.specs.Str.{all_ascii_digits}
-use Rattle.std.specs.Str.Parse.{IsNumeral, AllDigits, digits_value}
+use Rattle.std.specs.Str.Parse.{IsNumeral, digits_value}
 use Rattle.std.proofs.lemmas.Bool.Decides.{nat_tests}
-use Rattle.std.proofs.lemmas.Bool.{ltb-true, ne_eqb, le-ltb, lt-ltb, and_left, and_right, and_parts, false_from_ne_true, cond-false}
+use Rattle.std.proofs.lemmas.Bool.{ltb-true, ne_eqb, le-ltb, and_left, and_right, and_parts, false_from_ne_true, cond-false}
 use Rattle.std.proofs.lemmas.Str.Parse.{IsNumeralModel, numerals_by_value, tells_all_ascii_digits}
 use Rattle.byte_text.specs.Numerals.{Reads}
 use Rattle.byte_text.specs.declared.numerals.Numeral.{Numeral}
@@ -33,8 +33,8 @@ pub number_below_none : (limit : ℕ) (word : List ℕ) → ¬ (IsNumeral 10 wor
 unfolding number_below
 number_below_none limit word wrong =
     let is : (ltb 0 (length word) && all_ascii_digits word) ≡ true → ⊥ =
-        λ e. let parts = and_parts (ltb 0 (length word)) (all_ascii_digits word) e in
-        wrong (ltb-true 0 (length word) parts.0, decimal_digits.to word parts.1) in
+    λ e. let parts = and_parts (ltb 0 (length word)) (all_ascii_digits word) e in
+    wrong (ltb-true 0 (length word) parts.0, decimal_digits.to word parts.1) in
     cond-false _ (Some (digits_value 10 word)) None
     (and_left (ltb 0 (length word) && all_ascii_digits word) (ltb (digits_value 10 word) limit) (false_from_ne_true _ is))
 

@@ -1,6 +1,5 @@
 -- The commands of a section, and its rest: exactly one pair fits, and it is what is read.
-use Rattle.std.proofs.Common.{◌≡◌, ℕ, zero, suc, ◌+◌, ◌-◌, ◌<◌, ◌≤◌, List, [], ◌∷◌, ◌++◌, length, drop, Option, Some, None, refl, sym, ap, ◌∙◌, subst, append_assoc, arith}
-use Rattle.std.specs.List.{flat_map}
+use Rattle.std.proofs.Common.{◌≡◌, ℕ, zero, suc, ◌≤◌, List, [], ◌∷◌, ◌++◌, length, drop, Option, Some, None, refl, sym, ap, ◌∙◌, subst, append_assoc, arith}
 use Rattle.std.specs.Option.{option_map_or}
 use Rattle.std.proofs.lemmas.List.{length-drop, drop_at}
 use Rattle.mc_text.specs.Request.{WholeCommand}
@@ -111,9 +110,10 @@ spelled_from (command ∷ commands) section rest whole each ends =
     let section_is : section ≡ command.spelling ++ behind = whole ∙ append_assoc command.spelling (spellings commands) rest in
     let first : first_command section ≡ Some command = ap first_command section_is ∙ begins_first (command.spelling ++ behind) command (length command.spelling) each.0 in
     let behind_is : drop (length command.spelling) section ≡ behind = ap (drop (length command.spelling)) section_is ∙ drop_at command.spelling behind (length command.spelling) refl in
-    let later = spelled_from commands behind rest refl each.1 ends in
-    (ap (λ cs. command ∷ cs) (later.0 ∙ ap commands_of (sym behind_is)) ∙ sym (commands_first section command first),
-     later.1 ∙ ap rest_of (sym behind_is) ∙ sym (rest_first section command first))
+    let later = spelled_from commands behind rest refl each.1 ends in (
+      ap (λ cs. command ∷ cs) (later.0 ∙ ap commands_of (sym behind_is)) ∙ sym (commands_first section command first),
+      later.1 ∙ ap rest_of (sym behind_is) ∙ sym (rest_first section command first),
+    )
 
 -- no other commands and rest fit a section
 pub spelled_only : (section : List ℕ) (commands : List WholeCommand) (rest : List ℕ) → Spelled section commands rest → (commands ≡ commands_of section) × (rest ≡ rest_of section)

@@ -1,8 +1,8 @@
 -- The command at the front of a text, step by step.
-use Rattle.std.proofs.Common.{◌≡◌, ℕ, Bool, add-zero, ◌+◌, List, ◌∷◌, ◌++◌, length, take, Option, Some, None, refl, sym, ap, ◌∙◌}
+use Rattle.std.proofs.Common.{◌≡◌, ℕ, Bool, add-zero, ◌+◌, List, length, take, Some, None, refl}
 use Rattle.std.specs.List.{Contains}
 use Rattle.byte_text.specs.Cuts.{IsCutAt}
-use Rattle.mc_text.specs.Request.{Request, Store, Get, WholeCommand}
+use Rattle.mc_text.specs.Request.{Request, Store, Get}
 use Rattle.mc_text.specs.Begins.{storing}
 use Rattle.mc_text.specs.Line.{Header, Line, Storage, Retrieval, words_of_line}
 use Rattle.mc_text.specs.Reading.{said_by, asked_by, block_of, first_command}

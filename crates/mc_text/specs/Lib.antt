@@ -7,3 +7,4 @@ pub mod Section
 pub mod Reading
 pub mod Commands
 pub mod View
+pub mod Laws

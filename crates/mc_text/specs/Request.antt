@@ -1,5 +1,5 @@
 -- A command as plain data, without where it lies in memory.
-use Rattle.std.specs.Prelude.{ℕ, ℤ, Bool, List, Option, option_map}
+use Rattle.std.specs.Prelude.{ℕ, ℤ, Bool, List}
 use Rattle.mc_text.specs.declared.command.How.{How}
 use Rattle.mc_text.specs.declared.command.Command.{Command}
 use Rattle.mc_text.specs.declared.command.Command.TheVariants as commands

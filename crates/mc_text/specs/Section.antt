@@ -26,10 +26,10 @@ pub record Spelled (section : List ℕ) (commands : List WholeCommand) (rest : L
   pub each : EachBegins commands rest
   pub ends : NoCommand rest
 
--- a block can't be served: it is longer than a value may be, or it isn't followed by `\r\n`
-abbrev pub IsBadBlock : List ℕ → Header → Type 0
-IsBadBlock behind header =
-    (header.bytes + 2 ≤ length behind) × ((value_limit < header.bytes) ⊎ ((block : List ℕ) → HasBlock behind header.bytes block → ⊥))
+-- a block of so many bytes can't be served: it is longer than a value may be, or it isn't followed by `\r\n`
+abbrev pub IsBadBlock : List ℕ → ℕ → Type 0
+IsBadBlock behind bytes =
+    (bytes + 2 ≤ length behind) × ((value_limit < bytes) ⊎ ((block : List ℕ) → HasBlock behind bytes block → ⊥))
 
 -- a text begins with a line that isn't built: one that says nothing, or a storage line whose block can't be served
 pub record IsUnbuiltForm (text : List ℕ) : Type 0 where
@@ -37,7 +37,7 @@ pub record IsUnbuiltForm (text : List ℕ) : Type 0 where
   pub behind : List ℕ
   pub cut : IsCutAt 10 text content behind
   pub cause : ((line : Line) → Says (words_of_line content) line → ⊥)
-    ⊎ ((header : Header) × Says (words_of_line content) (Storage header) × IsBadBlock behind header)
+      ⊎ ((header : Header) × Says (words_of_line content) (Storage header) × IsBadBlock behind header.bytes)
 
 -- behind the commands of the section stands a form that isn't built
 pub record IsUnbuilt (section : List ℕ) : Type 0 where

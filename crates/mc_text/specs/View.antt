@@ -1,5 +1,4 @@
 -- What the crate's own types say, without where it lies in memory.
-use Rattle.std.specs.Prelude.{ℕ, List}
 use Rattle.mc_text.specs.declared.line.Header.{Header}
 use Rattle.mc_text.specs.declared.line.Fields.{Fields}
 use Rattle.mc_text.specs.declared.line.Line.{Line}

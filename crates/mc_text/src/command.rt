@@ -1,4 +1,6 @@
 // What a command asks for.
+ghost use Rattle.std.specs.Prelude.{◌≡◌};
+
 use crate::keys::Keys;
 
 /// How an item is stored.
@@ -39,4 +41,17 @@ pub enum Command<'a> {
         /// The bytes of the command.
         spelling: &'a [u8],
     },
+}
+
+impl<'a> Command<'a> {
+    ghost use Rattle.mc_text.specs.Request.{spelling_of};
+
+    /// The bytes of the command: its line, and for a storage command the block and its line end too.
+    pub fn spelling(&self) -> &'a [u8]
+        ensures { result.now ≡ spelling_of self.now }
+    {
+        match self {
+            Command::Store { spelling, .. } | Command::Get { spelling, .. } => spelling,
+        }
+    }
 }

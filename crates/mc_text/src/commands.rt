@@ -7,6 +7,7 @@ ghost use Rattle.mc_text.specs.Section.{NoCommand};
 ghost use Rattle.mc_text.specs.Reading.{commands_of, rest_of};
 
 use crate::command::Command;
+use crate::first::first_command;
 
 /// The commands of a section that are still to be given, in the order of the section.
 #[derive(Clone, Copy, Debug)]
@@ -33,9 +34,14 @@ impl<'a> Commands<'a> {
         ensures commands { MatchOption result
             (commands_of (left self.old) ≡ [])
             (λ command. commands_of (left self.old) ≡ view command ∷ commands_of (left self.new)) }
-        ensures rest { rest_of (left self.new) ≡ rest_of (left self.old) }
+        ensures rest { MatchOption result
+            (left self.new ≡ rest_of (left self.old))
+            (λ _. rest_of (left self.new) ≡ rest_of (left self.old)) }
     {
-        None
+        let command = first_command(self.rest)?;
+        let (_, rest) = self.rest.split_at(command.spelling().len());
+        self.rest = rest;
+        Some(command)
     }
 
     /// What stands behind the commands that were given.

@@ -4,7 +4,7 @@ ghost use Rattle.mc_text.specs.Request.{Store, view};
 ghost use Rattle.mc_text.specs.Begins.{storing};
 ghost use Rattle.mc_text.specs.View.{header_view};
 ghost use Rattle.mc_text.specs.Reading.{block_of, first_command};
-ghost use Rattle.mc_text.specs.Section.{IsUnbuiltForm};
+ghost use Rattle.mc_text.specs.Section.{IsBadBlock, IsUnbuiltForm};
 
 use crate::command::Command;
 use crate::line::{Header, Line, read_line};
@@ -73,10 +73,17 @@ pub(crate) fn is_unbuilt_form(text: &[u8]) -> bool
     };
     match read_line(content) {
         None => true,
-        Some(Line::Storage(header)) => {
-            behind.len() >= header.bytes as usize + 2
-                && read_block(header.bytes, behind).is_none()
-        }
+        Some(Line::Storage(header)) => is_bad_block(header.bytes, behind),
         Some(Line::Retrieval { .. }) => false,
+    }
+}
+
+// Whether all bytes of a block and its line end are there, and it can't be served.
+fn is_bad_block(bytes: u32, behind: &[u8]) -> bool
+    ensures { IsTrue result ↔ IsBadBlock behind.now bytes }
+{
+    match read_block(bytes, behind) {
+        Some(_) => false,
+        None => behind.len() >= bytes as usize + 2,
     }
 }

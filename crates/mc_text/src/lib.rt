@@ -6,10 +6,12 @@ mod commands;
 mod field;
 mod first;
 mod keys;
+mod laws;
 mod line;
 mod section;
 
 pub use command::{Command, How};
 pub use commands::Commands;
 pub use keys::Keys;
+pub use laws::{at_most_one_command, one_reading};
 pub use section::{count, unbuilt};

@@ -1,19 +1,38 @@
 // What is said of a whole section.
-ghost use Rattle.std.specs.Prelude.{◌≡◌, ◌<◌, ◌^◌, ◌↔◌, length, IsTrue};
-ghost use Rattle.mc_text.specs.Section.{IsUnbuilt};
-ghost use Rattle.mc_text.specs.Reading.{commands_of};
+ghost use Rattle.std.specs.Prelude.{◌≡◌, ◌<◌, ◌^◌, ◌↔◌, ℕ, List, length, IsTrue};
+ghost use Rattle.mc_text.specs.Request.{WholeCommand};
+ghost use Rattle.mc_text.specs.Section.{Spelled, IsUnbuilt};
+ghost use Rattle.mc_text.specs.Reading.{commands_of, rest_of};
 
-/// The number of commands of a section.
+use crate::commands::Commands;
+use crate::first::is_unbuilt_form;
+
+/// The number of commands of a section, which has fewer than 2^32 bytes.
 pub fn count(section: &[u8]) -> u32
     requires { length section.now < 2 ^ 32 }
     ensures exact { result ≡ length (commands_of section.now) }
+    ensures spelled { (commands : List WholeCommand) (rest : List ℕ) → Spelled section.now commands rest → result ≡ length commands }
 {
-    0
+    let mut commands = Commands::new(section);
+    let mut number = 0;
+    while commands.next().is_some() {
+        number += 1;
+    }
+    number
 }
 
 /// Whether a form that isn't built stands in a section behind its commands.
 pub fn unbuilt(section: &[u8]) -> bool
     ensures { IsTrue result ↔ IsUnbuilt section.now }
 {
-    section.is_empty()
+    is_unbuilt_form(rest_of(section))
+}
+
+// What stands behind the commands of a section.
+fn rest_of(section: &[u8]) -> &[u8]
+    ensures { result.now ≡ rest_of section.now }
+{
+    let mut commands = Commands::new(section);
+    while commands.next().is_some() {}
+    commands.rest()
 }

@@ -1,5 +1,5 @@
-use Rattle.std.proofs.Common.{◌≡◌, ◌+◌, ◌∙◌, Option, Some, length, take, sym, ap, arith}
-use Rattle.mc_text.specs.Request.{Store, WholeCommand}
+use Rattle.std.proofs.Common.{◌≡◌, ◌+◌, ◌∙◌, Some, length, take, sym, ap, arith}
+use Rattle.mc_text.specs.Request.{Store}
 use Rattle.mc_text.specs.Begins.{storing}
 use Rattle.mc_text.specs.View.{header_view, line_view}
 use Rattle.mc_text.specs.Keys.{keys_left}
