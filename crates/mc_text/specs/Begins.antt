@@ -1,4 +1,5 @@
--- The whole command that a text begins with. By memcached's protocol.txt and this project's profile.
+-- The whole command that a text begins with, of the commands that are built: a `get` line, and a `set` line with its block.
+-- By memcached's protocol.txt and this project's profile.
 use Rattle.std.specs.Prelude.{◌≡◌, ℕ, ◌+◌, ◌≤◌, List, ◌∷◌, ◌++◌, length, take}
 use Rattle.byte_text.specs.Cuts.{IsCutAt}
 use Rattle.mc_text.specs.Request.{Storing, Request, Store, Get, WholeCommand}

@@ -1,5 +1,5 @@
 // The commands of a section, one by one.
-ghost use Rattle.std.specs.Prelude.{◌≡◌, ◌∷◌, ◌++◌, [], length, MatchOption};
+ghost use Rattle.std.specs.Prelude.{◌≡◌, ◌∷◌, ◌++◌, [], length, IfSome, IfNone, MatchOption};
 ghost use Rattle.mc_text.specs.Request.{view, spelling_of};
 ghost use Rattle.mc_text.specs.Commands.{left};
 ghost use Rattle.mc_text.specs.Begins.{Begins};
@@ -23,14 +23,18 @@ impl<'a> Commands<'a> {
         Commands { rest: section }
     }
 
-    /// The next command, with which what is left begins; `None` where what is left begins with no whole command.
+    /// The next command: the one with which what is left begins, and `None` where that begins with no whole command.
     pub fn next(&mut self) -> Option<Command<'a>>
-        ensures none { MatchOption result
-            (NoCommand (left self.old) × (left self.new ≡ left self.old))
+        ensures begins { IfSome result
             (λ command. Begins (left self.old) (view command) (length (spelling_of command))) }
+        ensures none { IfNone result (NoCommand (left self.old)) }
+
+        // What is left loses the command's bytes, and stays where no command is given.
         ensures parts { MatchOption result
             (left self.new ≡ left self.old)
             (λ command. left self.old ≡ spelling_of command ++ left self.new) }
+
+        // The commands still to come are all but this one, and the section's rest stays.
         ensures commands { MatchOption result
             (commands_of (left self.old) ≡ [])
             (λ command. commands_of (left self.old) ≡ view command ∷ commands_of (left self.new)) }

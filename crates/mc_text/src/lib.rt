@@ -1,4 +1,5 @@
-//! Commands of memcached's text protocol, as parts of the text that they stand in.
+//! Commands of memcached's text protocol, as parts of the text that they stand in. Nothing is copied.
+//! Built are `set` and `get`. `unbuilt` tells the sections in which another form stands behind the commands.
 #![tactic(auto)]
 
 mod command;
@@ -15,3 +16,6 @@ pub use commands::Commands;
 pub use keys::Keys;
 pub use laws::{at_most_one_command, one_reading};
 pub use section::{count, unbuilt};
+
+#[cfg(test)]
+mod tests;

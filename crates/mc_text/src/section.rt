@@ -1,5 +1,5 @@
 // What is said of a whole section.
-ghost use Rattle.std.specs.Prelude.{◌≡◌, ◌<◌, ◌^◌, ◌↔◌, ℕ, List, length, IsTrue};
+ghost use Rattle.std.specs.Prelude.{◌≡◌, ◌<◌, ◌≤◌, ◌^◌, ◌↔◌, ℕ, List, length, IsTrue};
 ghost use Rattle.mc_text.specs.Request.{WholeCommand};
 ghost use Rattle.mc_text.specs.Section.{Spelled, IsUnbuilt};
 ghost use Rattle.mc_text.specs.Reading.{commands_of, rest_of};
@@ -11,6 +11,7 @@ use crate::first::is_unbuilt_form;
 pub fn count(section: &[u8]) -> u32
     requires { length section.now < 2 ^ 32 }
     ensures exact { result ≡ length (commands_of section.now) }
+    ensures bound { result ≤ length section.now }
     ensures spelled { (commands : List WholeCommand) (rest : List ℕ) → Spelled section.now commands rest → result ≡ length commands }
 {
     let mut commands = Commands::new(section);
@@ -21,7 +22,8 @@ pub fn count(section: &[u8]) -> u32
     number
 }
 
-/// Whether a form that isn't built stands in a section behind its commands.
+/// Whether a form that isn't built stands behind the commands of a section: a line that isn't a `set` or `get` line
+/// without a fault, or a `set` line whose bytes all came, but whose block is too long or isn't followed by `\r\n`.
 pub fn unbuilt(section: &[u8]) -> bool
     ensures { IsTrue result ↔ IsUnbuilt section.now }
 {

@@ -26,3 +26,7 @@ returns-clause-spelled c = λ commands rest spelled.
     let none = none_left (commands_of (left c.loop-commands.commands)) (commands_of (left c.next.new.self)) c.next.result c.next.ensures.commands (sym c.is_some.ensures ∙ c.loop-commands-test.false) in
     let read = spelled_only c.args.section.now commands rest spelled in
     omega (arith, c.loop-commands.invariant, ap length none, ap length read.0)
+
+pub returns-clause-bound : goal.returns-clause-bound
+returns-clause-bound c =
+    omega (arith, c.loop-commands.invariant, length-commands_of c.args.section.now)

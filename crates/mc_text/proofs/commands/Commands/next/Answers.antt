@@ -1,4 +1,4 @@
-use Rattle.std.proofs.Common.{length, sym, ap, refl, arith}
+use Rattle.std.proofs.Common.{length, sym, ap, arith}
 use Rattle.mc_text.specs.Request.{view}
 use Rattle.mc_text.proofs.Beginnings.{begins_within, begins_parts, first_begins, first_no_command}
 use Rattle.mc_text.proofs.Sections.{commands_first, rest_first, commands_none, rest_none}
@@ -6,7 +6,7 @@ use Rattle.mc_text.proofs.commands.Commands.next.Goals as goal
 
 pub returns-in_err-command-clause-none : goal.returns-in_err-command-clause-none
 returns-in_err-command-clause-none c =
-    rw c.from_residual.ensures (first_no_command c.args.self.now.rest.now (sym c.in_err-command.ensures), refl)
+    rw c.from_residual.ensures (first_no_command c.args.self.now.rest.now (sym c.in_err-command.ensures))
 
 pub returns-in_err-command-clause-commands : goal.returns-in_err-command-clause-commands
 returns-in_err-command-clause-commands c =
@@ -19,8 +19,8 @@ split_at-requires c =
     let within = begins_within text command (length command.spelling) (first_begins text command (sym c.in_ok-command.ensures)) in
     omega (arith, within.1, ap length c.spelling.ensures)
 
-pub returns-clause-none : goal.returns-clause-none
-returns-clause-none c = first_begins c.args.self.now.rest.now (view c.in_ok-command.command) (sym c.in_ok-command.ensures)
+pub returns-clause-begins : goal.returns-clause-begins
+returns-clause-begins c = first_begins c.args.self.now.rest.now (view c.in_ok-command.command) (sym c.in_ok-command.ensures)
 
 pub returns-clause-parts : goal.returns-clause-parts
 returns-clause-parts c =
