@@ -12,5 +12,6 @@ mod words;
 pub use status::{Fault, Status};
 pub use top_call::top;
 
+
 #[cfg(test)]
 mod tests;
