@@ -242,16 +242,13 @@ fn filled(alloc: Global, byte: u8, count: usize) -> Result<Vec<u8>, Fail> {
     Ok(vec![in alloc; byte; count]?)
 }
 
-// An input of so many bytes, 12 at least: one section whose bytes are no command.
-fn long_input(alloc: Global, count: usize) -> Result<Vec<u8>, Fail> {
+// An input with one section of so many bytes, which are no command; its length is told in ten digits.
+fn long_input(alloc: Global, length: usize) -> Result<Vec<u8>, Fail> {
     let mut input = Vec::new(alloc);
-    if count < 20 {
-        return Ok(input);
-    }
     input.extend_from_slice(b"worker * 00")?;
-    byte_text::push_decimal(&mut input, count as u64 - 21)?;
+    byte_text::push_decimal(&mut input, length as u64)?;
     input.push(b'\n')?;
-    input.extend_from_slice(&filled(alloc, b'a', count - 21)?)?;
+    input.extend_from_slice(&filled(alloc, b'a', length)?)?;
     input.push(b'\n')?;
     Ok(input)
 }
@@ -287,10 +284,10 @@ fn takes_values_and_keys_up_to_their_limits(rt: HostRuntime) -> Result<(), Fail>
 #[test]
 fn takes_an_input_up_to_its_limit(rt: HostRuntime) -> Result<(), Fail> {
     let alloc = rt.alloc();
-    let ended = call(&rt, alloc, &["run"], long_input(alloc, 16_777_216)?)?;
+    let ended = call(&rt, alloc, &["run"], long_input(alloc, 16_777_195)?)?;
     assert_eq!(rt; ended.status, Status::Ok);
     assert_eq!(rt; ended.out.as_slice(), b"caller 0 pu 0 commands 0 rest 16777195\n".as_slice());
-    let ended = call(&rt, alloc, &["run"], long_input(alloc, 16_777_217)?)?;
+    let ended = call(&rt, alloc, &["run"], long_input(alloc, 16_777_196)?)?;
     assert_eq!(rt; ended.status, Status::Limit(Fault::Input));
     assert_eq!(rt; ended.status.code(), 4);
     assert_eq!(rt; ended.out.len(), 0);

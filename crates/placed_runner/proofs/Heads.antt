@@ -72,7 +72,7 @@ pub lone_from : (input head after bytes : List ℕ) (number : ℕ) → IsCutAt 1
 lone_from input head after bytes number cut head_is size after_is = record {
   head = head;
   head_is = subst (λ n. IsLoneHead head n) (sym size) head_is;
-  parts = cut.parts ∙ ap (λ rest. head ++ (10 ∷ rest)) after_is
+  parts = cut.parts ∙ ap (λ rest. head ++ (10 ∷ rest)) after_is;
 }
 
 -- an input that is a section has a line end

@@ -28,7 +28,7 @@ next_is_next section left left_now sections_before log command before alone next
   rest = commands_of left_now;
   place = ap (λ (all : List (List ℕ)). slice_get all 0) (before.same_sections ∙ alone);
   next = before.whole ∙ ap (λ (rest : List WholeCommand). before.done ++ rest) next
-    ∙ ap (λ (own_part : List WholeCommand). own_part ++ (command ∷ commands_of left_now)) (sym (ap (λ (entries : List Logged). own entries 0) before.entries_are ∙ history_own empty_store before.done))
+      ∙ ap (λ (own_part : List WholeCommand). own_part ++ (command ∷ commands_of left_now)) (sym (ap (λ (entries : List Logged). own entries 0) before.entries_are ∙ history_own empty_store before.done));
 }
 
 pub one_more_done : (section left left_now : List ℕ) (sections_before sections sections_now : List (List ℕ)) (entries entries_now : List Logged) (command : WholeCommand) → HasDone section left sections_before sections entries
@@ -37,7 +37,7 @@ one_more_done section left left_now sections_before sections sections_now entrie
   done = before.done ++ (command ∷ []);
   entries_are = longer ∙ ap (λ (all : List Logged). all ++ (applied_entry all 0 command ∷ [])) before.entries_are ∙ history_next before.done command;
   whole = before.whole ∙ ap (λ (rest : List WholeCommand). before.done ++ rest) next ∙ sym (append_assoc before.done (command ∷ []) (commands_of left_now));
-  same_sections = same ∙ before.same_sections
+  same_sections = same ∙ before.same_sections;
 }
 
 -- what holds on success, where there was no error

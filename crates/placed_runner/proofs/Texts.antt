@@ -21,7 +21,7 @@ pub turn_lines_more : (pu number : ℕ) (entries : List Logged) (entry : Logged)
 turn_lines_more pu number entries entry is =
     let within : number < length entries = slice_get_within entries number entry is in
     let more : take (number + 1) entries ≡ take number entries ++ (entry ∷ [])
-        = take_more entries number entry within ∙ ap (λ (last : Logged). take number entries ++ (last ∷ [])) (get_or_from_slice_get entries number entry entry is) in
+    = take_more entries number entry within ∙ ap (λ (last : Logged). take number entries ++ (last ∷ [])) (get_or_from_slice_get entries number entry entry is) in
     let size : length (take number entries) ≡ number = length-take-le number entries (omega arith) in
     let place : 0 + length (take number entries) ≡ number = omega arith in
     ap (turn_lines pu 0) more ∙ turn_lines_push pu 0 (take number entries) entry ∙ ap (λ n. turn_lines pu 0 (take number entries) ++ turn_line (shown_entry pu n entry)) place

@@ -12,5 +12,5 @@ shown turn = record {
   tests = turn.tests;
   left = turn.left;
   command = turn.command.now;
-  reply = turn.reply.now
+  reply = turn.reply.now;
 }

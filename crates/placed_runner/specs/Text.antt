@@ -63,7 +63,7 @@ shown_entry pu number entry = record {
   tests = 0;
   left = 0;
   command = entry.command.spelling;
-  reply = entry.reply
+  reply = entry.reply;
 }
 
 -- a line for each entry, from a number on

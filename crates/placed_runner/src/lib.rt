@@ -12,3 +12,6 @@ pub use fault::SectionFault;
 pub use input::{Section, read_first};
 pub use printing::text;
 pub use running::run_in_order;
+
+#[cfg(test)]
+mod tests;

@@ -18,4 +18,4 @@ returns-then-eq c =
 pub returns-else-eq : goal.returns-else-eq
 returns-else-eq c rest is =
     not_from_Decides c.eq.result (slice_eq-Decides Decides-eqb c.in_ok-front.front.now c.args.prefix.now c.eq.result c.eq.ensures) c.if-eq.false
-        (prefix_parts c.args.text.now c.args.prefix.now c.in_ok-front.front.now rest is c.in_ok-front.ensures.cases.1)
+    (prefix_parts c.args.text.now c.args.prefix.now c.in_ok-front.front.now rest is c.in_ok-front.ensures.cases.1)

@@ -6,5 +6,5 @@ use Rattle.placed_runner.proofs.printing.text.Given as goal
 abbrev pub invariant-loop-number : goal.invariant-loop-number
 invariant-loop-number l = record {
   within : l.number-end ≡ length l.journal.entries;
-  lines : l.out.items ≡ turn_lines l.section.pu 0 (take l.number l.journal.entries)
+  lines : l.out.items ≡ turn_lines l.section.pu 0 (take l.number l.journal.entries);
 }
