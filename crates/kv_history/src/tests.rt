@@ -1,5 +1,5 @@
 // Examples from outside the definitions: memcached's answers, within the profile's limits.
-ghost use Rattle.std.specs.Prelude.{◌≡◌, ◌<◌, ◌^◌, length, IfOk};
+ghost use Rattle.std.specs.Prelude.{◌≡◌, ◌+◌, ◌<◌, ◌^◌, length, IfOk};
 ghost use Rattle.mc_text.specs.Reading.{commands_of};
 ghost use Rattle.kv_history.specs.Answer.{replies_of};
 ghost use Rattle.kv_history.specs.Log.{commands, replies};
@@ -95,16 +95,31 @@ fn keeps_a_journal(rt: HostRuntime) -> Result<(), Fail> {
     Ok(())
 }
 
+// A journal of two callers, each of which has applied the first command of its section.
+fn both_applied<'a>(
+    alloc: Global,
+    writer: &'a [u8],
+    reader: &'a [u8],
+) -> Result<Journal<'a>, OutOfMemory>
+    requires { length writer.now + length reader.now < 2 ^ 32 }
+{
+    let mut journal = Journal::reserve(alloc, &[writer, reader])?;
+    let Some(written) = Commands::new(writer).next() else {
+        return Ok(journal);
+    };
+    journal.apply(0, written)?;
+    let Some(read) = Commands::new(reader).next() else {
+        return Ok(journal);
+    };
+    journal.apply(1, read)?;
+    Ok(journal)
+}
+
 #[test]
 fn answers_two_callers_from_one_store(rt: HostRuntime) -> Result<(), Fail> {
-    let writer = b"set k 0 0 1\r\na\r\n".as_slice();
-    let reader = b"get k\r\n".as_slice();
-    let mut journal = Journal::reserve(rt.alloc(), &[writer, reader])?;
-    let written = Commands::new(writer).next().ok_or("no command")?;
-    let read = Commands::new(reader).next().ok_or("no command")?;
-    assert_eq!(rt; journal.apply(0, written)?.turn, 0);
-    assert_eq!(rt; journal.apply(1, read)?.turn, 1);
+    let journal = both_applied(rt.alloc(), b"set k 0 0 1\r\na\r\n", b"get k\r\n")?;
     assert_eq!(rt; journal.entries(), 2);
+    assert_eq!(rt; journal.entry(1).caller, 1);
     assert_eq!(rt; journal.reply(1), b"VALUE k 0 1\r\na\r\nEND\r\n".as_slice());
     Ok(())
 }
