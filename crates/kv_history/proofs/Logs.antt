@@ -48,7 +48,7 @@ one_thread-void entries caller command before =
     subst IsOneThread (sym (filter-append (λ entry. not entry.void) entries _ ∙ append-nil (applied entries))) before
 
 -- a caller's own commands after an entry more
-own-push : (entries : List Logged) (entry : Logged) (caller : ℕ) → own (entries ++ entry ∷ []) caller ≡ own entries caller ++ cond (entry.caller == caller) (entry.command ∷ []) []
+pub own-push : (entries : List Logged) (entry : Logged) (caller : ℕ) → own (entries ++ entry ∷ []) caller ≡ own entries caller ++ cond (entry.caller == caller) (entry.command ∷ []) []
 own-push entries entry caller =
     ap commands (filter-append (λ entry. entry.caller == caller) entries (entry ∷ []))
     ∙ map-append (λ entry. entry.command) (filter (λ entry. entry.caller == caller) entries) _

@@ -1,5 +1,5 @@
 // The journal.
-ghost use Rattle.std.specs.Prelude.{◌≡◌, ◌^◌, ◌<◌, ◌≤◌, ◌↔◌, ◌++◌, ◌∷◌, [], length, IfOk, IsTrue, OnErr, OnOk, Some, map, option_map, slice_get, sum_by, vec_capacity, vec_len, not};
+ghost use Rattle.std.specs.Prelude.{◌≡◌, ◌^◌, ◌<◌, ◌≤◌, ◌↔◌, ◌++◌, ◌∷◌, [], length, map, option_map, slice_get, sum_by, vec_capacity, vec_len, not, IfOk, IsTrue, OnErr, OnOk, Some};
 ghost use Rattle.std.specs.Bool.{OnTrue};
 ghost use Rattle.std.specs.List.{list_all};
 ghost use Rattle.mc_text.specs.Request.{view};
@@ -7,7 +7,7 @@ ghost use Rattle.mc_text.specs.Reading.{commands_of};
 ghost use Rattle.kv_history.specs.Log.{IsNext, IsOneThread, NoneVoid, VoidIsSilent, EachHasSection, EachOwnFirst, applied, applied_entry, void_entry, store_now};
 
 use crate::Store;
-use crate::record::{Record, spelling};
+use crate::record::Record;
 use edge_io::OutOfMemory;
 use mc_text::{Command, count};
 use std::alloc::Global;
@@ -42,15 +42,13 @@ pub struct Journal<'a> {
 }
 
 impl<'a> Model for Journal<'a> {
-    ghost use Rattle.std.specs.Prelude.{map};
     ghost use Rattle.kv_history.specs.Log.{Log};
-    ghost use Rattle.kv_history.specs.Views.{logged};
 
     ghost Value = { Log };
 
-    ghost use Rattle.kv_history.specs.Journal.{IsKept};
+    ghost use Rattle.kv_history.specs.Journal.{log_of, IsKept};
 
-    ghost view = { λ journal. record { sections = map (λ section. section.now) journal.sections.items; entries = map logged journal.records.items } };
+    ghost view = { log_of };
 
     ghost invariant = { IsKept };
 }
@@ -114,7 +112,7 @@ impl<'a> Journal<'a> {
         let record = &self.records[turn as usize];
         Entry {
             caller: record.caller,
-            spelling: spelling(&record.command),
+            spelling: record.command.spelling(),
             void: record.void,
         }
     }

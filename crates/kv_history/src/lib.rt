@@ -10,3 +10,6 @@ mod store;
 
 pub use journal::{Entry, Journal, Receipt};
 pub use store::Store;
+
+#[cfg(test)]
+mod tests;

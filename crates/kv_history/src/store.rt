@@ -1,5 +1,5 @@
 // The store.
-ghost use Rattle.std.specs.Prelude.{◌≡◌, ℕ, List, ◌++◌, codes, pos, int_lt, OnErr, OnOk, if◌then◌else◌, option_map};
+ghost use Rattle.std.specs.Prelude.{◌≡◌, ℕ, List, ◌++◌, codes, pos, int_lt, IfOk, OnErr, OnOk, if◌then◌else◌, option_map};
 ghost use Rattle.std.specs.FinMap as map;
 ghost use Rattle.std.specs.List.{flat_map};
 ghost use Rattle.mc_text.specs.Keys.{keys_left};
@@ -12,7 +12,7 @@ use crate::items::Items;
 use crate::replies::append_item;
 use edge_io::OutOfMemory;
 use mc_text::{Command, How, Keys};
-use std::alloc::Global;
+use std::alloc::{AllocError, Global};
 use std::marker::Model;
 
 // The reply to a command that stored an item.
@@ -95,9 +95,9 @@ impl Store {
             self.items.remove(key);
         } else {
             let item = Item {
-                key: key.to_vec(self.alloc)?,
+                key: copy_of(self.alloc, key)?,
                 flags,
-                block: block.to_vec(self.alloc)?,
+                block: copy_of(self.alloc, block)?,
                 unique: self.next_unique,
             };
             self.items.insert(item)?;
@@ -138,4 +138,13 @@ impl Store {
         reply.extend_from_slice(b"END\r\n")?;
         Ok(())
     }
+}
+
+// The bytes, in a vector of their own.
+fn copy_of(alloc: Global, bytes: &[u8]) -> Result<Vec<u8>, AllocError>
+    ensures { IfOk result (λ copy. copy.items ≡ bytes.now) }
+{
+    let mut copy = Vec::with_capacity(alloc, bytes.len())?;
+    copy.extend_from_slice(bytes)?;
+    Ok(copy)
 }
