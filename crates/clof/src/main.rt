@@ -4,10 +4,9 @@
 
 use clof_tool::{Status, top};
 use edge_io::{StdSink, StdSource, write_all};
-use std::env;
-use std::io;
 use std::io::ErrorKind;
 use std::process::ExitCode;
+use std::{env, io};
 
 fn main(rt: HostRuntime) -> ExitCode {
     let mut err = StdSink::new(rt.stderr());
