@@ -5,3 +5,4 @@ use Rattle.clof_tool.specs.Words as words
 
 abbrev pub plain : Asked → words.Asked
 plain asked.Run = words.Run
+plain (asked.Set list text) = words.Set list text.now

@@ -5,13 +5,13 @@ mod made;
 mod outcome;
 mod report;
 mod running;
+mod set_text;
 mod status;
 mod top_call;
 mod words;
 
 pub use status::{Fault, Status};
 pub use top_call::top;
-
 
 #[cfg(test)]
 mod tests;

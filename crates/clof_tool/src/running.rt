@@ -29,8 +29,7 @@ fn section_text(alloc: Global, section: &Section<'_>) -> Result<Vec<u8>, Status>
     ensures ok { IfOk result (λ text. text.items ≡ section_text section.now.pu section.now.bytes.now) }
     ensures err { IfErr result (λ status. status ≡ Status.OutOfMemory) }
 {
-    let mut journal =
-        Journal::reserve(alloc, &[section.bytes]).map_err(|_| Status::OutOfMemory)?;
+    let mut journal = Journal::reserve(alloc, &[section.bytes]).map_err(|_| Status::OutOfMemory)?;
     if run_in_order(section, &mut journal) {
         return Err(Status::OutOfMemory);
     }

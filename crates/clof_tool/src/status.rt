@@ -1,12 +1,16 @@
 // How a call of the program ends.
 ghost use Rattle.std.specs.Prelude.{◌≡◌};
 
+use cpu_set::SetFault;
 use placed_runner::SectionFault;
 use thiserror::Error;
 
 /// Why a well-formed command line is refused.
 #[derive(Clone, Copy, Debug, PartialEq, Eq, Error)]
 pub enum Fault {
+    /// The text of a set.
+    #[error("the set: {0}")]
+    Set(SetFault),
     /// The sections of the input.
     #[error("the sections: {0}")]
     Section(SectionFault),

@@ -1,5 +1,6 @@
 // The top call over sources and sinks in memory.
 use crate::{Fault, Status, top};
+use cpu_set::SetFault;
 use edge_io::{MemSink, MemSource, SureSink, SureSource};
 use placed_runner::SectionFault;
 use std::alloc::Global;
@@ -91,16 +92,41 @@ fn refuses_what_is_not_built(rt: HostRuntime) -> Result<(), Fail> {
         b"worker * 8\nget a\tb\n\n",
     ];
     for input in cases {
-        ends(&rt, rt.alloc(), input, NOT_YET, b"", b"clof: section NotYet\n")?;
+        ends(
+            &rt,
+            rt.alloc(),
+            input,
+            NOT_YET,
+            b"",
+            b"clof: section NotYet\n",
+        )?;
     }
     Ok(())
 }
 
 #[test]
 fn refuses_other_words(rt: HostRuntime) -> Result<(), Fail> {
-    let cases: [&[&str]; 5] = [&[], &["frob"], &["run", "PU:1"], &["Run"], &[""]];
+    let cases: [&[&str]; 12] = [
+        &[],
+        &["frob"],
+        &["run", "PU:1"],
+        &["Run"],
+        &[""],
+        &["set"],
+        &["set", "-"],
+        &["set", "--list"],
+        &["set", "--list", "-1"],
+        &["set", "0x1", "--list"],
+        &["set", "--list", "1", "2"],
+        &["set", "--", "0x1"],
+    ];
     for words in cases {
-        let ended = call(&rt, rt.alloc(), words, b"worker * 0\n\n".to_vec(rt.alloc())?)?;
+        let ended = call(
+            &rt,
+            rt.alloc(),
+            words,
+            b"worker * 0\n\n".to_vec(rt.alloc())?,
+        )?;
         assert_eq!(rt; ended.status, Status::Usage);
         assert_eq!(rt; ended.out.len(), 0);
         assert_eq!(rt; ended.err.as_slice(), b"clof: usage\n".as_slice());
@@ -275,7 +301,11 @@ fn takes_values_and_keys_up_to_their_limits(rt: HostRuntime) -> Result<(), Fail>
         let ended = call(&rt, alloc, &["run"], input)?;
         assert_eq!(rt; ended.status, status);
         if ended.status == Status::Ok {
-            assert!(rt; ended.out.ends_with(b"\" \"STORED\\r\\n\"\ncaller 0 pu 0 commands 1 rest 0\n"));
+            assert!(rt;
+                ended
+                    .out
+                    .ends_with(b"\" \"STORED\\r\\n\"\ncaller 0 pu 0 commands 1 rest 0\n")
+            );
         }
     }
     serves(&rt, alloc, b"set k 0 0 4294967295\r\nx\r\n", &[], 25)
@@ -286,11 +316,107 @@ fn takes_an_input_up_to_its_limit(rt: HostRuntime) -> Result<(), Fail> {
     let alloc = rt.alloc();
     let ended = call(&rt, alloc, &["run"], long_input(alloc, 16_777_195)?)?;
     assert_eq!(rt; ended.status, Status::Ok);
-    assert_eq!(rt; ended.out.as_slice(), b"caller 0 pu 0 commands 0 rest 16777195\n".as_slice());
+    assert_eq!(rt;
+        ended.out.as_slice(),
+        b"caller 0 pu 0 commands 0 rest 16777195\n".as_slice()
+    );
     let ended = call(&rt, alloc, &["run"], long_input(alloc, 16_777_196)?)?;
     assert_eq!(rt; ended.status, Status::Limit(Fault::Input));
     assert_eq!(rt; ended.status.code(), 4);
     assert_eq!(rt; ended.out.len(), 0);
     assert_eq!(rt; ended.err.as_slice(), b"clof: input\n".as_slice());
+    Ok(())
+}
+
+// Checks what `set` answers to its words.
+fn sets<R: Threads + Wait + Sync + Abort>(
+    rt: &R,
+    alloc: Global,
+    words: &[&str],
+    status: Status,
+    out: &str,
+    err: &str,
+) -> Result<(), Fail> {
+    let ended = call(rt, alloc, words, Vec::new(alloc))?;
+    assert_eq!(rt; ended.status, status);
+    assert_eq!(rt; ended.out.as_slice(), out.as_bytes());
+    assert_eq!(rt; ended.err.as_slice(), err.as_bytes());
+    Ok(())
+}
+
+#[test]
+fn prints_the_three_texts_of_a_set(rt: HostRuntime) -> Result<(), Fail> {
+    let cases: [(&[&str], &str); 5] = [
+        (&["set", "--list", ""], "0x0\n\n0x0\n"),
+        (&["set", "0x0"], "0x0\n\n0x0\n"),
+        (
+            &["set", "0x1,,0x0"],
+            "0x00000001,,0x0\n64\n0x10000000000000000\n",
+        ),
+        (&["set", "--list", "5,0-2,1"], "0x00000027\n0-2,5\n0x27\n"),
+        (&["set", "F0"], "0x000000f0\n4-7\n0xf0\n"),
+    ];
+    for (words, out) in cases {
+        sets(&rt, rt.alloc(), words, Status::Ok, out, "")?;
+    }
+    Ok(())
+}
+
+#[test]
+fn refuses_texts_that_are_no_sets(rt: HostRuntime) -> Result<(), Fail> {
+    let cases: [(&[&str], SetFault, &str); 4] = [
+        (
+            &["set", "--list", "3,4096"],
+            SetFault::TooLarge { at: 2 },
+            "clof: set TooLarge 2\n",
+        ),
+        (
+            &["set", "0xf...f"],
+            SetFault::Infinite { at: 0 },
+            "clof: set Infinite 0\n",
+        ),
+        (
+            &["set", "0x1,"],
+            SetFault::Form { at: 4 },
+            "clof: set Form 4\n",
+        ),
+        (&["set", ""], SetFault::Form { at: 0 }, "clof: set Form 0\n"),
+    ];
+    for (words, fault, err) in cases {
+        let status = Status::Malformed(Fault::Set(fault));
+        sets(&rt, rt.alloc(), words, status, "", err)?;
+        assert_eq!(rt; status.code(), 3);
+    }
+    Ok(())
+}
+
+#[test]
+fn leaves_what_was_written_of_a_set(rt: HostRuntime) -> Result<(), Fail> {
+    let alloc = rt.alloc();
+    let words = [
+        String::from_str(alloc, "set")?,
+        String::from_str(alloc, "0x1")?,
+    ];
+    let mut source = SureSource::new(Vec::new(alloc));
+    let mut out = MemSink::new(alloc, 100, 5, [1].to_vec(alloc)?)?;
+    let mut err = SureSink::new(alloc, 100)?;
+    let status = top(&rt, alloc, &words, &mut source, &mut out, &mut err);
+    assert_eq!(rt; status, Status::WriteFault { written: 5 });
+    assert_eq!(rt; out.bytes(), b"0x000".as_slice());
+    Ok(())
+}
+
+#[test]
+fn prints_the_last_number(rt: HostRuntime) -> Result<(), Fail> {
+    let alloc = rt.alloc();
+    let mut want = Vec::new(alloc);
+    want.extend_from_slice(b"0x80000000")?;
+    want.extend_from_slice(&filled(alloc, b',', 127)?)?;
+    want.extend_from_slice(b"0x0\n4095\n0x8")?;
+    want.extend_from_slice(&filled(alloc, b'0', 1023)?)?;
+    want.push(b'\n')?;
+    let ended = call(&rt, alloc, &["set", "--list", "4095"], Vec::new(alloc))?;
+    assert_eq!(rt; ended.status, Status::Ok);
+    assert_eq!(rt; ended.out.as_slice(), want.as_slice());
     Ok(())
 }

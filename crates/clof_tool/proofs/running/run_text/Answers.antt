@@ -1,8 +1,7 @@
-use Rattle.std.proofs.Common.{◌≡◌, ℕ, List, inr, ap, ◌∙◌}
+use Rattle.std.proofs.Common.{◌≡◌, ℕ, inr, ap, ◌∙◌}
 use Rattle.std.proofs.lemmas.Result.{IfOk-weaker}
 use Rattle.placed_runner.specs.Input.{IsServed}
 use Rattle.placed_runner.specs.Text.{section_text}
-use Rattle.clof_tool.specs.Run.{IsTextOfSection}
 use Rattle.clof_tool.proofs.running.run_text.Goals as goal
 
 pub returns-in-Ok-Some-clause-ok : goal.returns-in-Ok-Some-clause-ok
