@@ -1,5 +1,5 @@
 -- A text has one cut at a byte.
-use Rattle.std.proofs.Common.{◌≡◌, ℕ, ◌<◌, List, [], ◌∷◌, ◌++◌, length, zero, suc, refl, sym, ap, ◌∙◌, arith}
+use Rattle.std.proofs.Common.{◌≡◌, ℕ, List, [], ◌∷◌, ◌++◌, suc, refl, sym, ◌∙◌, arith}
 use Rattle.std.specs.List.{Contains}
 use Rattle.byte_text.specs.Cuts.{IsCutAt}
 

@@ -1,5 +1,5 @@
 -- The history of one caller's commands.
-use Rattle.std.proofs.Common.{◌≡◌, ℕ, List, [], ◌∷◌, ◌++◌, false, refl, ap, sym, ◌∙◌}
+use Rattle.std.proofs.Common.{◌≡◌, List, [], ◌∷◌, ◌++◌, refl, ap, sym, ◌∙◌}
 use Rattle.mc_text.specs.Request.{WholeCommand}
 use Rattle.kv_history.specs.Contents.{Contents, empty_store}
 use Rattle.kv_history.specs.Answer.{reply_of, store_after, store_from, store_of}

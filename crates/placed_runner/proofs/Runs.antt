@@ -1,5 +1,5 @@
 -- A run under way.
-use Rattle.std.proofs.Common.{◌≡◌, List, ℕ, [], ◌∷◌, ◌++◌, Some, Ok, Err, false, refl, sym, ap, ◌∙◌, append_assoc}
+use Rattle.std.proofs.Common.{◌≡◌, List, ℕ, [], ◌∷◌, ◌++◌, Ok, Err, false, refl, sym, ap, ◌∙◌, append_assoc}
 use Rattle.std.specs.Prelude.{slice_get, Result, OnOk}
 use Rattle.std.specs.Result.{is_err}
 use Rattle.mc_text.specs.Request.{WholeCommand}

@@ -1,5 +1,4 @@
 -- What the code's line of a turn shows, without where its texts lie in memory.
-use Rattle.std.specs.Prelude.{ℕ}
 use Rattle.placed_runner.specs.declared.lines.TurnLine.{TurnLine}
 use Rattle.placed_runner.specs.Text.{Shown}
 

@@ -1,6 +1,9 @@
 // The input's section and the printed text, by hand.
-use crate::{SectionFault, read_first, run_in_order, text};
+ghost use Rattle.std.specs.Prelude.{◌<◌, ◌^◌, length};
+
+use crate::{Section, SectionFault, read_first, run_in_order, text};
 use kv_history::Journal;
+use std::alloc::Global;
 use std::test::Fail;
 
 #[test]
@@ -18,15 +21,22 @@ fn reads_one_section_with_a_star(rt: HostRuntime) -> Result<(), Fail> {
     Ok(())
 }
 
+fn printed(alloc: Global, pu: u32, bytes: &[u8]) -> Result<Vec<u8>, Fail>
+    requires { length bytes.now < 2 ^ 32 }
+{
+    let section = Section { pu, bytes };
+    let mut journal = Journal::reserve(alloc, &[bytes])?;
+    if run_in_order(&section, &mut journal) {
+        return Err("out of memory")?;
+    }
+    Ok(text(alloc, &section, &journal)?)
+}
+
 #[test]
 fn prints_a_run(rt: HostRuntime) -> Result<(), Fail> {
-    let input = b"worker * 26\nset a 5 0 2\r\n\x01\"\r\nget a\r\nge\n";
-    let section = read_first(input)?.ok_or("a section")?;
-    let mut journal = Journal::reserve(rt.alloc(), &[section.bytes])?;
-    assert!(rt; !run_in_order(&section, &mut journal));
-    let printed = text(rt.alloc(), &section, &journal)?;
+    let text = printed(rt.alloc(), 3, b"set a 5 0 2\r\n\x01\"\r\nget a\r\nge")?;
     let want =
-        b"turn 0 caller 0 pu 0 climb 0 tests 0 left 0 \"set a 5 0 2\\r\\n\\x01\\\"\\r\\n\" \"STORED\\r\\n\"\nturn 1 caller 0 pu 0 climb 0 tests 0 left 0 \"get a\\r\\n\" \"VALUE a 5 2\\r\\n\\x01\\\"\\r\\nEND\\r\\n\"\ncaller 0 pu 0 commands 2 rest 2\n";
-    assert_eq!(rt; printed.as_slice(), want.as_slice());
+        b"turn 0 caller 0 pu 3 climb 0 tests 0 left 0 \"set a 5 0 2\\r\\n\\x01\\\"\\r\\n\" \"STORED\\r\\n\"\nturn 1 caller 0 pu 3 climb 0 tests 0 left 0 \"get a\\r\\n\" \"VALUE a 5 2\\r\\n\\x01\\\"\\r\\nEND\\r\\n\"\ncaller 0 pu 3 commands 2 rest 2\n";
+    assert_eq!(rt; text.as_slice(), want.as_slice());
     Ok(())
 }

@@ -1,6 +1,5 @@
-use Rattle.std.proofs.Common.{◌≡◌, List, ℕ, subst, sym}
+use Rattle.std.proofs.Common.{subst}
 use Rattle.mc_text.specs.Section.{IsUnbuilt}
-use Rattle.placed_runner.specs.Input.{IsServed}
 use Rattle.placed_runner.proofs.Heads.{one_lone}
 use Rattle.placed_runner.proofs.input.read_first.Goals as goal
 

@@ -1,4 +1,4 @@
-use Rattle.std.proofs.Common.{◌≡◌, List, ℕ, ◌++◌, ap, sym, ◌∙◌}
+use Rattle.std.proofs.Common.{List, ℕ, ◌++◌, ap, sym, ◌∙◌}
 use Rattle.placed_runner.specs.Text.{turn_line, shown_entry}
 use Rattle.placed_runner.proofs.Texts.{turn_lines_more}
 use Rattle.placed_runner.proofs.printing.text.Goals as goal

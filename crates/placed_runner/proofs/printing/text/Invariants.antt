@@ -1,4 +1,4 @@
-use Rattle.std.proofs.Common.{◌≡◌, ◌≤◌, length, take}
+use Rattle.std.proofs.Common.{◌≡◌, length, take}
 use Rattle.placed_runner.specs.Text.{turn_lines}
 use Rattle.placed_runner.proofs.printing.text.Given as goal
 

@@ -1,4 +1,4 @@
-use Rattle.std.proofs.Common.{◌≡◌, List, ℕ, [], ◌∷◌, ◌++◌, sym, ◌∙◌}
+use Rattle.std.proofs.Common.{◌≡◌, [], ◌∷◌, ◌++◌, sym, ◌∙◌}
 use Rattle.mc_text.specs.Request.{view}
 use Rattle.mc_text.specs.Commands.{left}
 use Rattle.kv_history.specs.Log.{applied_entry}

@@ -1,8 +1,6 @@
-use Rattle.std.proofs.Common.{◌≡◌, List, ◌++◌, length}
-use Rattle.mc_text.specs.Request.{WholeCommand}
+use Rattle.std.proofs.Common.{length}
 use Rattle.mc_text.specs.Commands.{left}
 use Rattle.mc_text.specs.Reading.{commands_of}
-use Rattle.placed_runner.specs.Running.{history}
 use Rattle.placed_runner.proofs.Runs.{HasDone}
 use Rattle.placed_runner.proofs.running.run_in_order.Given as goal
 
