@@ -4,4 +4,5 @@ pub mod Bits
 pub mod WordLaws
 pub mod Texts
 pub mod Readings
+pub mod Parts
 pub mod Laws

@@ -87,21 +87,25 @@ low_value item = digits_value 10 (low_end item)
 abbrev pub high_value : List ℕ → ℕ
 high_value item = digits_value 10 (high_end item)
 
--- `a`, or `a-b` with a not above b
-abbrev pub is_range : List ℕ → Bool
-is_range item = is_numeral 10 (low_end item) && (is_numeral 10 (high_end item) && nat_le (low_value item) (high_value item))
+-- two numerals, the first not above the second, however long they are
+abbrev pub is_range : List ℕ → List ℕ → Bool
+is_range low high = is_numeral 10 low && (is_numeral 10 high && nat_le (digits_value 10 low) (digits_value 10 high))
 
 -- `a-`
 abbrev pub is_open : List ℕ → Bool
 is_open item = is_numeral 10 (low_end item) && (has_dash item && (length (high_end item) == 0))
 
+-- the fault of the ends of an item that begins at that offset: the first of the two that is 4,096 or more
+abbrev pub range_fault : ℕ → List ℕ → List ℕ → Option SetFault
+range_fault at low high =
+    if not (is_range low high) then Some (Form at)
+    else (if nat_le 4096 (digits_value 10 low) then Some (TooLarge at)
+    else (if nat_le 4096 (digits_value 10 high) then Some (TooLarge (at + length low + 1))
+    else None))
+
+-- an item is `a`, `a-b` or `a-`; what is none of these is no range
 abbrev pub list_rule : Rule
-list_rule at behind item =
-    if not (is_range item || is_open item) then Some (Form at)
-    else (if is_open item then Some (Infinite at)
-    else (if nat_le 4096 (low_value item) then Some (TooLarge at)
-    else (if nat_le 4096 (high_value item) then Some (TooLarge (at + length (low_end item) + 1))
-    else None)))
+list_rule at behind item = if is_open item then Some (Infinite at) else range_fault at (low_end item) (high_end item)
 
 -- the empty text has no item
 abbrev pub items_of : List ℕ → List (List ℕ)

@@ -1,9 +1,9 @@
 -- The printed texts of a set. 44 is a comma, 45 a dash, and `0x` stands before hexadecimal digits.
-use Rattle.std.specs.Prelude.{ℕ, ◌+◌, ◌/◌, ◌%◌, suc, zero, if◌then◌else◌, ◌==◌, List, [], ◌∷◌, ◌++◌, map, reverse, codes, Option, None, unwrap_or}
+use Rattle.std.specs.Prelude.{ℕ, ◌+◌, ◌/◌, ◌%◌, suc, zero, if◌then◌else◌, ◌==◌, nat_le, List, [], ◌∷◌, ◌++◌, map, reverse, codes, Option, None, unwrap_or}
 use Rattle.std.specs.Char.{digit_char}
 use Rattle.std.specs.Fmt.{decimal}
 use Rattle.std.specs.Int.Digits.{digits_of}
-use Rattle.std.specs.List.{join_with_byte, range_with_len, last_or}
+use Rattle.std.specs.List.{join_with_byte, filter, range_with_len, last_or}
 use Rattle.cpu_set.specs.Bits.{word_of, mask_of}
 
 -- the highest number of a set, or 0 of the empty one
@@ -36,6 +36,10 @@ onto_runs number ((first, last) ∷ runs) = if first == number + 1 then (number,
 abbrev pub runs_of : List ℕ → List (ℕ × ℕ)
 runs_of [] = []
 runs_of (number ∷ numbers) = onto_runs number (runs_of numbers)
+
+-- the numbers of a list that are not below the first
+abbrev pub numbers_from : ℕ → List ℕ → List ℕ
+numbers_from first numbers = filter (λ number. nat_le first number) numbers
 
 -- a run of one number is that number, a longer one its ends with a dash between
 abbrev pub run_text : ℕ × ℕ → List ℕ

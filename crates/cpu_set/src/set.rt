@@ -4,7 +4,7 @@ ghost use Rattle.std.specs.Prelude.{◌≡◌, ℕ, ◌+◌, ◌*◌, ◌/◌, �
 ghost use Rattle.std.specs.Int.{bit_at};
 ghost use Rattle.cpu_set.specs.Sets.{IsSet, has, numbers_where, union, minus, meet, xor};
 ghost use Rattle.cpu_set.specs.Bits.{word_of};
-ghost use Rattle.cpu_set.specs.Texts.{highest};
+ghost use Rattle.cpu_set.specs.Texts.{highest, numbers_from};
 
 use std::marker::Model;
 
@@ -64,12 +64,7 @@ impl CpuSet {
         ensures none { IsNone result ↔ (self.now ≡ []) }
         ensures set { IsSet self.now }
     {
-        for (place, word) in self.words.iter().enumerate() {
-            if *word != 0 {
-                return Some(32 * place as u32 + word.trailing_zeros());
-            }
-        }
-        None
+        self.next(0)
     }
 
     /// How many numbers the set has.
@@ -146,6 +141,27 @@ impl CpuSet {
         ensures { result ≡ word_of self.now place }
     {
         self.words[place]
+    }
+
+    // The lowest number from `from` on.
+    pub(crate) fn next(&self, from: u32) -> Option<u32>
+        ensures { result ≡ slice_get (numbers_from from self.now) 0 }
+    {
+        if from >= 4096 {
+            return None;
+        }
+        let start = from as usize / 32;
+        let word = self.words[start] & (u32::MAX << (from % 32));
+        if word != 0 {
+            return Some(32 * start as u32 + word.trailing_zeros());
+        }
+        'words: for place in start + 1..WORDS {
+            let word = self.words[place];
+            if word != 0 {
+                return Some(32 * place as u32 + word.trailing_zeros());
+            }
+        }
+        None
     }
 
     // The highest number, or 0 of the empty set.
