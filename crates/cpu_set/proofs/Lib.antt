@@ -1,0 +1,4 @@
+pub mod Ends
+pub mod Searches
+pub mod SetSteps
+pub mod Weights

@@ -21,10 +21,10 @@ module _ (test : ℕ → Bool) where
   has-filter [] n = refl
   has-filter (x ∷ xs) n = has-filter_cons x n xs (has-filter xs n)
 
-has_later : (x n : ℕ) (xs : List ℕ) (b : Bool) → x ≢ n → has xs n ≡ b → has (x ∷ xs) n ≡ b
+pub has_later : (x n : ℕ) (xs : List ℕ) (b : Bool) → x ≢ n → has xs n ≡ b → has (x ∷ xs) n ≡ b
 has_later x n xs b other rest = grind (arith, nat_tests)
 
-has_first : (x n : ℕ) (xs : List ℕ) → x ≡ n → has (x ∷ xs) n ≡ true
+pub has_first : (x n : ℕ) (xs : List ℕ) → x ≡ n → has (x ∷ xs) n ≡ true
 has_first x n xs same = grind (arith, nat_tests)
 
 has-range_in : (start count n : ℕ) → start ≤ n → n < start + count → has (range_with_len start count) n ≡ true
@@ -88,7 +88,7 @@ numbers_below-same limit one other agree = filter_same one other 0 limit (λ n l
 -- ---- a set is what it has
 
 -- the numbers ascend from low on
-abbrev Rises : ℕ → List ℕ → Type 0
+abbrev pub Rises : ℕ → List ℕ → Type 0
 Rises low [] = Unit {0}
 Rises low (x ∷ xs) = (low ≤ x) × Rises (x + 1) xs
 
@@ -98,7 +98,7 @@ get_or_next x xs k = rw add-one refl
 increasing_tail : (x : ℕ) (xs : List ℕ) → IsStrictlyIncreasing (x ∷ xs) → IsStrictlyIncreasing xs
 increasing_tail x xs up = λ k within. omega (arith, up (k + 1) (omega arith), get_or_next x xs k, get_or_next x xs (k + 1))
 
-Rises-from_increasing : (low : ℕ) (xs : List ℕ) → IsStrictlyIncreasing xs → (0 < length xs → low ≤ get_or xs 0 0) → Rises low xs
+pub Rises-from_increasing : (low : ℕ) (xs : List ℕ) → IsStrictlyIncreasing xs → (0 < length xs → low ≤ get_or xs 0 0) → Rises low xs
 Rises-from_increasing low [] up least = tt
 Rises-from_increasing low (x ∷ xs) up least =
     (least (omega arith), Rises-from_increasing (x + 1) xs (increasing_tail x xs up) (λ some. omega (arith, up 0 (omega arith), get_or_next x xs 0)))
@@ -107,14 +107,14 @@ Rises-lower : (low lower : ℕ) (xs : List ℕ) → lower ≤ low → Rises low 
 Rises-lower low lower [] less rises = tt
 Rises-lower low lower (x ∷ xs) less rises = (omega (arith, rises.0), rises.1)
 
-has_below : (low n : ℕ) (xs : List ℕ) → Rises low xs → n < low → has xs n ≡ false
+pub has_below : (low n : ℕ) (xs : List ℕ) → Rises low xs → n < low → has xs n ≡ false
 has_below low n [] rises less = refl
 has_below low n (x ∷ xs) rises less = has_later x n xs false (omega (arith, rises.0)) (has_below (x + 1) n xs rises.1 (omega (arith, rises.0)))
 
-filter_out : (test : ℕ → Bool) (x : ℕ) (xs : List ℕ) → test x ≡ false → filter test (x ∷ xs) ≡ filter test xs
+pub filter_out : (test : ℕ → Bool) (x : ℕ) (xs : List ℕ) → test x ≡ false → filter test (x ∷ xs) ≡ filter test xs
 filter_out test x xs fails = rw fails refl
 
-filter_in : (test : ℕ → Bool) (x : ℕ) (xs ys : List ℕ) → test x ≡ true → filter test xs ≡ ys → filter test (x ∷ xs) ≡ x ∷ ys
+pub filter_in : (test : ℕ → Bool) (x : ℕ) (xs ys : List ℕ) → test x ≡ true → filter test xs ≡ ys → filter test (x ∷ xs) ≡ x ∷ ys
 filter_in test x xs ys passes rest = rw passes (ap (λ zs. x ∷ zs) rest)
 
 -- the range filtered by what the ascending list has is that list

@@ -1,6 +1,6 @@
 //! The set of numbers: 128 words of 32 bits, which are the words of its hexadecimal text.
 
-ghost use Rattle.std.specs.Prelude.{◌≡◌, ℕ, ◌+◌, ◌*◌, ◌/◌, ◌%◌, ◌<◌, ◌≤◌, ◌↔◌, ◌||◌, ◌&&◌, ◌==◌, nat_le, [], ◌∷◌, length, All, Contains, IsTrue, IsNone, slice_get};
+ghost use Rattle.std.specs.Prelude.{◌≡◌, ℕ, ◌+◌, ◌*◌, ◌/◌, ◌%◌, ◌<◌, ◌≤◌, ◌↔◌, ◌||◌, ◌&&◌, ◌==◌, nat_le, [], ◌∷◌, length, All, Contains, IsTrue, IsNone, IfNone, IfSome, slice_get};
 ghost use Rattle.std.specs.Int.{bit_at};
 ghost use Rattle.cpu_set.specs.Sets.{IsSet, has, numbers_where, union, minus, meet, xor};
 ghost use Rattle.cpu_set.specs.Bits.{word_of};
@@ -46,7 +46,7 @@ impl CpuSet {
         requires { number < 4096 }
         ensures { self.new ≡ union self.old (number ∷ []) }
     {
-        self.words[number as usize / 32] |= 1 << (number % 32);
+        self.add_word(number as usize / 32, 1 << (number % 32));
     }
 
     /// Whether the set has the number.
@@ -145,18 +145,23 @@ impl CpuSet {
 
     // The lowest number from `from` on.
     pub(crate) fn next(&self, from: u32) -> Option<u32>
-        ensures { result ≡ slice_get (numbers_from from self.now) 0 }
+        ensures none { IfNone result (numbers_from from self.now ≡ []) }
+        ensures found { IfSome result (λ number. numbers_from from self.now ≡ number ∷ numbers_from (number + 1) self.now) }
+        ensures from { IfSome result (λ number. from ≤ number) }
+        ensures limit { IfSome result (λ number. number < 4096) }
+        ensures set { IsSet self.now }
     {
+        let words = &self.words;
         if from >= 4096 {
             return None;
         }
         let start = from as usize / 32;
-        let word = self.words[start] & (u32::MAX << (from % 32));
+        let word = words[start] & (u32::MAX << (from % 32));
         if word != 0 {
             return Some(32 * start as u32 + word.trailing_zeros());
         }
         'words: for place in start + 1..WORDS {
-            let word = self.words[place];
+            let word = words[place];
             if word != 0 {
                 return Some(32 * place as u32 + word.trailing_zeros());
             }
