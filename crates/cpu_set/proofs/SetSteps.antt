@@ -63,7 +63,7 @@ and_true : (a : Bool) → (a && true) ≡ a
 and_true true = refl
 and_true false = refl
 
-or_false : (a : Bool) → a ≡ (a || false)
+pub or_false : (a : Bool) → a ≡ (a || false)
 or_false true = refl
 or_false false = refl
 
@@ -149,7 +149,7 @@ test-ones_between first last bit ends within below =
 
 -- ---- a run of numbers added
 
-same_le : (a b c d : ℕ) → (a ≤ b → c ≤ d) → (c ≤ d → a ≤ b) → nat_le a b ≡ nat_le c d
+pub same_le : (a b c d : ℕ) → (a ≤ b → c ≤ d) → (c ≤ d → a ≤ b) → nat_le a b ≡ nat_le c d
 same_le a b c d there back = elim (cases_lt b a)
   [ inl less ↦ lt-leb a b less ∙ sym (elim (cases_lt d c) [ inl also ↦ lt-leb c d also | inr not_less ↦ absurd (omega (arith, back not_less)) ])
   | inr within ↦ le-leb a b within ∙ sym (le-leb c d (there within)) ]

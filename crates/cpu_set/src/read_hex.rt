@@ -10,6 +10,9 @@ use crate::parts::first_part;
 use crate::set::CpuSet;
 use byte_text::{Numeral, read_numeral};
 
+// The largest number of eight hexadecimal digits.
+const LARGEST_WORD: u64 = 0xffff_ffff;
+
 impl CpuSet {
     /// Reads words of 32 bits between commas, the last one the lowest (hwloc's bitmap text). A word is one to eight
     /// digits of either case with or without `0x`; between two others it may be empty, and is then zero.
@@ -83,7 +86,7 @@ fn word_number(word: &[u8]) -> Option<u32>
     if digits.len() > 8 {
         return None;
     }
-    match read_numeral(16, digits, u64::from(u32::MAX)) {
+    match read_numeral(16, digits, LARGEST_WORD) {
         Numeral::Number(value) => Some(value as u32),
         Numeral::TooLarge | Numeral::NotNumeral => None,
     }
