@@ -59,7 +59,7 @@ set_of_words-zeros = none_is_empty 4096 (is_bit_of (replicate 128 0)) (λ number
 or_tests : (a b : ℕ) → a < 2 → b < 2 → (max a b == 1) ≡ (a == 1 || b == 1)
 or_tests a b a_low b_low = grind (arith, nat_tests)
 
-and_true : (a : Bool) → (a && true) ≡ a
+pub and_true : (a : Bool) → (a && true) ≡ a
 and_true true = refl
 and_true false = refl
 

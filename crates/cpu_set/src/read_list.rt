@@ -1,6 +1,6 @@
 //! The list text, read.
 
-ghost use Rattle.std.specs.Prelude.{◌≡◌, ℕ, ◌<◌, ◌≤◌, ◌≢◌, ◌↔◌, length, slice_index, IfOk, IfErr, OnOk, Some, None, IsTrue, if◌then◌else◌};
+ghost use Rattle.std.specs.Prelude.{◌≡◌, ℕ, ◌+◌, ◌^◌, ◌<◌, ◌≤◌, ◌≢◌, ◌↔◌, length, slice_index, IfOk, IfErr, OnOk, Some, None, IsTrue, if◌then◌else◌};
 ghost use Rattle.std.specs.Str.Parse.{AllDigits, digits_value};
 ghost use Rattle.cpu_set.specs.Readings.{ReadsList, ListRefused, list_rule, range_fault, is_numeral, low_value, high_value};
 
@@ -39,6 +39,7 @@ impl CpuSet {
 
 // The run that an item stands for, or its fault.
 fn read_item(at: usize, item: &[u8]) -> Result<Run, SetFault>
+    requires { at + length item.now + 1 < 2 ^ 64 }
     ensures first { IfOk result (λ run. run.first ≡ low_value item.now) }
     ensures last { IfOk result (λ run. run.last ≡ high_value item.now) }
     ensures ends { IfOk result (λ run. run.first ≤ run.last) }
@@ -70,6 +71,7 @@ fn open_fault(at: usize, low: &[u8]) -> SetFault
 
 // The run from one end to the other, or the fault of an item with these ends.
 fn read_range(at: usize, low: &[u8], high: &[u8]) -> Result<Run, SetFault>
+    requires { at + length low.now + 1 < 2 ^ 64 }
     ensures first { IfOk result (λ run. run.first ≡ digits_value 10 low.now) }
     ensures last { IfOk result (λ run. run.last ≡ digits_value 10 high.now) }
     ensures ends { IfOk result (λ run. run.first ≤ run.last) }
@@ -119,9 +121,9 @@ fn is_above_at_length(one: &[u8], other: &[u8]) -> bool
     requires length { length one.now ≡ length other.now }
     ensures { IsTrue result ↔ (digits_value 10 other.now < digits_value 10 one.now) }
 {
-    for (digit, other) in one.iter().zip(other) {
-        if *digit != *other {
-            return *digit > *other;
+    for place in 0..one.len() {
+        if one[place] != other[place] {
+            return one[place] > other[place];
         }
     }
     false
