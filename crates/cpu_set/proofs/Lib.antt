@@ -1,5 +1,6 @@
 pub mod Ends
 pub mod HexSteps
+pub mod HexText
 pub mod ListSteps
 pub mod MemberLaws
 pub mod NumeralOrder

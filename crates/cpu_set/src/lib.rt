@@ -4,7 +4,6 @@
 
 mod fault;
 mod laws;
-mod out_of_memory;
 mod parts;
 mod read_hex;
 mod read_list;

@@ -171,7 +171,8 @@ impl CpuSet {
 
     // The highest number, or 0 of the empty set.
     pub(crate) fn highest(&self) -> u32
-        ensures { result ≡ highest self.now }
+        ensures number { result ≡ highest self.now }
+        ensures limit { result < 4096 }
     {
         for place in (0..WORDS).rev() {
             let word = self.words[place];

@@ -3,7 +3,7 @@
 ghost use Rattle.std.specs.Prelude.{◌≡◌, ◌+◌, ◌++◌, ◌<◌, ◌≤◌, [], ◌∷◌, length, decimal, IfOk, OnOk, IfNone, IfSome};
 ghost use Rattle.cpu_set.specs.Texts.{list_text, run_text, runs_of, numbers_from};
 
-use crate::out_of_memory::OutOfMemory;
+use edge_io::OutOfMemory;
 use crate::run::Run;
 use crate::set::CpuSet;
 use byte_text::push_decimal;

@@ -4,7 +4,7 @@ ghost use Rattle.std.specs.Prelude.{◌≡◌, ◌/◌, ◌%◌, ◌^◌, ◌<�
 ghost use Rattle.cpu_set.specs.Bits.{mask_of};
 ghost use Rattle.cpu_set.specs.Texts.{taskset_text};
 
-use crate::out_of_memory::OutOfMemory;
+use edge_io::OutOfMemory;
 use crate::set::CpuSet;
 use byte_text::hex_digit;
 use std::alloc::Global;

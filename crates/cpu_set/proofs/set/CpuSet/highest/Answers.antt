@@ -8,8 +8,8 @@ loop-place-init c = none_from_end c.self.inside.words
 pub loop-place-preserved : goal.loop-place-preserved
 loop-place-preserved c = none_from_word c.self.inside.words c.args.self.now c.self.view_is c.self.invariant _ c.loop-place.place (omega arith) c.loop-place.invariant c.if-word-ne0.false
 
-pub returns-then-word-ne0 : goal.returns-then-word-ne0
-returns-then-word-ne0 c = highest_word c.self.inside.words c.args.self.now c.self.view_is c.self.invariant _ c.loop-place.place (omega arith) (omega arith) c.loop-place.invariant c.if-word-ne0.true
+pub returns-then-word-ne0-clause-number : goal.returns-then-word-ne0-clause-number
+returns-then-word-ne0-clause-number c = highest_word c.self.inside.words c.args.self.now c.self.view_is c.self.invariant _ c.loop-place.place (omega arith) (omega arith) c.loop-place.invariant c.if-word-ne0.true
 
-pub returns : goal.returns
-returns c = highest_nowhere c.self.inside.words c.args.self.now c.self.view_is c.self.invariant c.loop-place.place c.loop-place-test.false c.loop-place.invariant
+pub returns-clause-number : goal.returns-clause-number
+returns-clause-number c = highest_nowhere c.self.inside.words c.args.self.now c.self.view_is c.self.invariant c.loop-place.place c.loop-place-test.false c.loop-place.invariant
