@@ -94,6 +94,35 @@ pub highest-none : (set : List ℕ) → ((n : ℕ) → has set n ≡ false) → 
 highest-none [] none = refl
 highest-none (x ∷ xs) none = absurd (false≢true (sym (none x) ∙ has_first x x xs refl))
 
+-- the last of a list that isn't empty is the highest of an ascending one
+record LastOf (first : ℕ) (rest : List ℕ) (top low : ℕ) : Type 0 where
+  is : last_or (Some first) rest ≡ Some top
+  among : has (first ∷ rest) top ≡ true
+  above : Rises low (first ∷ rest) → (n : ℕ) → top < n → has (first ∷ rest) n ≡ false
+
+last_of : (first low : ℕ) (rest : List ℕ) → (top : ℕ) × LastOf first rest top low
+last_of first low [] = (first, record { is = refl; among = has_first first first [] refl; above = λ rises n more. has_later first n [] false (omega arith) refl })
+last_of first low (second ∷ rest) =
+    let later = last_of second (first + 1) rest in
+    let top = later.0 in
+    (top, record {
+      is = later.1.is;
+      among = or_right (first == top) (has (second ∷ rest) top) later.1.among;
+      above = λ rises n more. has_later first n (second ∷ rest) false
+          (let order : first < top = elim (cases_lt first top) [ inl less ↦ less | inr at_most ↦ absurd (false≢true (sym (has_below (first + 1) top (second ∷ rest) rises.1 (omega arith)) ∙ later.1.among)) ] in omega arith)
+          (later.1.above rises.1 n more)
+    })
+
+pub highest-among : (first : ℕ) (rest : List ℕ) → has (first ∷ rest) (highest (first ∷ rest)) ≡ true
+highest-among first rest = let last = last_of first 0 rest in ap (λ o. has (first ∷ rest) (unwrap_or o 0)) last.1.is ∙ last.1.among
+
+pub highest-above : (set : List ℕ) → IsSet set → (n : ℕ) → highest set < n → has set n ≡ false
+highest-above [] ok n more = refl
+highest-above (first ∷ rest) ok n more =
+    let last = last_of first 0 rest in
+    let top_is : highest (first ∷ rest) ≡ last.0 = ap (λ o. unwrap_or o 0) last.1.is in
+    last.1.above (rising (first ∷ rest) ok) n (omega (arith, top_is))
+
 -- ---- the lowest and the highest bit of a word
 
 pub record LowestBit (word bit : ℕ) : Type 0 where

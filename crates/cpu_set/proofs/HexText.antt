@@ -12,7 +12,7 @@ use Rattle.cpu_set.specs.Texts.{hex_digits, hex_text, word_text, places_down, hi
 
 -- ---- digits
 
-pow_of_16 : (place : ℕ) → 2 ^ (4 * place) ≡ 16 ^ place
+pub pow_of_16 : (place : ℕ) → 2 ^ (4 * place) ≡ 16 ^ place
 pow_of_16 zero = refl
 pow_of_16 (suc place) = ap (λ n. 2 ^ n) (let same : 4 * suc place ≡ 4 * place + 4 = omega arith in same) ∙ pow-add 2 (4 * place) 4 ∙ ap (λ n. n * 16) (pow_of_16 place) ∙ sym (pow-suc 16 place)
 

@@ -7,4 +7,5 @@ pub mod NumeralOrder
 pub mod PartLemmas
 pub mod Searches
 pub mod SetSteps
+pub mod TasksetText
 pub mod Weights

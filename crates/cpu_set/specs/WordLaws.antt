@@ -50,7 +50,7 @@ module _ (test : ℕ → Bool) where
   unfolding number_with_bits
   number_with_bits_none = refl
 
-  number_with_bits-below : (places : ℕ) → number_with_bits test places < 2 ^ places
+  pub number_with_bits-below : (places : ℕ) → number_with_bits test places < 2 ^ places
   number_with_bits-below zero = rw number_with_bits_none (lit< tt)
   number_with_bits-below (suc places) = rw number_with_bits-suc (below_more_bits (test places) (number_with_bits test places) places (number_with_bits-below places))
 

@@ -173,6 +173,7 @@ impl CpuSet {
     pub(crate) fn highest(&self) -> u32
         ensures number { result ≡ highest self.now }
         ensures limit { result < 4096 }
+        ensures set { IsSet self.now }
     {
         for place in (0..WORDS).rev() {
             let word = self.words[place];
