@@ -72,11 +72,11 @@ pub hex_begin : (set : List ℕ) (count : ℕ) → HexWritten set count count []
 hex_begin set count = record { begun = λ same. refl; whole = λ less. absurd (omega arith); bound = omega arith }
 
 -- parts joined are the first, and the others with a comma before each
-join_first : (first : List ℕ) (parts : List (List ℕ)) → join_with_byte 44 (first ∷ parts) ≡ first ++ flat_map (λ part. 44 ∷ part) parts
+pub join_first : (first : List ℕ) (parts : List (List ℕ)) → join_with_byte 44 (first ∷ parts) ≡ first ++ flat_map (λ part. 44 ∷ part) parts
 join_first first [] = sym (append-nil first)
 join_first first (part ∷ parts) = ap (λ rest. first ++ 44 ∷ rest) (join_first part parts)
 
-flat_map-map : (f : ℕ → List ℕ) (places : List ℕ) → flat_map (λ part. 44 ∷ part) (map f places) ≡ flat_map (λ place. 44 ∷ f place) places
+pub flat_map-map : {A : Type 0} (f : A → List ℕ) (places : List A) → flat_map (λ part. 44 ∷ part) (map f places) ≡ flat_map (λ place. 44 ∷ f place) places
 flat_map-map f [] = refl
 flat_map-map f (place ∷ places) = ap (λ rest. (44 ∷ f place) ++ rest) (flat_map-map f places)
 

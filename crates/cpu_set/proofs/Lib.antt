@@ -1,10 +1,13 @@
 pub mod Ends
+pub mod HexRoundTrip
 pub mod HexSteps
 pub mod HexText
 pub mod ListSteps
+pub mod ListText
 pub mod MemberLaws
 pub mod NumeralOrder
 pub mod PartLemmas
+pub mod ReadLaws
 pub mod Searches
 pub mod SetSteps
 pub mod TasksetText

@@ -17,7 +17,7 @@ module _ (test : ℕ → Bool) where
   has-filter_cons : (x n : ℕ) (xs : List ℕ) → has (filter test xs) n ≡ (has xs n && test n) → has (filter test (x ∷ xs)) n ≡ (has (x ∷ xs) n && test n)
   has-filter_cons x n xs rest = grind (arith, nat_tests)
 
-  has-filter : (xs : List ℕ) (n : ℕ) → has (filter test xs) n ≡ (has xs n && test n)
+  pub has-filter : (xs : List ℕ) (n : ℕ) → has (filter test xs) n ≡ (has xs n && test n)
   has-filter [] n = refl
   has-filter (x ∷ xs) n = has-filter_cons x n xs (has-filter xs n)
 
