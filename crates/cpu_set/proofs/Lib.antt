@@ -2,6 +2,7 @@ pub mod Ends
 pub mod HexRoundTrip
 pub mod HexSteps
 pub mod HexText
+pub mod ListRoundTrip
 pub mod ListSteps
 pub mod ListText
 pub mod MemberLaws

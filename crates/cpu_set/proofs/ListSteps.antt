@@ -163,7 +163,7 @@ rule_open at item low high cut none =
 
 -- ---- the items so far
 
-items_some : (text : List ℕ) → (length text == 0) ≡ false → parts_of text ≡ items_of text
+pub items_some : (text : List ℕ) → (length text == 0) ≡ false → parts_of text ≡ items_of text
 items_some [] empty = absurd (false≢true (sym empty))
 items_some (byte ∷ bytes) some = refl
 

@@ -108,7 +108,7 @@ run_short first last first_low last_low = pick (first == last)
     pick true = omega (arith, decimal_short first first_low)
     pick false = omega (arith, decimal_short first first_low, decimal_short last last_low, length-append (decimal first) (45 ∷ decimal last))
 
-run_some : (first last : ℕ) → first < 4096 → 0 < length (run_text (first, last))
+pub run_some : (first last : ℕ) → first < 4096 → 0 < length (run_text (first, last))
 run_some first last low = pick (first == last)
   where
     pick : (one : Bool) → 0 < length (cond one (decimal first) (decimal first ++ 45 ∷ decimal last))
