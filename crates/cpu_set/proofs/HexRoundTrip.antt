@@ -1,22 +1,19 @@
 -- The hexadecimal text of a set is read as that set.
-use Rattle.std.proofs.Common.{◌≡◌, ◌≢◌, ℕ, zero, suc, ◌+◌, ◌-◌, ◌*◌, ◌/◌, ◌%◌, ◌^◌, ◌<◌, ◌≤◌, Bool, true, false, cond, not, ◌&&◌, ◌||◌, ◌==◌, nat_lt, nat_le, nat_eq, List, [], ◌∷◌, ◌++◌, length, map, codes, Option, Some, None, lit<, refl, sym, ap, ◌∙◌, append_assoc, arith, ◌⊎◌, inl, inr}
+use Rattle.std.proofs.Common.{◌≡◌, ◌≢◌, ℕ, zero, suc, ◌+◌, ◌*◌, ◌/◌, ◌%◌, ◌^◌, ◌<◌, ◌≤◌, Bool, true, false, cond, not, ◌&&◌, ◌||◌, ◌==◌, nat_lt, nat_le, nat_eq, List, [], ◌∷◌, ◌++◌, length, map, codes, Some, None, refl, sym, ap, ◌∙◌, arith, ◌⊎◌, inl, inr}
 use Rattle.std.proofs.Math.Nat.{pow-suc}
 use Rattle.std.proofs.Math.Numerals.{add-one}
-use Rattle.std.specs.Bool.{Decides}
 use Rattle.std.specs.Char.{digit_char, digit_value}
 use Rattle.std.specs.Int.{bit_at}
-use Rattle.std.specs.List.{All, AllByRecursion, join_with_byte, slice_split, starts_with, flat_map}
-use Rattle.std.specs.Str.Parse.{AllDigits, IsNumeral, digits_value}
-use Rattle.std.proofs.lemmas.Bool.{cases_lt, cases_eq, eq-eqb, ne_eqb, le-leb, lt-leb, lt-ltb, and_from, and_left, and_right, or_left, or_right, cond-true, cond-false, false≢true}
+use Rattle.std.specs.List.{All, AllByRecursion, join_with_byte, starts_with, flat_map}
+use Rattle.std.specs.Str.Parse.{AllDigits, digits_value}
+use Rattle.std.proofs.lemmas.Bool.{cases_lt, cases_eq, eq-eqb, ne_eqb, le-leb, lt-leb, lt-ltb, and_from, and_left, and_right, or_left, or_right, false≢true}
 use Rattle.std.proofs.lemmas.Int.Digits.{digits_push, digits_value_push}
-use Rattle.std.proofs.lemmas.List.{length-append, length-map}
 use Rattle.std.proofs.lemmas.List.Elements.{All-append, All-cons, All-nil}
 use Rattle.std.proofs.lemmas.List.Splits.{slice_split_none, slice_split_at}
 use Rattle.std.proofs.lemmas.Nat.Bits.{bit_at-zero}
 use Rattle.std.proofs.lemmas.Str.{digit_value-digit_char}
-use Rattle.cpu_set.specs.declared.fault.SetFault.{SetFault}
 use Rattle.cpu_set.specs.declared.fault.SetFault.TheVariants.{Form, TooLarge, Infinite}
-use Rattle.cpu_set.specs.Sets.{has, numbers_where, IsSet}
+use Rattle.cpu_set.specs.Sets.{has, IsSet}
 use Rattle.cpu_set.specs.SetLaws.{numbers_below-same, numbers_where-has, has-past}
 use Rattle.cpu_set.specs.Bits.{word_of}
 use Rattle.cpu_set.specs.WordLaws.{word_of-below, is_bit-word_of}
@@ -72,9 +69,6 @@ hex_value (suc count) number low =
 
 -- ---- one word
 
-is_zero : (word : ℕ) → (word ≡ 0) ⊎ (word ≢ 0)
-is_zero word = cases_eq word 0
-
 text_zero_last : (place word : ℕ) → word ≡ 0 → place ≡ 0 → word_text place word ≡ codes "0x0"
 text_zero_last place word none last =
     ap (λ t. cond t (cond (place == 0) (codes "0x0") []) (codes "0x" ++ hex_digits 8 word)) (eq-eqb word 0 none) ∙ ap (λ t. cond t (codes "0x0") []) (eq-eqb place 0 last)
@@ -100,16 +94,14 @@ text_no_comma place word = pick (word == 0) (place == 0)
     pick true false = All-nil (λ byte. (byte == 44) ≡ false)
     pick false last = prefix_no_comma (hex_digits 8 word) (digits_no_comma 8 word)
 
--- `0x` comes off
-prefixed : (digits : List ℕ) → without_prefix (48 ∷ 120 ∷ digits) ≡ digits
-prefixed digits = refl
-
 value_back : (place word : ℕ) → word < 2 ^ 32 → word_value (word_text place word) ≡ word
-value_back place word narrow = elim (cases_eq word 0)
-  [ inl none ↦ elim (cases_eq place 0)
-      [ inl last ↦ ap word_value (text_zero_last place word none last) ∙ sym none
-      | inr other ↦ ap word_value (text_zero place word none other) ∙ sym none ]
-  | inr some ↦ ap word_value (text_some place word some) ∙ hex_value 8 word (omega arith) ]
+value_back place word narrow = elim (cases_eq word 0) [
+  | inl none ↦ elim (cases_eq place 0) [
+    | inl last ↦ ap word_value (text_zero_last place word none last) ∙ sym none
+    | inr other ↦ ap word_value (text_zero place word none other) ∙ sym none
+  ]
+  | inr some ↦ ap word_value (text_some place word some) ∙ hex_value 8 word (omega arith)
+]
 
 eight_is_word : (word : ℕ) → is_word (48 ∷ 120 ∷ hex_digits 8 word) ≡ true
 eight_is_word word =
@@ -118,12 +110,14 @@ eight_is_word word =
     (le-leb (length (hex_digits 8 word)) 8 (omega (arith, length-hex_digits 8 word)))
 
 good_form : (at place word : ℕ) → (word ≢ 0) ⊎ ((place ≡ 0) ⊎ (0 < at)) → (is_word (word_text place word) || is_gap at place (word_text place word)) ≡ true
-good_form at place word shown = elim (cases_eq word 0)
-  [ inr some ↦ or_left (is_word (word_text place word)) (is_gap at place (word_text place word)) (ap is_word (text_some place word some) ∙ eight_is_word word)
-  | inl none ↦ elim (cases_eq place 0)
-      [ inl last ↦ or_left (is_word (word_text place word)) (is_gap at place (word_text place word)) (ap is_word (text_zero_last place word none last))
-      | inr other ↦ or_right (is_word (word_text place word)) (is_gap at place (word_text place word))
-          (ap (is_gap at place) (text_zero place word none other) ∙ and_from (nat_lt 0 at) (nat_lt 0 place) (lt-ltb 0 at (begun shown none other)) (lt-ltb 0 place (omega arith))) ] ]
+good_form at place word shown = elim (cases_eq word 0) [
+  | inr some ↦ or_left (is_word (word_text place word)) (is_gap at place (word_text place word)) (ap is_word (text_some place word some) ∙ eight_is_word word)
+  | inl none ↦ elim (cases_eq place 0) [
+    | inl last ↦ or_left (is_word (word_text place word)) (is_gap at place (word_text place word)) (ap is_word (text_zero_last place word none last))
+    | inr other ↦ or_right (is_word (word_text place word)) (is_gap at place (word_text place word))
+        (ap (is_gap at place) (text_zero place word none other) ∙ and_from (nat_lt 0 at) (nat_lt 0 place) (lt-ltb 0 at (begun shown none other)) (lt-ltb 0 place (omega arith)))
+  ]
+]
   where
     begun : (word ≢ 0) ⊎ ((place ≡ 0) ⊎ (0 < at)) → word ≡ 0 → place ≢ 0 → 0 < at
     begun (inl some) none other = absurd (some none)
@@ -162,17 +156,18 @@ module _ (set : List ℕ) where
   word_at_down : (count place : ℕ) → place < count → word_at (words_down set count) place ≡ word_of set place
   word_at_down zero place below = absurd (omega arith)
   word_at_down (suc count) place below =
-      ap (λ words. word_at words place) (words_down-suc count) ∙ elim (cases_eq place count)
-      [ inl here ↦ ap (λ t. cond t (word_value (word_text count (word_of set count))) (word_at (words_down set count) place)) (eq-eqb place (length (words_down set count)) (here ∙ sym (length-words_down count)))
-          ∙ value_back count (word_of set count) (word_of-below set count) ∙ ap (word_of set) (sym here)
-      | inr other ↦ ap (λ t. cond t (word_value (word_text count (word_of set count))) (word_at (words_down set count) place)) (ne_eqb place (length (words_down set count)) (λ same. omega (arith, length-words_down count)))
-          ∙ word_at_down count place (omega arith) ]
+      ap (λ words. word_at words place) (words_down-suc count) ∙ elim (cases_eq place count) [
+        | inl here ↦ ap (λ t. cond t (word_value (word_text count (word_of set count))) (word_at (words_down set count) place)) (eq-eqb place (length (words_down set count)) (here ∙ sym (length-words_down count)))
+            ∙ value_back count (word_of set count) (word_of-below set count) ∙ ap (word_of set) (sym here)
+        | inr other ↦ ap (λ t. cond t (word_value (word_text count (word_of set count))) (word_at (words_down set count) place)) (ne_eqb place (length (words_down set count)) (λ same. omega (arith, length-words_down count)))
+            ∙ word_at_down count place (omega arith)
+      ]
 
   good_here : (at count : ℕ) → count < 128 → (word_of set count ≢ 0) ⊎ ((count ≡ 0) ⊎ (0 < at)) → leftmost hex_rule at (words_down set (suc count)) ≡ leftmost hex_rule (at + length (word_text count (word_of set count)) + 1) (words_down set count)
   good_here at count low shown =
       ap (leftmost hex_rule at) (words_down-suc count)
       ∙ leftmost-good hex_rule at (word_text count (word_of set count)) (words_down set count)
-        (ap (λ behind. hex_rule at behind (word_text count (word_of set count))) (length-words_down count) ∙ good_word at count (word_of set count) low shown)
+      (ap (λ behind. hex_rule at behind (word_text count (word_of set count))) (length-words_down count) ∙ good_word at count (word_of set count) low shown)
 
   good_down : (at count : ℕ) → 0 < at → count ≤ 128 → leftmost hex_rule at (words_down set count) ≡ None
   good_down at zero later within = ap (leftmost hex_rule at) words_down-none
@@ -198,9 +193,10 @@ top_word (first ∷ rest) ok = inl (λ none. false≢true (sym (no_bit none) ∙
 
 below_limit : (set : List ℕ) → IsSet set → highest set < 4096
 below_limit [] ok = omega arith
-below_limit (first ∷ rest) ok = elim (cases_lt (highest (first ∷ rest)) 4096)
-  [ inl low ↦ low
-  | inr past ↦ absurd (false≢true (sym (has-past (first ∷ rest) (highest (first ∷ rest)) ok past) ∙ highest-among first rest)) ]
+below_limit (first ∷ rest) ok = elim (cases_lt (highest (first ∷ rest)) 4096) [
+  | inl low ↦ low
+  | inr past ↦ absurd (false≢true (sym (has-past (first ∷ rest) (highest (first ∷ rest)) ok past) ∙ highest-among first rest))
+]
 
 -- ---- no text of a set begins as that of an infinite one
 
@@ -214,16 +210,20 @@ record TwoDigits (digits : List ℕ) : Type 0 where
 
 two_digits : (count number : ℕ) → TwoDigits (hex_digits (suc (suc count)) number)
 two_digits zero number = record {
-  one = digit_char (number / 16 % 16); two = digit_char (number % 16); more = [];
+  one = digit_char (number / 16 % 16);
+  two = digit_char (number % 16);
+  more = [];
   is = hex_digits-suc 1 number ∙ ap (λ digits. digits ++ digit_char (number % 16) ∷ []) (hex_digits-suc 0 (number / 16) ∙ ap (λ digits. digits ++ digit_char (number / 16 % 16) ∷ []) (hex_digits-none (number / 16 / 16)));
-  not_dot = λ same. omega (arith, digit_range (number % 16) (omega arith))
+  not_dot = λ same. omega (arith, digit_range (number % 16) (omega arith));
 }
 two_digits (suc count) number =
     let front = two_digits count (number / 16) in
     record {
-      one = front.one; two = front.two; more = front.more ++ digit_char (number % 16) ∷ [];
+      one = front.one;
+      two = front.two;
+      more = front.more ++ digit_char (number % 16) ∷ [];
       is = hex_digits-suc (suc (suc count)) number ∙ ap (λ digits. digits ++ digit_char (number % 16) ∷ []) front.is;
-      not_dot = front.not_dot
+      not_dot = front.not_dot;
     }
 
 not_infinite_digits : (digits rest : List ℕ) → TwoDigits digits → starts_with nat_eq ((48 ∷ 120 ∷ digits) ++ rest) (codes "0xf...f") ≡ false
@@ -232,9 +232,10 @@ not_infinite_digits digits rest two =
     ∙ and_right (nat_eq 102 two.one) _ (and_left (nat_eq 46 two.two) _ (ne_eqb 46 two.two (λ same. two.not_dot (sym same))))
 
 not_infinite_first : (place word : ℕ) (rest : List ℕ) → (word ≢ 0) ⊎ (place ≡ 0) → starts_with nat_eq (word_text place word ++ rest) (codes "0xf...f") ≡ false
-not_infinite_first place word rest shown = elim (cases_eq word 0)
-  [ inr some ↦ ap (λ text. starts_with nat_eq (text ++ rest) (codes "0xf...f")) (text_some place word some) ∙ not_infinite_digits (hex_digits 8 word) rest (two_digits 6 word)
-  | inl none ↦ ap (λ text. starts_with nat_eq (text ++ rest) (codes "0xf...f")) (text_zero_last place word none (elim shown [ inl some ↦ absurd (some none) | inr last ↦ last ])) ]
+not_infinite_first place word rest shown = elim (cases_eq word 0) [
+  | inr some ↦ ap (λ text. starts_with nat_eq (text ++ rest) (codes "0xf...f")) (text_some place word some) ∙ not_infinite_digits (hex_digits 8 word) rest (two_digits 6 word)
+  | inl none ↦ ap (λ text. starts_with nat_eq (text ++ rest) (codes "0xf...f")) (text_zero_last place word none (elim shown [ inl some ↦ absurd (some none) | inr last ↦ last ]))
+]
 
 module _ (set : List ℕ) (ok : IsSet set) where
   hex_text_is : hex_text set ≡ join_with_byte 44 (words_down set (suc (highest set / 32)))
@@ -250,7 +251,7 @@ module _ (set : List ℕ) (ok : IsSet set) where
   not_infinite : starts_with nat_eq (hex_text set) (codes "0xf...f") ≡ false
   not_infinite =
       ap (λ text. starts_with nat_eq text (codes "0xf...f"))
-        (hex_text_is ∙ ap (join_with_byte 44) (words_down-suc set (highest set / 32)) ∙ join_first (word_text (highest set / 32) (word_of set (highest set / 32))) (words_down set (highest set / 32)))
+      (hex_text_is ∙ ap (join_with_byte 44) (words_down-suc set (highest set / 32)) ∙ join_first (word_text (highest set / 32) (word_of set (highest set / 32))) (words_down set (highest set / 32)))
       ∙ not_infinite_first (highest set / 32) (word_of set (highest set / 32)) (flat_map (λ part. 44 ∷ part) (words_down set (highest set / 32))) (top_word set ok)
 
   no_fault : hex_fault (hex_text set) ≡ None
@@ -260,12 +261,13 @@ module _ (set : List ℕ) (ok : IsSet set) where
 
   same_members : (number : ℕ) → number < 4096 → has set number ≡ is_in_hex (hex_text set) number
   same_members number below =
-      sym (ap (λ parts. bit_at (word_at parts (number / 32)) (number % 32) == 1) hex_text_parts ∙ elim (cases_lt (number / 32) (suc (highest set / 32)))
-      [ inl written ↦ ap (λ word. bit_at word (number % 32) == 1) (word_at_down set (suc (highest set / 32)) (number / 32) written)
-          ∙ is_bit-word_of set (number / 32) (number % 32) (omega arith)
-          ∙ ap (has set) (let same : 32 * (number / 32) + number % 32 ≡ number = omega arith in same)
-      | inr past ↦ ap (λ word. bit_at word (number % 32) == 1) (word_at-past (words_down set (suc (highest set / 32))) (number / 32) (omega (arith, length-words_down set (suc (highest set / 32)))))
-          ∙ ap (λ value. value == 1) (bit_at-zero (number % 32)) ∙ sym (highest-above set ok number (omega arith)) ])
+      sym (ap (λ parts. bit_at (word_at parts (number / 32)) (number % 32) == 1) hex_text_parts ∙ elim (cases_lt (number / 32) (suc (highest set / 32))) [
+        | inl written ↦ ap (λ word. bit_at word (number % 32) == 1) (word_at_down set (suc (highest set / 32)) (number / 32) written)
+            ∙ is_bit-word_of set (number / 32) (number % 32) (omega arith)
+            ∙ ap (has set) (let same : 32 * (number / 32) + number % 32 ≡ number = omega arith in same)
+        | inr past ↦ ap (λ word. bit_at word (number % 32) == 1) (word_at-past (words_down set (suc (highest set / 32))) (number / 32) (omega (arith, length-words_down set (suc (highest set / 32)))))
+            ∙ ap (λ value. value == 1) (bit_at-zero (number % 32)) ∙ sym (highest-above set ok number (omega arith))
+      ])
 
   pub hex_read_back : ReadsHex (hex_text set) set
   hex_read_back = record { good = no_fault; numbers = sym (numbers_where-has set ok) ∙ numbers_below-same 4096 (has set) (is_in_hex (hex_text set)) same_members }

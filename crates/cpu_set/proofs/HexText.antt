@@ -1,5 +1,5 @@
 -- Writing the hexadecimal text, word by word from the highest.
-use Rattle.std.proofs.Common.{◌≡◌, ◌≢◌, ℕ, zero, suc, ◌+◌, ◌-◌, ◌*◌, ◌/◌, ◌%◌, ◌^◌, ◌<◌, ◌≤◌, Bool, true, false, cond, ◌==◌, nat_lt, List, [], ◌∷◌, ◌++◌, length, map, codes, lit<, refl, sym, ap, ◌∙◌, append_assoc, arith, ◌⊎◌, inl, inr, bit_and}
+use Rattle.std.proofs.Common.{◌≡◌, ◌≢◌, ℕ, zero, suc, ◌+◌, ◌-◌, ◌*◌, ◌/◌, ◌%◌, ◌^◌, ◌<◌, ◌≤◌, Bool, true, false, cond, ◌==◌, List, [], ◌∷◌, ◌++◌, length, map, codes, refl, sym, ap, ◌∙◌, append_assoc, arith, bit_and}
 use Rattle.std.proofs.Math.Nat.{pow-suc, div-div-eq-div-mul, div-one}
 use Rattle.std.proofs.Math.Numerals.{add-one}
 use Rattle.std.specs.Char.{digit_char}
@@ -41,7 +41,7 @@ pub record DigitsSoFar (old now : List ℕ) (total left number : ℕ) : Type 0 w
 
 pub digits_begin : (old : List ℕ) (total number : ℕ) → DigitsSoFar old old total total number
 digits_begin old total number = record {
-  is = sym (ap (λ count. old ++ hex_digits count (number / 16 ^ total)) (let none : total - total ≡ 0 = omega arith in none) ∙ ap (λ digits. old ++ digits) (hex_digits-none (number / 16 ^ total)) ∙ append-nil old)
+  is = sym (ap (λ count. old ++ hex_digits count (number / 16 ^ total)) (let none : total - total ≡ 0 = omega arith in none) ∙ ap (λ digits. old ++ digits) (hex_digits-none (number / 16 ^ total)) ∙ append-nil old);
 }
 
 pub digits_push : (old now new : List ℕ) (total left place number digit : ℕ) → left ≡ place + 1 → left ≤ total → digit ≡ digit_char (number / 16 ^ place % 16) → new ≡ now ++ digit ∷ [] → DigitsSoFar old now total left number
@@ -51,7 +51,7 @@ digits_push old now new total left place number digit follows within digit_is ne
       ∙ append_assoc old (hex_digits (total - left) (number / 16 ^ left)) _
       ∙ ap (λ n. old ++ (hex_digits (total - left) n ++ digit_char (number / 16 ^ place % 16) ∷ [])) (shifted number place left follows)
       ∙ ap (λ digits. old ++ digits) (sym (hex_digits-suc (total - left) (number / 16 ^ place)))
-      ∙ ap (λ count. old ++ hex_digits count (number / 16 ^ place)) (let one_more : suc (total - left) ≡ total - place = omega arith in one_more)
+      ∙ ap (λ count. old ++ hex_digits count (number / 16 ^ place)) (let one_more : suc (total - left) ≡ total - place = omega arith in one_more);
 }
 
 pub digits_end : (old now : List ℕ) (total left number : ℕ) → left ≤ 0 → DigitsSoFar old now total left number → now ≡ old ++ hex_digits total number
@@ -102,7 +102,7 @@ hex_first set count left place text top follows at_most at_least written =
     record {
       begun = λ same. absurd (omega arith);
       whole = λ less. ap (λ t. (t ++ word_text place (word_of set place)) ++ flat_map (λ p. 44 ∷ word_text p (word_of set p)) (places_down place)) empty ∙ hex_text_from set place (omega arith);
-      bound = omega (arith, length-append text (word_text place (word_of set place)), short_word place (word_of set place), written.bound)
+      bound = omega (arith, length-append text (word_text place (word_of set place)), short_word place (word_of set place), written.bound);
     }
 
 pub hex_next : (set : List ℕ) (count left place : ℕ) (text : List ℕ) → left ≡ place + 1 → left < count → HexWritten set count left text
@@ -114,7 +114,7 @@ hex_next set count left place text follows less written = record {
       let rest = flat_map (λ p. 44 ∷ word_text p (word_of set p)) (places_down place) in
       append_assoc (text ++ 44 ∷ []) one rest ∙ append_assoc text (44 ∷ []) (one ++ rest)
       ∙ ap (λ n. text ++ flat_map (λ p. 44 ∷ word_text p (word_of set p)) (places_down n)) (sym (follows ∙ add-one place)) ∙ written.whole less;
-  bound = omega (arith, length-append (text ++ 44 ∷ []) (word_text place (word_of set place)), length-append text (44 ∷ []), short_word place (word_of set place), written.bound)
+  bound = omega (arith, length-append (text ++ 44 ∷ []) (word_text place (word_of set place)), length-append text (44 ∷ []), short_word place (word_of set place), written.bound);
 }
 
 pub hex_written : (set : List ℕ) (count left : ℕ) (text : List ℕ) → count ≡ highest set / 32 + 1 → left ≤ 0 → HexWritten set count left text → text ≡ hex_text set

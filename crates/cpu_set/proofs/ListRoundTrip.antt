@@ -1,10 +1,8 @@
 -- The list text of a set is read as that set.
-use Rattle.std.proofs.Common.{◌≡◌, ◌≢◌, ℕ, zero, suc, ◌+◌, ◌-◌, ◌^◌, ◌<◌, ◌≤◌, Bool, true, false, cond, ◌&&◌, ◌||◌, ◌==◌, nat_lt, nat_le, List, [], ◌∷◌, ◌++◌, length, map, get_or, Option, Some, None, lit<, refl, sym, ap, ◌∙◌, arith, ◌⊎◌, inl, inr, decimal}
-use Rattle.std.specs.Bool.{Decides}
-use Rattle.std.specs.Char.{digit_value}
+use Rattle.std.proofs.Common.{◌≡◌, ℕ, ◌+◌, ◌<◌, ◌≤◌, Bool, true, false, cond, ◌&&◌, ◌||◌, ◌==◌, nat_le, List, [], ◌∷◌, ◌++◌, length, map, get_or, None, refl, sym, ap, ◌∙◌, arith, decimal}
 use Rattle.std.specs.List.{All, AllByRecursion, Contains, flat_map, join_with_byte, list_any}
-use Rattle.std.specs.Str.Parse.{AllDigits, IsNumeral, digits_value}
-use Rattle.std.proofs.lemmas.Bool.{cases_lt, cases_eq, cases_Bool, eq-eqb, ne_eqb, eqb-true, eqb-false, false≢true}
+use Rattle.std.specs.Str.Parse.{AllDigits, digits_value}
+use Rattle.std.proofs.lemmas.Bool.{ne_eqb, eqb-true, eqb-false}
 use Rattle.std.proofs.lemmas.Bool.Decides.{nat_tests}
 use Rattle.std.proofs.lemmas.Fmt.{decimal_is_IsNumeral}
 use Rattle.std.proofs.lemmas.List.{length-append}
@@ -14,15 +12,16 @@ use Rattle.byte_text.proofs.Digits.{digit_at}
 use Rattle.byte_text.specs.declared.numerals.Numeral.TheVariants.{Number}
 use Rattle.byte_text.specs.Cuts.{IsCutAt}
 use Rattle.byte_text.specs.Numerals.{Reads}
-use Rattle.cpu_set.specs.Sets.{has, numbers_where, IsSet}
+use Rattle.cpu_set.specs.Sets.{has, IsSet}
 use Rattle.cpu_set.specs.SetLaws.{numbers_below-same, numbers_where-has}
 use Rattle.cpu_set.specs.Texts.{runs_of, onto_runs, run_text, list_text}
-use Rattle.cpu_set.specs.Readings.{parts_of, items_of, leftmost, list_rule, list_fault, covers, is_in_list, low_end, high_end, low_value, high_value, range_fault, ReadsList}
+use Rattle.cpu_set.specs.Readings.{items_of, leftmost, list_rule, covers, is_in_list, low_value, high_value, ReadsList}
 use Rattle.cpu_set.proofs.HexRoundTrip.{NoComma, parts_of-join}
-use Rattle.cpu_set.proofs.ListSteps.{Ends, whole_ends, cut_ends, rule_whole, rule_cut, range_good, items_some}
+use Rattle.cpu_set.proofs.ListSteps.{whole_ends, cut_ends, rule_whole, rule_cut, range_good, items_some}
 use Rattle.cpu_set.proofs.ListText.{run_some}
 use Rattle.cpu_set.proofs.HexText.{join_first}
 use Rattle.cpu_set.proofs.PartLemmas.{leftmost-good}
+use Rattle.cpu_set.proofs.SetSteps.{or_assoc}
 
 -- ---- runs
 
@@ -37,10 +36,6 @@ one_in n number = grind (arith, nat_tests)
 
 grown_in : (n number first last : ℕ) → first ≡ number + 1 → first ≤ last → (nat_le number n && nat_le n last) ≡ (number == n || (nat_le first n && nat_le n last))
 grown_in n number first last follows order = grind (arith, nat_tests)
-
-or_assoc : (a b c : Bool) → ((a || b) || c) ≡ (a || (b || c))
-or_assoc true b c = refl
-or_assoc false b c = refl
 
 -- a number before the others makes good runs, and they have it besides
 module _ (number : ℕ) (low : number < 4096) where
@@ -99,7 +94,7 @@ one_number n low =
       no_comma = not_digit (decimal n) 44 reads.0.1 (omega arith);
       rule = λ at. rule_whole at (decimal n) no_dash ∙ range_good at (decimal n) (decimal n) n n reads reads (omega arith);
       low = ap (digits_value 10) ends.low_is ∙ reads.1;
-      high = ap (digits_value 10) ends.high_is ∙ reads.1
+      high = ap (digits_value 10) ends.high_is ∙ reads.1;
     }
 
 two_numbers : (first last : ℕ) → first ≤ last → last < 4096 → RunText first last (decimal first ++ 45 ∷ decimal last)
@@ -114,7 +109,7 @@ two_numbers first last order low =
       rule = λ at. rule_cut at (decimal first ++ 45 ∷ decimal last) (decimal first) (decimal last) cut (ne_eqb (length (decimal last)) 0 (λ none. omega (arith, last_reads.0.0)))
           ∙ range_good at (decimal first) (decimal last) first last first_reads last_reads order;
       low = ap (digits_value 10) ends.low_is ∙ first_reads.1;
-      high = ap (digits_value 10) ends.high_is ∙ last_reads.1
+      high = ap (digits_value 10) ends.high_is ∙ last_reads.1;
     }
 
 run_reads : (first last : ℕ) → first ≤ last → last < 4096 → RunText first last (run_text (first, last))
@@ -151,7 +146,7 @@ items_back [] good = refl
 items_back ((first, last) ∷ runs) good =
     let one = run_text (first, last) in
     let long : 0 < length (join_with_byte 44 (one ∷ map run_text runs)) =
-        omega (arith, ap length (join_first one (map run_text runs)), length-append one (flat_map (λ part. 44 ∷ part) (map run_text runs)), run_some first last (omega (arith, good.0.0, good.0.1))) in
+    omega (arith, ap length (join_first one (map run_text runs)), length-append one (flat_map (λ part. 44 ∷ part) (map run_text runs)), run_some first last (omega (arith, good.0.0, good.0.1))) in
     sym (items_some (join_with_byte 44 (one ∷ map run_text runs)) (ne_eqb (length (join_with_byte 44 (one ∷ map run_text runs))) 0 (λ none. omega arith)))
     ∙ parts_of-join one (map run_text runs) (run_reads first last good.0.0 good.0.1).no_comma (no_commas runs good.1)
 
@@ -163,5 +158,5 @@ list_read_back set ok =
     record {
       good = ap (leftmost list_rule 0) items ∙ no_faults 0 (runs_of set) good;
       numbers = sym (numbers_where-has set ok) ∙ numbers_below-same 4096 (has set) (is_in_list (list_text set)) (λ n low.
-          sym (ap (list_any (covers n)) items ∙ covered n (runs_of set) good ∙ runs_any n set below))
+          sym (ap (list_any (covers n)) items ∙ covered n (runs_of set) good ∙ runs_any n set below));
     }

@@ -1,8 +1,8 @@
 -- Writing the list text, run by run from the lowest.
-use Rattle.std.proofs.Common.{◌≡◌, ◌≢◌, ℕ, zero, suc, ◌+◌, ◌-◌, ◌*◌, ◌/◌, ◌%◌, ◌^◌, ◌<◌, ◌≤◌, Bool, true, false, cond, ◌&&◌, ◌==◌, nat_le, List, [], ◌∷◌, ◌++◌, length, map, lit<, refl, sym, ap, ◌∙◌, append_assoc, arith, ◌⊎◌, inl, inr, decimal}
+use Rattle.std.proofs.Common.{◌≡◌, ◌≢◌, ℕ, ◌+◌, ◌*◌, ◌/◌, ◌<◌, ◌≤◌, Bool, true, false, cond, ◌==◌, nat_le, List, [], ◌∷◌, ◌++◌, length, map, refl, sym, ap, ◌∙◌, append_assoc, arith, ◌⊎◌, inl, inr, decimal}
 use Rattle.std.specs.Bool.{Decides}
 use Rattle.std.specs.List.{Contains, join_with_byte, flat_map}
-use Rattle.std.proofs.lemmas.Bool.{cases_lt, eq-eqb, ne_eqb, and_parts, leb-true, false≢true, false_from_ne_true}
+use Rattle.std.proofs.lemmas.Bool.{eq-eqb, ne_eqb, and_parts, leb-true, false≢true, false_from_ne_true}
 use Rattle.std.proofs.lemmas.Fmt.{decimal_digit, decimal_step, decimal_nonempty, length-decimal-le}
 use Rattle.std.proofs.lemmas.List.{append-nil, length-append}
 use Rattle.cpu_set.specs.Sets.{has, IsSet}
@@ -50,7 +50,7 @@ module _ (set : List ℕ) (ok : IsSet set) where
     order = omega (arith, so_far.order);
     limit = omega arith;
     goes_on = λ end rest is. so_far.goes_on end rest
-        (ap (onto_runs last) (ap runs_of (numbers_from-found (last + 1) (last + 1) set ok found (omega arith) (λ n low high. absurd (omega arith))) ∙ is) ∙ onto_next last end rest)
+        (ap (onto_runs last) (ap runs_of (numbers_from-found (last + 1) (last + 1) set ok found (omega arith) (λ n low high. absurd (omega arith))) ∙ is) ∙ onto_next last end rest);
   }
 
   head_among : (from x : ℕ) (xs : List ℕ) → numbers_from from set ≡ x ∷ xs → (has set x ≡ true) × (from ≤ x)
@@ -62,7 +62,7 @@ module _ (set : List ℕ) (ok : IsSet set) where
       → runs_of (numbers_from from set) ≡ (first, last) ∷ runs_of (numbers_from (last + 1) set)
   run_end from first last so_far none is =
       ap runs_of is ∙ so_far.goes_on last (runs_of (numbers_from (last + 1) set)) (alone last (numbers_from (last + 1) set) (λ x xs begins same.
-          false≢true (sym none ∙ ap (has set) (sym same) ∙ (head_among (last + 1) x xs begins).0)))
+      false≢true (sym none ∙ ap (has set) (sym same) ∙ (head_among (last + 1) x xs begins).0)))
 
   pub run_end_past : (last : ℕ) → 4095 ≤ last → has set (last + 1) ≡ false
   run_end_past last past = has-past set (last + 1) ok (omega arith)
@@ -130,7 +130,7 @@ module _ (set : List ℕ) (from first last : ℕ) (text : List ℕ) (written : L
   list_first empty = record {
     whole = inr (omega (arith, run_some first last (omega arith), length-append text (run_text (first, last))), first_whole written.whole);
     bound = omega (arith, run_short first last (omega arith) low, length-append text (run_text (first, last)));
-    limit = omega arith
+    limit = omega arith;
   }
     where
       first_whole : ((text ≡ []) × (runs_of (numbers_from from set) ≡ runs_of set)) ⊎ ((0 < length text) × (text ++ flat_map (λ run. 44 ∷ run_text run) (runs_of (numbers_from from set)) ≡ list_text set))
@@ -146,7 +146,7 @@ module _ (set : List ℕ) (from first last : ℕ) (text : List ℕ) (written : L
   list_next some = record {
     whole = inr (omega (arith, length-append (text ++ 44 ∷ []) (run_text (first, last)), length-append text (44 ∷ [])), next_whole written.whole);
     bound = omega (arith, written.bound, run_short first last (omega arith) low, length-append (text ++ 44 ∷ []) (run_text (first, last)), length-append text (44 ∷ []));
-    limit = omega arith
+    limit = omega arith;
   }
     where
       next_whole : ((text ≡ []) × (runs_of (numbers_from from set) ≡ runs_of set)) ⊎ ((0 < length text) × (text ++ flat_map (λ run. 44 ∷ run_text run) (runs_of (numbers_from from set)) ≡ list_text set))
@@ -156,10 +156,3 @@ module _ (set : List ℕ) (from first last : ℕ) (text : List ℕ) (written : L
           append_assoc (text ++ 44 ∷ []) (run_text (first, last)) (flat_map (λ run. 44 ∷ run_text run) (runs_of (numbers_from (last + 1) set)))
           ∙ append_assoc text (44 ∷ []) (run_text (first, last) ++ flat_map (λ run. 44 ∷ run_text run) (runs_of (numbers_from (last + 1) set)))
           ∙ ap (λ runs. text ++ flat_map (λ run. 44 ∷ run_text run) runs) (sym run_is) ∙ more.1
-
-pub list_written : (set : List ℕ) (from : ℕ) (text : List ℕ) → ListWritten set from text → runs_of (numbers_from from set) ≡ [] → text ≡ list_text set
-list_written set from text written none = finished written.whole
-  where
-    finished : ((text ≡ []) × (runs_of (numbers_from from set) ≡ runs_of set)) ⊎ ((0 < length text) × (text ++ flat_map (λ run. 44 ∷ run_text run) (runs_of (numbers_from from set)) ≡ list_text set)) → text ≡ list_text set
-    finished (inl begun) = begun.0 ∙ ap (λ runs. join_with_byte 44 (map run_text runs)) (sym none ∙ begun.1)
-    finished (inr more) = sym (append-nil text) ∙ ap (λ runs. text ++ flat_map (λ run. 44 ∷ run_text run) runs) (sym none) ∙ more.1

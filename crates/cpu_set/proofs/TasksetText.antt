@@ -1,19 +1,17 @@
 -- Writing the taskset text, digit by digit from the highest.
-use Rattle.std.proofs.Common.{◌≡◌, ◌≢◌, ℕ, zero, suc, ◌+◌, ◌-◌, ◌*◌, ◌/◌, ◌%◌, ◌^◌, ◌<◌, ◌≤◌, Bool, true, false, cond, ◌==◌, List, [], ◌∷◌, ◌++◌, length, map, codes, lit<, refl, sym, ap, ◌∙◌, arith, ◌⊎◌, inl, inr, bit_and, div-add-mod', mod-lt}
+use Rattle.std.proofs.Common.{◌≡◌, ℕ, zero, suc, ◌+◌, ◌*◌, ◌/◌, ◌%◌, ◌^◌, ◌<◌, ◌≤◌, true, false, cond, ◌==◌, List, [], ◌∷◌, ◌++◌, map, codes, lit<, sym, ap, ◌∙◌, arith, inl, inr, bit_and, div-add-mod', mod-lt}
 use Rattle.std.proofs.Math.Nat.{pow-suc, div-div-eq-div-mul, pow-le-pow_right}
-use Rattle.std.proofs.Math.Pow.{pow_mono}
 use Rattle.std.proofs.Math.Numerals.{add-one}
 use Rattle.std.specs.Char.{digit_char}
 use Rattle.std.specs.Int.{bit_at}
 use Rattle.std.specs.Int.Digits.{digits_of}
-use Rattle.std.proofs.lemmas.Bool.{cases_lt, ne_eqb, eq-eqb, false≢true}
+use Rattle.std.proofs.lemmas.Bool.{cases_lt, ne_eqb, false≢true}
 use Rattle.std.proofs.lemmas.Int.Digits.{digits_of_step}
 use Rattle.std.proofs.lemmas.List.{map-append}
 use Rattle.std.proofs.lemmas.Nat.{pow-add, pow_pos}
 use Rattle.std.proofs.lemmas.Nat.Bits.{bit_at_cat_low, bit_at_above, bit_at-zero}
 use Rattle.cpu_set.specs.Sets.{has, IsSet}
-use Rattle.cpu_set.specs.SetLaws.{has-past}
-use Rattle.cpu_set.specs.Bits.{number_with_bits, word_of, mask_of}
+use Rattle.cpu_set.specs.Bits.{word_of, mask_of}
 use Rattle.cpu_set.specs.WordLaws.{is_bit-number_with_bits, number_with_bits-below, is_bit-word_of, same_from_tests}
 use Rattle.cpu_set.specs.Texts.{hex_digits, hex_number, taskset_text, highest}
 use Rattle.cpu_set.proofs.Ends.{highest-among, highest-above}
@@ -40,11 +38,11 @@ pub hex_place : (set : List ℕ) (place word : ℕ) → place < 1024 → word �
 hex_place set place word below is =
     nibble word (place % 8) ∙ ap (λ w. w / 16 ^ (place % 8) % 16) is
     ∙ same_from_tests 4 (word_of set (place / 8) / 16 ^ (place % 8) % 16) (mask_of set / 16 ^ place % 16) (omega arith) (omega arith) (λ bit low.
-        digit_bit (word_of set (place / 8)) (place % 8) bit low
-        ∙ is_bit-word_of set (place / 8) (4 * (place % 8) + bit) (omega arith)
-        ∙ ap (has set) (let same : 32 * (place / 8) + (4 * (place % 8) + bit) ≡ 4 * place + bit = omega arith in same)
-        ∙ sym (is_bit-number_with_bits (has set) 4096 (4 * place + bit) (omega arith))
-        ∙ sym (digit_bit (mask_of set) place bit low))
+    digit_bit (word_of set (place / 8)) (place % 8) bit low
+    ∙ is_bit-word_of set (place / 8) (4 * (place % 8) + bit) (omega arith)
+    ∙ ap (has set) (let same : 32 * (place / 8) + (4 * (place % 8) + bit) ≡ 4 * place + bit = omega arith in same)
+    ∙ sym (is_bit-number_with_bits (has set) 4096 (4 * place + bit) (omega arith))
+    ∙ sym (digit_bit (mask_of set) place bit low))
 
 -- ---- the digits of a number
 
@@ -64,7 +62,7 @@ digits_are zero number low high =
 digits_are (suc count) number low high =
     hex_digits-suc (suc count) number
     ∙ ap (λ digits. digits ++ digit_char (number % 16) ∷ [])
-      (digits_are count (number / 16) (omega (arith, pow-suc 16 count)) (omega (arith, pow-suc 16 (suc count))))
+    (digits_are count (number / 16) (omega (arith, pow-suc 16 count)) (omega (arith, pow-suc 16 (suc count))))
     ∙ sym (map-append digit_char (digits_of 16 (number / 16)) (number % 16 ∷ []))
     ∙ ap (map digit_char) (sym (digits_of_step 16 number (omega arith) (omega (arith, sixteens (suc count)))))
 
@@ -75,22 +73,24 @@ below_power : (total places number : ℕ) → number < 2 ^ total → places ≤ 
 below_power total places number narrow within none =
     let kept : number % 2 ^ places < 2 ^ places = mod-lt number (omega (arith, pow-le-pow_right {n = 2} (lit< tt) {i = 0} {j = places} (omega arith))) in
     let fits : 2 ^ places ≤ 2 ^ total = pow-le-pow_right {n = 2} (lit< tt) within in
-    let same : number ≡ number % 2 ^ places = same_from_tests total number (number % 2 ^ places) narrow (omega arith) (λ bit below. elim (cases_lt bit places)
-        [ inl low ↦ ap (λ value. value == 1) (sym (low_part number places bit low))
-        | inr high ↦ none bit high below ∙ sym (ap (λ value. value == 1) (bit_at_above (number % 2 ^ places) places bit kept high)) ]) in
+    let same : number ≡ number % 2 ^ places = same_from_tests total number (number % 2 ^ places) narrow (omega arith) (λ bit below. elim (cases_lt bit places) [
+      | inl low ↦ ap (λ value. value == 1) (sym (low_part number places bit low))
+      | inr high ↦ none bit high below ∙ sym (ap (λ value. value == 1) (bit_at_above (number % 2 ^ places) places bit kept high))
+    ]) in
     omega arith
 
 mask_below : (set : List ℕ) → IsSet set → highest set < 4096 → mask_of set < 16 ^ suc (highest set / 4)
 mask_below set ok low =
     let power : 2 ^ (4 * suc (highest set / 4)) ≡ 16 ^ suc (highest set / 4) = pow_of_16 (suc (highest set / 4)) in
     rw (← power) (below_power 4096 (4 * suc (highest set / 4)) (mask_of set) (number_with_bits-below (has set) 4096) (omega arith) (λ bit above limit.
-        is_bit-number_with_bits (has set) 4096 bit limit ∙ highest-above set ok bit (omega arith)))
+    is_bit-number_with_bits (has set) 4096 bit limit ∙ highest-above set ok bit (omega arith)))
 
 -- a number with a bit set is at least its power
 at_least_power : (number place : ℕ) → (bit_at number place == 1) ≡ true → 2 ^ place ≤ number
-at_least_power number place one = elim (cases_lt number (2 ^ place))
-  [ inl less ↦ absurd (false≢true (sym (ap (λ value. value == 1) (bit_at_above number place place less (omega arith))) ∙ one))
-  | inr at_least ↦ at_least ]
+at_least_power number place one = elim (cases_lt number (2 ^ place)) [
+  | inl less ↦ absurd (false≢true (sym (ap (λ value. value == 1) (bit_at_above number place place less (omega arith))) ∙ one))
+  | inr at_least ↦ at_least
+]
 
 mask_above : (set : List ℕ) → has set (highest set) ≡ true → highest set < 4096 → 16 ^ (highest set / 4) ≤ mask_of set
 mask_above set among low =

@@ -1,9 +1,7 @@
 -- What the laws of this crate say, each shown by the function that cites it.
-use Rattle.std.specs.Prelude.{ℕ, ◌≡◌, ◌<◌, Bool, true, false, ◌⊎◌, ◌↔◌, List, Contains, IsTrue}
+use Rattle.std.specs.Prelude.{ℕ, ◌≡◌, ◌<◌, Bool, ◌⊎◌, ◌↔◌, List, Contains, IsTrue}
 use Rattle.cpu_set.specs.declared.fault.SetFault.{SetFault}
-use Rattle.cpu_set.specs.Sets.{IsSet, has, numbers_where, union, minus, meet, xor}
-use Rattle.cpu_set.specs.Texts.{hex_text, list_text}
-use Rattle.cpu_set.specs.Readings.{ReadsHex, HexRefused, ReadsList, ListRefused}
+use Rattle.cpu_set.specs.Sets.{IsSet, numbers_where, union, minus, meet, xor}
 
 -- a set has exactly the numbers below 4,096 that pass its test
 pub record HasJust (test : ℕ → Bool) : Type 0 where

@@ -1,5 +1,5 @@
 -- Sets of numbers below 4,096, as ascending lists, after the bitmaps of hwloc 2 (manual, "The bitmap API").
-use Rattle.std.specs.Prelude.{ℕ, ◌<◌, Bool, not, ◌||◌, ◌&&◌, ◌==◌, List, []}
+use Rattle.std.specs.Prelude.{ℕ, ◌<◌, Bool, not, ◌||◌, ◌&&◌, ◌==◌, List}
 use Rattle.std.specs.List.{All, filter, list_any, range_with_len}
 use Rattle.std.specs.List.Sorted.{IsStrictlyIncreasing}
 

@@ -1,5 +1,5 @@
 -- The printed texts of a set. 44 is a comma, 45 a dash, and `0x` stands before hexadecimal digits.
-use Rattle.std.specs.Prelude.{ℕ, ◌+◌, ◌/◌, ◌%◌, suc, zero, if◌then◌else◌, ◌==◌, nat_le, List, [], ◌∷◌, ◌++◌, map, codes, Option, None, unwrap_or}
+use Rattle.std.specs.Prelude.{ℕ, ◌+◌, ◌/◌, ◌%◌, suc, zero, if◌then◌else◌, ◌==◌, nat_le, List, [], ◌∷◌, ◌++◌, map, codes, None, unwrap_or}
 use Rattle.std.specs.Char.{digit_char}
 use Rattle.std.specs.Fmt.{decimal}
 use Rattle.std.specs.Int.Digits.{digits_of}

@@ -3,10 +3,10 @@
 ghost use Rattle.std.specs.Prelude.{◌≡◌, ◌+◌, ◌++◌, ◌<◌, ◌≤◌, [], ◌∷◌, length, decimal, IfOk, OnOk, IfNone, IfSome};
 ghost use Rattle.cpu_set.specs.Texts.{list_text, run_text, runs_of, numbers_from};
 
-use edge_io::OutOfMemory;
 use crate::run::Run;
 use crate::set::CpuSet;
 use byte_text::push_decimal;
+use edge_io::OutOfMemory;
 use std::alloc::Global;
 
 impl CpuSet {

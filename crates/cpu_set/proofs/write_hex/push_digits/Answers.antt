@@ -1,4 +1,4 @@
-use Rattle.std.proofs.Common.{◌-◌, sym, ap, ◌∙◌, arith}
+use Rattle.std.proofs.Common.{◌-◌, ap, ◌∙◌, arith}
 use Rattle.std.specs.Char.{digit_char}
 use Rattle.cpu_set.proofs.HexText.{digits_begin, digits_push, digits_end, nibble}
 use Rattle.cpu_set.proofs.write_hex.push_digits.Goals as goal

@@ -1,4 +1,4 @@
-use Rattle.std.proofs.Common.{◌≡◌, ◌+◌, ◌-◌, ◌≤◌, ◌∷◌, [], ◌++◌, length, refl, sym, ap, ◌∙◌, arith}
+use Rattle.std.proofs.Common.{◌≡◌, ◌-◌, ◌≤◌, ◌∷◌, [], ◌++◌, length, refl, sym, ap, ◌∙◌, arith}
 use Rattle.std.proofs.lemmas.List.{length-append}
 use Rattle.cpu_set.specs.Bits.{word_of}
 use Rattle.cpu_set.specs.Texts.{word_text}
@@ -15,13 +15,18 @@ loop-place-preserved c =
     let place = c.loop-place.place - 1 in
     let one = word_text place (word_of c.args.self.now place) in
     let added : c.word_len-length.result ≡ length one = c.word_len-length.ensures.length ∙ ap (λ w. length (word_text place w)) c.word.ensures in
-    elim c.if-place-count.branch
-    [ then-place-count w ↦ ((text ++ 44 ∷ []) ++ one,
+    elim c.if-place-count.branch [
+      | then-place-count w ↦ (
+        (text ++ 44 ∷ []) ++ one,
         omega (arith, w.length-is, added, c.loop-place.invariant.1, length-append (text ++ 44 ∷ []) one, length-append text (44 ∷ [])),
-        hex_next c.args.self.now c.args.count c.loop-place.place place text (omega arith) (omega (arith, w.if-place-count.true)) c.loop-place.invariant.2)
-    | else-place-count w ↦ (text ++ one,
+        hex_next c.args.self.now c.args.count c.loop-place.place place text (omega arith) (omega (arith, w.if-place-count.true)) c.loop-place.invariant.2,
+      )
+      | else-place-count w ↦ (
+        text ++ one,
         omega (arith, w.length-is, added, c.loop-place.invariant.1, length-append text one),
-        hex_first c.args.self.now c.args.count c.loop-place.place place text c.requires.count (omega arith) (omega (arith, w.if-place-count.false)) c.loop-place.auto.place c.loop-place.invariant.2) ]
+        hex_first c.args.self.now c.args.count c.loop-place.place place text c.requires.count (omega arith) (omega (arith, w.if-place-count.false)) c.loop-place.auto.place c.loop-place.invariant.2,
+      )
+    ]
 
 pub word-requires : goal.word-requires
 word-requires c = omega arith

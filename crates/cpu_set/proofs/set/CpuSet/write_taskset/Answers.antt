@@ -1,8 +1,7 @@
-use Rattle.std.proofs.Common.{◌+◌, ◌-◌, ◌/◌, ◌<◌, ◌∷◌, [], ◌++◌, codes, ap, ◌∙◌, subst, arith}
+use Rattle.std.proofs.Common.{◌+◌, ◌-◌, ◌/◌, codes, ap, ◌∙◌, arith}
 use Rattle.std.specs.Char.{digit_char}
 use Rattle.cpu_set.specs.Bits.{mask_of}
-use Rattle.cpu_set.specs.Texts.{highest}
-use Rattle.cpu_set.proofs.HexText.{DigitsSoFar, digits_begin, digits_push}
+use Rattle.cpu_set.proofs.HexText.{digits_begin, digits_push}
 use Rattle.cpu_set.proofs.TasksetText.{taskset_written}
 use Rattle.cpu_set.proofs.set.CpuSet.write_taskset.Goals as goal
 
