@@ -9,6 +9,7 @@ pub mod MemberLaws
 pub mod NumeralOrder
 pub mod PartLemmas
 pub mod ReadLaws
+pub mod RunLaws
 pub mod Searches
 pub mod SetSteps
 pub mod TasksetText

@@ -18,7 +18,7 @@ use Rattle.cpu_set.specs.Readings.{is_numeral, is_range, range_fault, has_dash, 
 use Rattle.cpu_set.specs.Parts.{parts_left}
 use Rattle.cpu_set.specs.Sets.{has, numbers_where, IsSet}
 use Rattle.cpu_set.specs.SetLaws.{has-numbers_below, numbers_below-same, IsSet-numbers_where, numbers_where-has}
-use Rattle.cpu_set.proofs.PartLemmas.{Decides-is_numeral, none_is, spanned, spanned-parts_of, leftmost-good, leftmost-bad}
+use Rattle.cpu_set.proofs.PartLemmas.{Decides-is_numeral, none_is, spanned, spanned-parts_of, leftmost-good}
 use Rattle.cpu_set.proofs.SetSteps.{and_true, or_false, or_assoc}
 
 -- ---- numerals of an item

@@ -4,7 +4,7 @@ use Rattle.std.specs.Bool.{Decides}
 use Rattle.std.specs.List.{Contains, join_with_byte, flat_map}
 use Rattle.std.proofs.lemmas.Bool.{eq-eqb, ne_eqb, and_parts, leb-true, false≢true, false_from_ne_true}
 use Rattle.std.proofs.lemmas.Fmt.{decimal_digit, decimal_step, decimal_nonempty, length-decimal-le}
-use Rattle.std.proofs.lemmas.List.{append-nil, length-append}
+use Rattle.std.proofs.lemmas.List.{length-append}
 use Rattle.cpu_set.specs.Sets.{has, IsSet}
 use Rattle.cpu_set.specs.SetLaws.{has-filter, has_first, has-past, Decides-has}
 use Rattle.cpu_set.specs.Texts.{numbers_from, runs_of, onto_runs, run_text, list_text}

@@ -1,5 +1,5 @@
 -- The lowest number from a start on, and the highest number, found word by word.
-use Rattle.std.proofs.Common.{◌≡◌, ◌≢◌, ℕ, ◌+◌, ◌-◌, ◌*◌, ◌/◌, ◌%◌, ◌^◌, ◌<◌, ◌≤◌, Bool, true, false, cond, not, ◌&&◌, ◌==◌, nat_le, List, [], ◌∷◌, get_or, refl, sym, ap, ◌∙◌, arith, inl, inr, bit_and, w32}
+use Rattle.std.proofs.Common.{◌≡◌, ◌≢◌, ℕ, ◌+◌, ◌-◌, ◌*◌, ◌/◌, ◌%◌, ◌^◌, ◌<◌, ◌≤◌, Bool, true, false, not, ◌&&◌, ◌==◌, nat_le, List, [], ◌∷◌, get_or, refl, sym, ap, ◌∙◌, arith, inl, inr, bit_and, w32}
 use Rattle.std.specs.Int.{bit_at, trailing_zeros, leading_zeros}
 use Rattle.std.proofs.lemmas.Bool.{cases_lt, and_parts, not-true, le-leb, leb-true, false≢true}
 use Rattle.std.specs.Int.{bit_not}

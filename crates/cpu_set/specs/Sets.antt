@@ -34,4 +34,5 @@ meet one other = numbers_where (λ number. has one number && has other number)
 
 -- the numbers that are in just one of the two
 abbrev pub xor : List ℕ → List ℕ → List ℕ
-xor one other = numbers_where (λ number. (has one number && not (has other number)) || (has other number && not (has one number)))
+xor one other = numbers_where (λ number.
+    (has one number && not (has other number)) || (has other number && not (has one number)))

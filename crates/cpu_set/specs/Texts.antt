@@ -17,21 +17,25 @@ hex_digits (suc count) number = hex_digits count (number / 16) ++ digit_char (nu
 
 -- a word at its place, counted from the last: nothing where it is zero, unless it is the last
 abbrev pub word_text : ℕ → ℕ → List ℕ
-word_text place word = if word == 0 then (if place == 0 then codes "0x0" else []) else codes "0x" ++ hex_digits 8 word
+word_text place word =
+    if word == 0 then (if place == 0 then codes "0x0" else []) else codes "0x" ++ hex_digits 8 word
 
 -- so many places, the highest first
 abbrev pub places_down : ℕ → List ℕ
 places_down zero = []
 places_down (suc place) = place ∷ places_down place
 
--- hexadecimal (this project's profile of hwloc's text): the words from the highest that isn't zero down to word 0
+-- hexadecimal, in this project's profile of hwloc's text: the words from the highest that isn't zero down to word 0
 abbrev pub hex_text : List ℕ → List ℕ
-hex_text set = join_with_byte 44 (map (λ place. word_text place (word_of set place)) (places_down (highest set / 32 + 1)))
+hex_text set =
+    join_with_byte 44 (map (λ place. word_text place (word_of set place)) (places_down (highest set / 32 + 1)))
 
--- the number before the others: at the front of their first run where that begins with the next number, else a run of its own
+-- the number before the others: at the front of their first run where that begins with the next number, else as a run
+-- of its own
 abbrev pub onto_runs : ℕ → List (ℕ × ℕ) → List (ℕ × ℕ)
 onto_runs number [] = (number, number) ∷ []
-onto_runs number ((first, last) ∷ runs) = if first == number + 1 then (number, last) ∷ runs else (number, number) ∷ (first, last) ∷ runs
+onto_runs number ((first, last) ∷ runs) =
+    if first == number + 1 then (number, last) ∷ runs else (number, number) ∷ (first, last) ∷ runs
 
 -- the maximal runs of consecutive numbers of an ascending list, each by its first and its last number
 abbrev pub runs_of : List ℕ → List (ℕ × ℕ)
