@@ -1,0 +1,5 @@
+pub mod Tag
+pub mod Meanings
+pub mod Steps
+pub mod Views
+pub mod Passes

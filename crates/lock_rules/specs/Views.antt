@@ -1,0 +1,57 @@
+-- What the seats of a lock's table know, and what is read off them.
+use Rattle.std.specs.Prelude.{◌≡◌, ℕ, zero, suc, ◌+◌, ◌-◌, Bool, true, false, ◌&&◌, List, [], ◌∷◌, length, if◌then◌else◌, nat_le, nat_lt, ◌==◌, not}
+use Rattle.std.specs.List.{sum_by, count_by}
+use Rattle.atomic_table.specs.Seated.{TableId}
+use Rattle.lock_rules.specs.Tag.{Tag, leaf, fork}
+use Rattle.lock_rules.specs.Meanings.{Place, Waiting, Grip}
+use Rattle.lock_rules.specs.declared.step.Answer.{Answer}
+use Rattle.lock_rules.specs.declared.step.Answer.TheVariants.{Open, No, Yes}
+use Rattle.lock_rules.specs.declared.hold.Algorithm.{Algorithm}
+use Rattle.lock_rules.specs.declared.hold.Algorithm.TheVariants.{Ticket, Mcs, Clh, Hemlock}
+use Rattle.lock_rules.specs.declared.view.Phase.{Phase}
+use Rattle.lock_rules.specs.declared.view.Phase.TheVariants.{Idle, Queued, Holding, Leaving}
+use Rattle.lock_rules.specs.declared.view.View.{View}
+
+-- a seat that is not spent, with its own number alone
+pub record IsPlain (v : View) : Type 0 where
+  pub unspent : v.spent ≡ false
+  pub split : v.from ≡ v.to
+  pub alone : v.joined ≡ []
+  pub nodeless : v.nodes ≡ []
+
+-- the number by which the words of a lock name its holder
+abbrev pub mark_of : Algorithm → View → ℕ
+mark_of Ticket v = v.ticket
+mark_of Mcs v = v.number
+mark_of Clh v = v.node
+mark_of Hemlock v = v.number
+
+abbrev pub is_queued : Phase → Bool
+is_queued Queued = true
+is_queued _ = false
+
+-- what a seat's view means, in the lock with this name
+abbrev pub place_of : Tag → View → Place
+place_of name v = record { lock = name; tag = v.tag.tag; number = v.number }
+
+abbrev pub waiting_of : Tag → View → Waiting
+waiting_of name v = record { place = place_of name v; loads = v.loads; ready = v.ready; entered = is_queued v.phase; preceded = not (v.predecessor == 0); followed = v.followed }
+
+-- the answer of `waiter` as it is noted
+abbrev pub answer_of : Bool → Answer
+answer_of true = Yes
+answer_of false = No
+
+abbrev pub algorithm_number : Algorithm → ℕ
+algorithm_number Ticket = 0
+algorithm_number Mcs = 1
+algorithm_number Clh = 2
+algorithm_number Hemlock = 3
+
+abbrev pub tree_of : List ℕ → Tag
+tree_of [] = leaf 0
+tree_of (n ∷ ns) = fork (leaf n) (tree_of ns)
+
+-- the name of a lock: its algorithm, and what tells its table from all others
+unfoldable pub lock_name : Algorithm → TableId → Tag
+lock_name a z = fork (leaf (algorithm_number a)) (tree_of (z.words ∷ z.slots ∷ z.views_name ∷ z.atom ∷ z.block ∷ z.offset ∷ z.slot_names))
