@@ -11,6 +11,7 @@
 
 mod basic;
 mod cargo;
+mod grip;
 mod hold;
 mod step;
 mod token;
