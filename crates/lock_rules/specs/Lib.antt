@@ -4,3 +4,5 @@ pub mod Steps
 pub mod Views
 pub mod Passes
 pub mod Holds
+pub mod Queue
+pub mod Numbers
