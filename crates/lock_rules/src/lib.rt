@@ -11,6 +11,7 @@
 
 mod basic;
 mod cargo;
+mod deal;
 mod grip;
 mod hold;
 mod step;
@@ -19,6 +20,7 @@ mod view;
 
 pub use basic::Basic;
 pub use cargo::Cargo;
+pub use deal::{Cut, Glue};
 pub use hold::{Algorithm, Grasp, Hold};
 pub use step::{Answer, Refused, Step};
 pub use token::{Gripping, Placed, Polled};

@@ -1,0 +1,4 @@
+pub mod Rule
+pub mod Queue
+pub mod Kinds
+pub mod Tokens

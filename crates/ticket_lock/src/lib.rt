@@ -1,0 +1,6 @@
+//! The Ticket lock.
+#![tactic(auto)]
+
+mod plays;
+
+pub use plays::{AddNext, LoadNext, LoadServing, StoreServing, TicketRule};
