@@ -1,0 +1,234 @@
+-- Each kind of step keeps the rule, and is the event that it is said to be.
+use Rattle.std.proofs.Common.{◌≡◌, ◌≢◌, ◌⊎◌, ℕ, zero, suc, ◌+◌, ◌-◌, ◌%◌, ◌^◌, ◌<◌, ◌≤◌, Bool, true, false, cond, not, ◌==◌, eq-eqb, ne_eqb, List, [], ◌∷◌, ◌++◌, length, map, set, slice_index, slice_get, refl, ap, sym, ◌∙◌, subst, inl, inr, ⊎_elim, arith, Option, Some, None, length-append, length-set}
+use Rattle.std.proofs.lemmas.List.{map-append}
+use Rattle.std.proofs.Math.Nat.{mod-add-mod, mod-mod}
+use Rattle.std.specs.List.{sum_by}
+use mathlib.Core.Option.{some, none, some-injective, some-ne-none}
+use mathlib.Core.Logic.{dite}
+use native.Mathlib.Decide.{ℕ_discrete}
+use lib.ListN.{get_elem?}
+use lib.Seq.{set-get_or}
+use Rattle.atomic_table.specs.Table.{State, Me, step, Act, keeps, takes, gives, stepped, Allows, Splits, Joins, opening, Seen}
+use Rattle.atomic_table.proofs.Lists.{at_set, set_else, at_longer, at_last}
+use Rattle.lock_rules.specs.Tag.{Tag}
+use Rattle.lock_rules.specs.Queue.{IsIn, Enters, Takes, Leaves, Stays}
+use Rattle.lock_rules.specs.Views.{IsPlain, numbers_of, stands_in, answer_of, first_view, without_next, next_split, joined_view, spent_view}
+use Rattle.lock_rules.specs.Numbers.{HasNumbers}
+use Rattle.lock_rules.specs.declared.step.Answer.{Answer}
+use Rattle.lock_rules.specs.declared.step.Answer.TheVariants.{Open, No, Yes}
+use Rattle.lock_rules.specs.declared.view.Phase.{Phase}
+use Rattle.lock_rules.specs.declared.view.Phase.TheVariants.{Idle, Queued, Holding, Leaving}
+use Rattle.lock_rules.specs.declared.view.View.{View}
+use Rattle.lock_rules.proofs.Sums.{sum_set, part_le, parts_le, some_part}
+use Rattle.lock_rules.proofs.Numbers.{numbers_first, numbers_step, numbers_split, numbers_join, others_spent}
+use Rattle.ticket_lock.specs.Queue.{is_busy, is_holding, queue_of}
+use Rattle.ticket_lock.specs.Rule.{words_of, busy, holds, Knows, SeatStands, PlaceStands, IsHome, IsAway, IsTicket}
+use Rattle.ticket_lock.specs.Kinds.{queued_with, not_served, served, others_wait, tested_by, left, Happened, Nothing, entered, missed, took, polled, tested, gave}
+use Rattle.ticket_lock.proofs.Rounds.{next_ticket, one_place, busy_lives, few_seats}
+use Rattle.ticket_lock.proofs.Queues.{number_at, number_is, numbers_stay, names_stay, place_of_busy, queue_is, at_below}
+
+module _ {A : Type 0} where
+  pub set_at : (l : List A) (i : ℕ) (a b : A) → get_elem? l i ≡ some a → get_elem? (set l i b) i ≡ some b
+  set_at [] i a b e = absurd (some-ne-none a (sym e))
+  set_at (x ∷ xs) zero a b e = refl
+  set_at (x ∷ xs) (suc i) a b e = set_at xs i a b e
+
+  pub at_end : (l : List A) (a b : A) (i : ℕ) → get_elem? (l ++ a ∷ []) i ≡ some b → (get_elem? l i ≡ some b) ⊎ ((i ≡ length l) × (a ≡ b))
+  at_end [] a b zero e = inr (refl, some-injective a b e)
+  at_end [] a b (suc i) e = absurd (some-ne-none b (sym e))
+  at_end (x ∷ xs) a b zero e = inl e
+  at_end (x ∷ xs) a b (suc i) e = ⊎_elim (λ t. inl t) (λ (t : (i ≡ length xs) × (a ≡ b)). inr (ap suc t.0, t.1)) (at_end xs a b i e)
+
+  -- two lists with the head a, which is in the first
+  pub head_cut : (l : List A) (a : A) → get_elem? l 0 ≡ some a → (t : List A) × (l ≡ a ∷ t)
+  head_cut [] a e = absurd (some-ne-none a (sym e))
+  head_cut (x ∷ xs) a e = (xs, λ i. some-injective x a e i ∷ xs)
+
+-- an element of a mapped list
+mapped : (f : ℕ → ℕ) (l : List ℕ) (i x : ℕ) → slice_get (map f l) i ≡ Some x → (j : ℕ) × (get_elem? l i ≡ some j) × (f j ≡ x)
+mapped f [] i x e = absurd (cc)
+mapped f (y ∷ ys) zero x e = (y, refl, cc)
+mapped f (y ∷ ys) (suc i) x e = mapped f ys i x e
+
+busy_is : (v : View) (p : Phase) → v.phase ≡ p → busy v ≡ cond (is_busy p) 1 0
+busy_is v p e = ap (λ (x : Phase). cond (is_busy x) 1 0) e
+
+holds_is : (v : View) (p : Phase) → v.phase ≡ p → holds v ≡ cond (is_holding p) 1 0
+holds_is v p e = ap (λ (x : Phase). cond (is_holding x) 1 0) e
+
+knows_as : (first : ℕ) (seats : List ℕ) (seat : ℕ) (v : View) (p : Phase) → v.phase ≡ p → Knows first seats seat v v.phase → Knows first seats seat v p
+knows_as first seats seat v p e k = subst (Knows first seats seat v) e k
+
+-- one more pass at the end changes nothing for the others
+knows_longer : (first : ℕ) (seats : List ℕ) (new seat : ℕ) (v : View) (p : Phase) → Knows first seats seat v p → Knows first (seats ++ new ∷ []) seat v p
+knows_longer first seats new seat v Idle k = tt
+knows_longer first seats new seat v Queued k = (k.0, at_longer seats (new ∷ []) k.0 seat k.1, k.2)
+knows_longer first seats new seat v Holding k = (at_longer seats (new ∷ []) 0 seat k.0, k.1, λ e. let a = k.2 e in omega (arith, length-append seats (new ∷ [])))
+knows_longer first seats new seat v Leaving k = k
+
+-- the head has gone
+knows_next : (first : ℕ) (gone : ℕ) (rest : List ℕ) (seat : ℕ) (v : View) (p : Phase) → seat ≢ gone → Knows first (gone ∷ rest) seat v p → Knows (first + 1) rest seat v p
+knows_next first gone rest seat v Idle ne k = tt
+knows_next first gone rest seat v Queued ne (zero, at, e) = absurd (ne (sym (some-injective gone seat at)))
+knows_next first gone rest seat v Queued ne (suc i, at, e) = let s : first + suc i ≡ first + 1 + i = omega arith in (i, at, e ∙ ap (λ (x : ℕ). x % 2 ^ 64) s)
+knows_next first gone rest seat v Holding ne k = absurd (ne (sym (some-injective gone seat k.0)))
+knows_next first gone rest seat v Leaving ne k = k
+
+place_kept : (views : List View) (id : ℕ) (w : View) (first i j : ℕ) → j ≢ id → PlaceStands views first i j → PlaceStands (set views id w) first i j
+place_kept views id w first i j ne p = record { view = p.view; at = set_else views id j w ne ∙ p.at; in_queue = p.in_queue; ticket = p.ticket }
+
+-- the place of a seat that stays busy with its ticket
+place_same : (views : List View) (id : ℕ) (v w : View) → get_elem? views id ≡ some v → (is_busy v.phase ≡ true → is_busy w.phase ≡ true) → w.ticket ≡ v.ticket
+    → (first i j : ℕ) → PlaceStands views first i j → PlaceStands (set views id w) first i j
+place_same views id v w at b t first i j p = dite (ℕ_discrete j id)
+    (λ e. let same : p.view ≡ v = some-injective p.view v (sym p.at ∙ ap (get_elem? views) e ∙ at) in record {
+      view = w;
+      at = ap (get_elem? (set views id w)) e ∙ set_at views id v w at;
+      in_queue = b (sym (ap (λ (x : View). is_busy x.phase) same) ∙ p.in_queue);
+      ticket = t ∙ sym (ap (λ (x : View). x.ticket) same) ∙ p.ticket;
+    })
+    (λ ne. place_kept views id w first i j ne p)
+
+module _ {V : Type 0} (fit : V → Type 0) (tag_of : V → Tag) (parked : V → Bool) (n : ℕ) (tag : Tag) where
+  abbrev St : Type 0
+  St = State (Option V) View
+
+  abbrev Rule : St → Type 0
+  Rule = IsTicket fit tag_of parked n tag
+
+  abbrev Homes : Type 0
+  Homes = List (mathlib.Core.Option.Option (Option V))
+
+  abbrev Slot : List ℕ → List View → Homes → Type 0
+  Slot seats views homes = IsHome fit tag_of parked tag seats views homes ⊎ IsAway views homes
+
+  abbrev after_step : List ℕ → Homes → List View → ℕ → View → St
+  after_step words homes views id w = record { words = words; homes = homes; views = set views id w }
+
+  -- the rule after a step of the seat id, from its view v to w
+  abbrev step_rule : (s : St) (r : Rule s) (id : ℕ) (v w : View) (words : List ℕ) (homes : Homes) (first : ℕ) (seats : List ℕ) → get_elem? s.views id ≡ some v
+      → words ≡ words_of first (length seats) → length seats + busy v ≡ length r.seats + busy w
+      → numbers_of w ≡ numbers_of v → ((k : ℕ) → stands_in k w ≡ stands_in k v) → SeatStands tag first seats id w
+      → ((j : ℕ) (u : View) → j ≢ id → get_elem? s.views j ≡ some u → SeatStands tag first seats j u)
+      → ((i j : ℕ) → get_elem? seats i ≡ some j → PlaceStands (set s.views id w) first i j)
+      → Slot seats (set s.views id w) homes → Rule (after_step words homes s.views id w)
+  step_rule s r id v w words homes first seats at told count size stand mine others places slot = record {
+    first = first;
+    seats = seats;
+    few = r.few;
+    words = told;
+    counted = let t = sum_set busy s.views id v w at in omega (arith, t, count, r.counted);
+    numbers = numbers_step n s.views id v w at size stand r.numbers;
+    each_seat = λ j u e. ⊎_elim (λ (t : (j ≡ id) × (w ≡ u)). subst (λ (x : ℕ × View). SeatStands tag first seats x.0 x.1) (λ i. (sym t.0 i, t.1 i)) mine)
+        (λ (t : (j ≢ id) × (get_elem? s.views j ≡ some u)). others j u t.0 t.1) (at_set s.views id j w u e);
+    each_place = places;
+    slot = slot;
+  }
+
+  -- the queue of a state that the rule allows after a step which leaves the seat's number
+  queue_after : (s s' : St) (r' : Rule s') (id : ℕ) (v w : View) → get_elem? s.views id ≡ some v → s'.views ≡ set s.views id w → w.number ≡ v.number
+      → queue_of s'.words s'.views ≡ map (number_at s.views) r'.seats
+  queue_after s s' r' id v w at same num =
+      queue_is fit tag_of parked n tag s' r' ∙ ap (λ (vs : List View). map (number_at vs) r'.seats) same
+      ∙ names_stay (number_at (set s.views id w)) (number_at s.views) (numbers_stay s.views id v w at num) r'.seats
+
+  happens : (event : ℕ → List ℕ → List ℕ → Type 0) (word found now id : ℕ) (v w : View) (s : St) (words : List ℕ) (homes : Homes) → Rule s → Rule (after_step words homes s.views id w)
+      → get_elem? s.views id ≡ some v → slice_index s.words word ≡ found → slice_index words word ≡ now
+      → event v.number (queue_of s.words s.views) (queue_of words (set s.views id w)) → Happened fit tag_of parked event word found now v w
+  happens event word found now id v w s words homes r r' at was became did = record {
+    n = n;
+    tag = tag;
+    seat = id;
+    state = s;
+    next_state = after_step words homes s.views id w;
+    allowed = r;
+    next_allowed = r';
+    knew = at;
+    knows = set_at s.views id v w at;
+    was = was;
+    became = became;
+    queue = did;
+  }
+
+  abbrev word_is : (s : St) (r : Rule s) (i : ℕ) → slice_index s.words i ≡ slice_index (words_of r.first (length r.seats)) i
+  word_is s r i = ap (λ (ws : List ℕ). slice_index ws i) r.words
+
+  -- a load leaves the words
+  reread : (s : St) (r : Rule s) (i : ℕ) → set s.words i (slice_index s.words i) ≡ words_of r.first (length r.seats)
+  reread s r i = set-get_or s.words i 0 ∙ r.words
+
+  -- Two seats that are not spent do not have one number
+  one_number : (s : St) (r : Rule s) (id j : ℕ) (v u : View) → get_elem? s.views id ≡ some v → get_elem? s.views j ≡ some u → v.spent ≡ false → u.spent ≡ false → j ≢ id → ¬ (u.number ≡ v.number)
+  one_number s r id j v u at at' live live' ne e =
+      let p = parts_le (stands_in v.number) s.views id j v u (λ q. ne (sym q)) at at' in
+      let a : (v.number == v.number) ≡ true = eq-eqb v.number v.number refl in
+      let b : (u.number == v.number) ≡ true = eq-eqb u.number v.number e in
+      let x : 1 ≤ stands_in v.number v = rw (live, a) (omega arith) in
+      let y : 1 ≤ stands_in v.number u = rw (live', b) (omega arith) in
+      let c = r.numbers.once v.number in
+      let d : cond (Rattle.std.proofs.Common.nat_lt v.number n) 1 0 ≤ 1 = elim (Rattle.std.proofs.Common.nat_lt v.number n) as (λ b. cond b 1 0 ≤ 1) [ true ↦ omega arith | false ↦ omega arith ] in
+      omega (arith, p, x, y, c, d)
+
+  -- an idle pass is not in the queue
+  not_in : (s : St) (r : Rule s) (id : ℕ) (v : View) → get_elem? s.views id ≡ some v → v.phase ≡ Idle → v.spent ≡ false → ¬ IsIn v.number (queue_of s.words s.views)
+  not_in s r id v at idle live (i, e) =
+      let e' : slice_get (map (number_at s.views) r.seats) i ≡ Some v.number = ap (λ (q : List ℕ). slice_get q i) (sym (queue_is fit tag_of parked n tag s r)) ∙ e in
+      let m = mapped (number_at s.views) r.seats i v.number e' in
+      let p = r.each_place i m.0 m.1 in
+      let b = busy_lives tag r.first r.seats m.0 p.view (r.each_seat m.0 p.view p.at) p.in_queue in
+      let ne : m.0 ≢ id = λ q. (let same : p.view ≡ v = some-injective p.view v (sym p.at ∙ ap (get_elem? s.views) q ∙ at) in
+          let f : is_busy v.phase ≡ true = sym (ap (λ (x : View). is_busy x.phase) same) ∙ p.in_queue in
+          let g : is_busy v.phase ≡ false = ap is_busy idle in absurd cc) in
+      one_number s r id m.0 v p.view at p.at live b ne (sym (number_is s.views m.0 p.view p.at) ∙ m.2)
+
+  adds : (id : ℕ) (me : Me (Option V) View) → me.0.phase ≡ Idle → me.0.spent ≡ false → Allows Rule 1 id me 0 (λ x. (x + 1) % 2 ^ 64) (entered fit tag_of parked (step 1 0 1 0 none) me)
+  adds id me idle live s r count at low =
+      let v : View = me.0 in
+      let found : ℕ = slice_index s.words 0 in
+      let w : View = queued_with v found in
+      let long : length (r.seats ++ id ∷ []) ≡ length r.seats + 1 = omega (arith, length-append r.seats (id ∷ [])) in
+      let more : (found + 1) % 2 ^ 64 ≡ (r.first + length (r.seats ++ id ∷ [])) % 2 ^ 64 =
+          ap (λ (x : ℕ). (x + 1) % 2 ^ 64) (word_is s r 0) ∙ next_ticket r.first (length r.seats) ∙ ap (λ (x : ℕ). (r.first + x) % 2 ^ 64) (sym long) in
+      let words : List ℕ = set s.words 0 ((found + 1) % 2 ^ 64) in
+      let told : words ≡ words_of r.first (length (r.seats ++ id ∷ [])) =
+          ap (λ (ws : List ℕ). set ws 0 ((found + 1) % 2 ^ 64)) r.words ∙ (λ i. more i ∷ (r.first % 2 ^ 64) ∷ []) in
+      let b = busy_is v Idle idle in
+      let h = holds_is v Idle idle in
+      let r' : Rule (after_step words s.homes s.views id w) = step_rule s r id v w words s.homes r.first (r.seats ++ id ∷ []) at told (omega (arith, long, b)) refl (λ k. refl)
+          (record { knows = (length r.seats, at_last r.seats id (length r.seats) refl, word_is s r 0); tagged = (r.each_seat id v at).tagged; ended = λ e. absurd (let x : false ≡ true = sym live ∙ e in cc) })
+          (λ j u ne e. let st = r.each_seat j u e in record { knows = knows_longer r.first r.seats id j u u.phase st.knows; tagged = st.tagged; ended = st.ended })
+          (λ i j e. ⊎_elim
+              (λ (e' : get_elem? r.seats i ≡ some j). let p = r.each_place i j e' in
+                  let ne : j ≢ id = λ q. (let same : p.view ≡ v = some-injective p.view v (sym p.at ∙ ap (get_elem? s.views) q ∙ at) in
+                      let f : is_busy v.phase ≡ true = sym (ap (λ (x : View). is_busy x.phase) same) ∙ p.in_queue in
+                      let g : is_busy v.phase ≡ false = ap is_busy idle in absurd cc) in
+                  place_kept s.views id w r.first i j ne p)
+              (λ (t : (i ≡ length r.seats) × (id ≡ j)). record {
+                view = w;
+                at = ap (get_elem? (set s.views id w)) (sym t.1) ∙ set_at s.views id v w at;
+                in_queue = refl;
+                ticket = word_is s r 0 ∙ ap (λ (x : ℕ). (r.first + x) % 2 ^ 64) (sym t.0);
+              })
+              (at_end r.seats id j i e))
+          (⊎_elim
+              (λ (home : IsHome fit tag_of parked tag r.seats s.views s.homes). inl (record {
+                value = home.value;
+                slot = home.slot;
+                fits = home.fits;
+                tagged = home.tagged;
+                relied_on = λ e. omega (arith, long);
+                free = let t = sum_set holds s.views id v w at in let f = home.free in omega (arith, t, h, f);
+              }))
+              (λ (away : IsAway s.views s.homes). inr (record { slot = away.slot; held = let t = sum_set holds s.views id v w at in let f = away.held in omega (arith, t, h, f) }))
+              r.slot) in
+      let q = queue_after s (after_step words s.homes s.views id w) r' id v w at refl refl in
+      let q' = queue_is fit tag_of parked n tag s r in
+      let m : map (number_at s.views) (r.seats ++ id ∷ []) ≡ queue_of s.words s.views ++ v.number ∷ [] =
+          map-append (number_at s.views) r.seats (id ∷ []) ∙ (λ i. sym q' i ++ number_is s.views id v at i ∷ []) in
+      (
+        w,
+        keeps,
+        tt,
+        r',
+        (refl, happens Enters 0 found ((found + 1) % 2 ^ 64) id v w s words s.homes r r' at refl (ap (λ (ws : List ℕ). slice_index ws 0) told ∙ sym more) (not_in s r id v at idle live, q ∙ m)),
+      )

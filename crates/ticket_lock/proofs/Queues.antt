@@ -87,7 +87,7 @@ module _ (first : ℕ) (seats : List ℕ) (seat : ℕ) (v : View) where
   has_place Holding k b = let z : first ≡ first + 0 = omega arith in (0, k.0, k.1 ∙ ap (λ (x : ℕ). x % 2 ^ 64) z)
   has_place Leaving k b = absurd k
 
-at_below : (l : List ℕ) (i x : ℕ) → get_elem? l i ≡ some x → i < length l
+pub at_below : (l : List ℕ) (i x : ℕ) → get_elem? l i ≡ some x → i < length l
 at_below [] i x e = absurd (some-ne-none x (sym e))
 at_below (y ∷ ys) zero x e = omega arith
 at_below (y ∷ ys) (suc i) x e = let r = at_below ys i x e in omega arith

@@ -44,6 +44,12 @@ pub record PlaceStands (views : List View) (first i seat : ℕ) : Type 0 where
   pub in_queue : is_busy view.phase ≡ true
   pub ticket : view.ticket ≡ (first + i) % 2 ^ 64
 
+module _ {V : Type 0} where
+  -- the slot away with a holder
+  pub record IsAway (views : List View) (homes : List (mathlib.Core.Option.Option (Option V))) : Type 0 where
+    pub slot : homes ≡ none ∷ []
+    pub held : sum_by holds views ≡ 1
+
 module _ {V : Type 0} (fit : V → Type 0) (tag_of : V → Tag) (parked : V → Bool) where
   -- the slot with a value at home, and no holder
   pub record IsHome (tag : Tag) (seats : List ℕ) (views : List View) (homes : List (mathlib.Core.Option.Option (Option V))) : Type 0 where
@@ -53,11 +59,6 @@ module _ {V : Type 0} (fit : V → Type 0) (tag_of : V → Tag) (parked : V → 
     pub tagged : tag_of value ≡ tag
     pub relied_on : parked value ≡ true → 0 < length seats
     pub free : sum_by holds views ≡ 0
-
-  -- the slot away with a holder
-  pub record IsAway (views : List View) (homes : List (mathlib.Core.Option.Option (Option V))) : Type 0 where
-    pub slot : homes ≡ none ∷ []
-    pub held : sum_by holds views ≡ 1
 
   -- the rule of a lock that was made with n passes and a value of this tag
   pub record IsTicket (n : ℕ) (tag : Tag) (s : State (Option V) View) : Type 0 where
