@@ -56,6 +56,12 @@ busy_is v p e = ap (λ (x : Phase). cond (is_busy x) 1 0) e
 holds_is : (v : View) (p : Phase) → v.phase ≡ p → holds v ≡ cond (is_holding p) 1 0
 holds_is v p e = ap (λ (x : Phase). cond (is_holding x) 1 0) e
 
+holding : (p : Phase) → 0 < cond (is_holding p) 1 0 → p ≡ Holding
+holding Idle h = absurd (omega arith)
+holding Queued h = absurd (omega arith)
+holding Holding h = refl
+holding Leaving h = absurd (omega arith)
+
 knows_as : (first : ℕ) (seats : List ℕ) (seat : ℕ) (v : View) (p : Phase) → v.phase ≡ p → Knows first seats seat v v.phase → Knows first seats seat v p
 knows_as first seats seat v p e k = subst (Knows first seats seat v) e k
 
@@ -232,3 +238,118 @@ module _ {V : Type 0} (fit : V → Type 0) (tag_of : V → Tag) (parked : V → 
         r',
         (refl, happens Enters 0 found ((found + 1) % 2 ^ 64) id v w s words s.homes r r' at refl (ap (λ (ws : List ℕ). slice_index ws 0) told ∙ sym more) (not_in s r id v at idle live, q ∙ m)),
       )
+
+  -- The first place is that of a holder, so nobody else holds beside a seat that is first
+  holder_first : (s : St) (r : Rule s) → IsAway s.views s.homes → (j : ℕ) × (v : View) × (get_elem? s.views j ≡ some v) × (v.phase ≡ Holding) × (get_elem? r.seats 0 ≡ some j)
+  holder_first s r away =
+      let h = away.held in
+      let p = some_part holds s.views (omega arith) in
+      let k = (r.each_seat p.0 p.1 p.2).knows in
+      let held : p.1.phase ≡ Holding = holding p.1.phase p.3 in
+      (p.0, p.1, p.2, held, (knows_as r.first r.seats p.0 p.1 Holding held k).0)
+
+  -- the queue where a step leaves the seats
+  same_queue : (s : St) (r : Rule s) (s' : St) (r' : Rule s') (id : ℕ) (v w : View) → get_elem? s.views id ≡ some v → s'.views ≡ set s.views id w → w.number ≡ v.number → r'.seats ≡ r.seats
+      → queue_of s'.words s'.views ≡ queue_of s.words s.views
+  same_queue s r s' r' id v w at same num seats =
+      queue_after s s' r' id v w at same num ∙ ap (map (number_at s.views)) seats ∙ sym (queue_is fit tag_of parked n tag s r)
+
+  -- the head's pass is the head of the queue
+  head_is : (s : St) (r : Rule s) (id : ℕ) (v : View) → get_elem? s.views id ≡ some v → get_elem? r.seats 0 ≡ some id → slice_get (queue_of s.words s.views) 0 ≡ Some v.number
+  head_is s r id v at first =
+      let c = head_cut r.seats id first in
+      ap (λ (q : List ℕ). slice_get q 0) (queue_is fit tag_of parked n tag s r ∙ ap (map (number_at s.views)) c.1) ∙ ap Some (number_is s.views id v at)
+
+  -- a load after which the seat is in the phase that it was in
+  abbrev loads : (id : ℕ) (v w : View) (s : St) (r : Rule s) (i : ℕ) → get_elem? s.views id ≡ some v → w.phase ≡ v.phase → w.ticket ≡ v.ticket → w.spent ≡ v.spent → w.tag.tag ≡ v.tag.tag
+      → numbers_of w ≡ numbers_of v → ((k : ℕ) → stands_in k w ≡ stands_in k v) → Knows r.first r.seats id w w.phase
+      → Rule (after_step (set s.words i (slice_index s.words i)) s.homes s.views id w)
+  loads id v w s r i at phase ticket spent tag_is size stand knows =
+      let b : busy w ≡ busy v = ap (λ (p : Phase). cond (is_busy p) 1 0) phase in
+      let h : holds w ≡ holds v = ap (λ (p : Phase). cond (is_holding p) 1 0) phase in
+      let st = r.each_seat id v at in
+      step_rule s r id v w (set s.words i (slice_index s.words i)) s.homes r.first r.seats at (reread s r i) (omega (arith, b)) size stand
+      (record { knows = knows; tagged = λ e. tag_is ∙ st.tagged (sym spent ∙ e); ended = λ e. phase ∙ st.ended (sym spent ∙ e) })
+      (λ j u ne e. r.each_seat j u e)
+      (λ k j e. place_same s.views id v w at (λ e'. ap is_busy phase ∙ e') ticket r.first k j (r.each_place k j e))
+      (⊎_elim
+          (λ (home : IsHome fit tag_of parked tag r.seats s.views s.homes). inl (record {
+            value = home.value;
+            slot = home.slot;
+            fits = home.fits;
+            tagged = home.tagged;
+            relied_on = home.relied_on;
+            free = let t = sum_set holds s.views id v w at in let f = home.free in omega (arith, t, h, f);
+          }))
+          (λ (away : IsAway s.views s.homes). inr (record { slot = away.slot; held = let t = sum_set holds s.views id v w at in let f = away.held in omega (arith, t, h, f) }))
+          r.slot)
+
+  misses : (id : ℕ) (me : Me (Option V) View) (s : St) → me.0.phase ≡ Queued → Rule s → get_elem? s.views id ≡ some me.0
+      → (w : View) × (a : Act (Option V)) × Rattle.atomic_table.specs.Table.Valid s.homes me.1 a × Rule (stepped s 1 (slice_index s.words 1) id me.1 w a)
+      × missed fit tag_of parked me (slice_index s.words 1) (w, Rattle.atomic_table.specs.Table.carried_after me.1 a)
+  misses id me s queued r at =
+      let v : View = me.0 in
+      let w : View = not_served v in
+      let k = knows_as r.first r.seats id v Queued queued (r.each_seat id v at).knows in
+      let k' : Knows r.first r.seats id w v.phase = subst (Knows r.first r.seats id w) (sym queued) k in
+      let r' : Rule (after_step (set s.words 1 (slice_index s.words 1)) s.homes s.views id w) = loads id v w s r 1 at refl refl refl refl refl (λ x. refl) k' in
+      let q = same_queue s r (after_step (set s.words 1 (slice_index s.words 1)) s.homes s.views id w) r' id v w at refl refl refl in
+      let same = ap (λ (ws : List ℕ). slice_index ws 1) (set-get_or s.words 1 0) in
+      (w, keeps, tt, r', (refl, happens Nothing 1 (slice_index s.words 1) (slice_index s.words 1) id v w s (set s.words 1 (slice_index s.words 1)) s.homes r r' at refl same q))
+
+  takes_it : (id : ℕ) (me : Me (Option V) View) (s : St) → me.0.phase ≡ Queued → (r : Rule s) → get_elem? s.views id ≡ some me.0 → get_elem? r.seats 0 ≡ some id → me.0.ticket ≡ r.first % 2 ^ 64
+      → IsHome fit tag_of parked tag r.seats s.views s.homes
+      → (w : View) × (a : Act (Option V)) × Rattle.atomic_table.specs.Table.Valid s.homes me.1 a × Rule (stepped s 1 (slice_index s.words 1) id me.1 w a)
+      × took fit tag_of parked me (slice_index s.words 1) (w, Rattle.atomic_table.specs.Table.carried_after me.1 a)
+  takes_it id me s queued r at first ticket home =
+      let v : View = me.0 in
+      let w : View = served v in
+      let st = r.each_seat id v at in
+      let live : v.spent ≡ false = busy_lives tag r.first r.seats id v st (ap is_busy queued) in
+      let b = busy_is v Queued queued in
+      let h = holds_is v Queued queued in
+      let words : List ℕ = set s.words 1 (slice_index s.words 1) in
+      let homes : Homes = set s.homes 0 none in
+      let slot : homes ≡ none ∷ [] = ap (λ (hs : Homes). set hs 0 none) home.slot in
+      let held : sum_by holds (set s.views id w) ≡ 1 = let t = sum_set holds s.views id v w at in let f = home.free in omega (arith, t, h, f) in
+      let r' : Rule (after_step words homes s.views id w) = step_rule s r id v w words homes r.first r.seats at (reread s r 1) (omega (arith, b)) refl (λ x. refl)
+          (record { knows = (first, ticket, λ e. absurd (cc)); tagged = st.tagged; ended = λ e. absurd (let x : false ≡ true = sym live ∙ e in cc) })
+          (λ j u ne e. r.each_seat j u e)
+          (λ i j e. place_same s.views id v w at (λ _. refl) refl r.first i j (r.each_place i j e))
+          (inr (record { slot = slot; held = held })) in
+      let q = same_queue s r (after_step words homes s.views id w) r' id v w at refl refl refl in
+      let same = ap (λ (ws : List ℕ). slice_index ws 1) (set-get_or s.words 1 0) in
+      (
+        w,
+        takes 0 (Some home.value),
+        ap (λ (hs : Homes). get_elem? hs 0) home.slot,
+        r',
+        (home.value, home.fits, home.tagged ∙ sym (st.tagged live), refl, happens Takes 1 (slice_index s.words 1) (slice_index s.words 1) id v w s words homes r r' at refl same (head_is s r id v at first, q)),
+      )
+
+  -- where the ticket is served, the pass is the head
+  first_served : (s : St) (r : Rule s) (id : ℕ) (v : View) → get_elem? s.views id ≡ some v → v.phase ≡ Queued → slice_index s.words 1 ≡ v.ticket → get_elem? r.seats 0 ≡ some id
+  first_served s r id v at queued e =
+      let k = knows_as r.first r.seats id v Queued queued (r.each_seat id v at).knows in
+      let l = at_below r.seats k.0 id k.1 in
+      let f = few_seats fit tag_of parked n tag s r in
+      let g = r.few in
+      let z : r.first + 0 ≡ r.first = omega arith in
+      let same : k.0 ≡ 0 = one_place r.first k.0 0 (omega arith) (omega arith) (sym k.2 ∙ sym e ∙ word_is s r 1 ∙ ap (λ (x : ℕ). x % 2 ^ 64) (sym z)) in
+      ap (get_elem? r.seats) (sym same) ∙ k.1
+
+  -- nobody holds before a queued head takes
+  home_before : (s : St) (r : Rule s) (id : ℕ) (v : View) → get_elem? s.views id ≡ some v → v.phase ≡ Queued → get_elem? r.seats 0 ≡ some id → IsHome fit tag_of parked tag r.seats s.views s.homes
+  home_before s r id v at queued first = ⊎_elim (λ home. home) (λ (away : IsAway s.views s.homes).
+      let h = holder_first s r away in
+      let same : h.0 ≡ id = some-injective h.0 id (sym h.4 ∙ first) in
+      let one : h.1 ≡ v = some-injective h.1 v (sym h.2 ∙ ap (get_elem? s.views) same ∙ at) in
+      let p : Holding ≡ Queued = sym h.3 ∙ ap (λ (x : View). x.phase) one ∙ queued in absurd cc) r.slot
+
+  polls : (id : ℕ) (me : Me (Option V) View) → me.0.phase ≡ Queued → Allows Rule 1 id me 1 (λ x. x) (polled fit tag_of parked (step 1 1 0 0 none) me)
+  polls id me queued s r count at low = dite (ℕ_discrete (slice_index s.words 1) me.0.ticket)
+      (λ e.
+          let first = first_served s r id me.0 at queued e in
+          let did = takes_it id me s queued r at first (sym e ∙ word_is s r 1) (home_before s r id me.0 at queued first) in
+          (did.0, did.1, did.2, did.3, (λ _. did.4, λ ne. absurd (ne e))))
+      (λ ne. let did = misses id me s queued r at in (did.0, did.1, did.2, did.3, (λ e. absurd (ne e), λ _. did.4)))

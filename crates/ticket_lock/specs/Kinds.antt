@@ -36,6 +36,10 @@ tested_by v next = record v { loads = v.loads + 1; tested = answer_of (others_wa
 abbrev pub left : View → View
 left v = record v { phase = Idle }
 
+-- no event
+abbrev pub Nothing : ℕ → List ℕ → List ℕ → Type 0
+Nothing p = Stays
+
 module _ {V : Type 0} (fit : V → Type 0) (tag_of : V → Tag) (parked : V → Bool) where
   -- A step of a seat whose view was `before` and is `after`: in some state of the table that the rule allows, the word with this index was `found` and became `now`,
   -- and the queue changed as the event says
@@ -52,10 +56,6 @@ module _ {V : Type 0} (fit : V → Type 0) (tag_of : V → Tag) (parked : V → 
     pub was : slice_index state.words word ≡ found
     pub became : slice_index next_state.words word ≡ now
     pub queue : event before.number (queue_of state.words state.views) (queue_of next_state.words next_state.views)
-
-  -- no event
-  abbrev pub Nothing : ℕ → List ℕ → List ℕ → Type 0
-  Nothing p = Stays
 
   abbrev Seated : Type 0
   Seated = Me (Option V) View
