@@ -353,3 +353,95 @@ module _ {V : Type 0} (fit : V → Type 0) (tag_of : V → Tag) (parked : V → 
           let did = takes_it id me s queued r at first (sym e ∙ word_is s r 1) (home_before s r id me.0 at queued first) in
           (did.0, did.1, did.2, did.3, (λ _. did.4, λ ne. absurd (ne e))))
       (λ ne. let did = misses id me s queued r at in (did.0, did.1, did.2, did.3, (λ e. absurd (ne e), λ _. did.4)))
+
+  -- where the next ticket isn't the one after the holder's, another pass is queued
+  others_behind : (s : St) (r : Rule s) (v : View) → 0 < length r.seats → v.ticket ≡ r.first % 2 ^ 64 → answer_of (others_wait v (slice_index s.words 0)) ≡ Yes → 1 < length r.seats
+  others_behind s r v busy_now ticket noted = dite (ℕ_discrete (length r.seats) 1)
+      (λ one.
+          let z : r.first + 0 ≡ r.first = omega arith in
+          let z' : 0 + 1 ≡ 1 = omega arith in
+          let next : (v.ticket + 1) % 2 ^ 64 ≡ (r.first + 1) % 2 ^ 64 = ap (λ (x : ℕ). (x + 1) % 2 ^ 64) (ticket ∙ ap (λ (x : ℕ). x % 2 ^ 64) (sym z)) ∙ next_ticket r.first 0 ∙ ap (λ (x : ℕ). (r.first + x) % 2 ^ 64) z' in
+          let found : slice_index s.words 0 ≡ (r.first + 1) % 2 ^ 64 = word_is s r 0 ∙ ap (λ (x : ℕ). (r.first + x) % 2 ^ 64) one in
+          let same : (slice_index s.words 0 == (v.ticket + 1) % 2 ^ 64) ≡ true = eq-eqb (slice_index s.words 0) ((v.ticket + 1) % 2 ^ 64) (found ∙ sym next) in
+          let no : No ≡ Yes = sym (ap (λ (b : Bool). answer_of (not b)) same) ∙ noted in absurd cc)
+      (λ ne. omega arith)
+
+  waits : (id : ℕ) (me : Me (Option V) View) → me.0.phase ≡ Holding → Allows Rule 1 id me 0 (λ x. x) (tested fit tag_of parked (step 1 0 0 0 none) me)
+  waits id me held s r count at low =
+      let v : View = me.0 in
+      let w : View = tested_by v (slice_index s.words 0) in
+      let k = knows_as r.first r.seats id v Holding held (r.each_seat id v at).knows in
+      let busy_now : 0 < length r.seats = at_below r.seats 0 id k.0 in
+      let known : Knows r.first r.seats id w Holding = (k.0, k.1, λ noted. others_behind s r v busy_now k.1 noted) in
+      let words : List ℕ = set s.words 0 (slice_index s.words 0) in
+      let r' : Rule (after_step words s.homes s.views id w) = loads id v w s r 0 at refl refl refl refl refl (λ x. refl) (subst (Knows r.first r.seats id w) (sym held) known) in
+      let q = same_queue s r (after_step words s.homes s.views id w) r' id v w at refl refl refl in
+      let same = ap (λ (ws : List ℕ). slice_index ws 0) (set-get_or s.words 0 0) in
+      (w, keeps, tt, r', (refl, happens Nothing 0 (slice_index s.words 0) (slice_index s.words 0) id v w s words s.homes r r' at refl same q))
+
+  -- what a holder puts back
+  abbrev Fits : View → V → Type 0
+  Fits v x = fit x × (tag_of x ≡ v.tag.tag) × (parked x ≡ true → v.tested ≡ Yes)
+
+  gives_back : (id : ℕ) (v : View) (x : V) (new : ℕ) (c : List (ℕ × Option V)) → v.phase ≡ Holding → c ≡ (0, Some x) ∷ [] → Fits v x → new ≡ (v.ticket + 1) % 2 ^ 64
+      → Allows Rule 1 id (v, c) 1 (λ _. new) (λ _. gave fit tag_of parked (step 1 1 new 0 none) (v, c) new)
+  gives_back id v x new c held carries fits is_next s r count at low =
+      let w : View = left v in
+      let st = r.each_seat id v at in
+      let k = knows_as r.first r.seats id v Holding held st.knows in
+      let cut = head_cut r.seats id k.0 in
+      let rest : List ℕ = cut.0 in
+      let live : v.spent ≡ false = busy_lives tag r.first r.seats id v st (ap is_busy held) in
+      let b = busy_is v Holding held in
+      let h = holds_is v Holding held in
+      let one : length r.seats ≡ suc (length rest) = ap length cut.1 in
+      let words : List ℕ = set s.words 1 new in
+      let homes : Homes = Rattle.atomic_table.specs.Table.put_back s.homes c in
+      let away : IsAway s.views s.homes = ⊎_elim (λ (home : IsHome fit tag_of parked tag r.seats s.views s.homes). absurd (let p = part_le holds s.views id v at in let f = home.free in omega (arith, p, f, h))) (λ a. a) r.slot in
+      let slot : homes ≡ some (Some x) ∷ [] = ap (Rattle.atomic_table.specs.Table.put_back s.homes) carries ∙ ap (λ (hs : Homes). set hs 0 (some (Some x))) away.slot in
+      let z : r.first + 0 ≡ r.first = omega arith in
+      let z' : 0 + 1 ≡ 1 = omega arith in
+      let next : new ≡ (r.first + 1) % 2 ^ 64 = is_next ∙ ap (λ (y : ℕ). (y + 1) % 2 ^ 64) (k.1 ∙ ap (λ (y : ℕ). y % 2 ^ 64) (sym z)) ∙ next_ticket r.first 0 ∙ ap (λ (y : ℕ). (r.first + y) % 2 ^ 64) z' in
+      let shift : r.first + length r.seats ≡ r.first + 1 + length rest = omega (arith, one) in
+      let told : words ≡ words_of (r.first + 1) (length rest) = ap (λ (ws : List ℕ). set ws 1 new) r.words ∙ (λ i. (shift i % 2 ^ 64) ∷ next i ∷ []) in
+      let r' : Rule (after_step words homes s.views id w) = step_rule s r id v w words homes (r.first + 1) rest at told (omega (arith, one, b)) refl (λ y. refl)
+          (record { knows = tt; tagged = st.tagged; ended = λ e. refl })
+          (λ j u ne e. let su = r.each_seat j u e in record {
+            knows = knows_next r.first id rest j u u.phase ne (subst (λ (l : List ℕ). Knows r.first l j u u.phase) cut.1 su.knows);
+            tagged = su.tagged;
+            ended = su.ended;
+          })
+          (λ i j e.
+              let e' : get_elem? r.seats (suc i) ≡ some j = ap (λ (l : List ℕ). get_elem? l (suc i)) cut.1 ∙ e in
+              let p : PlaceStands s.views r.first (suc i) j = r.each_place (suc i) j e' in
+              let ne : j ≢ id = λ q. (
+                  let same : p.view ≡ v = some-injective p.view v (sym p.at ∙ ap (get_elem? s.views) q ∙ at) in
+                  let l = at_below r.seats (suc i) j e' in
+                  let f = few_seats fit tag_of parked n tag s r in
+                  let g = r.few in
+                  let bad : suc i ≡ 0 = one_place r.first (suc i) 0 (omega arith) (omega arith) (sym p.ticket ∙ ap (λ (u : View). u.ticket) same ∙ k.1 ∙ ap (λ (y : ℕ). y % 2 ^ 64) (sym z)) in
+                  omega arith) in
+              let back = place_kept s.views id w r.first (suc i) j ne p in
+              let far : r.first + suc i ≡ r.first + 1 + i = omega arith in
+              record { view = back.view; at = back.at; in_queue = back.in_queue; ticket = back.ticket ∙ ap (λ (y : ℕ). y % 2 ^ 64) far })
+          (inl (record {
+            value = x;
+            slot = slot;
+            fits = fits.0;
+            tagged = fits.1 ∙ st.tagged live;
+            relied_on = λ e. let m = k.2 (fits.2 e) in omega (arith, m, one);
+            free = let t = sum_set holds s.views id v w at in let f = away.held in omega (arith, t, h, f);
+          })) in
+      let q = queue_after s (after_step words homes s.views id w) r' id v w at refl refl in
+      let before : queue_of s.words s.views ≡ v.number ∷ map (number_at s.views) rest =
+          queue_is fit tag_of parked n tag s r ∙ ap (map (number_at s.views)) cut.1 ∙ (λ i. number_is s.views id v at i ∷ map (number_at s.views) rest) in
+      (
+        w,
+        gives,
+        tt,
+        r',
+        (
+          λ i. (w, Rattle.atomic_table.specs.Table.rest (carries i)),
+          (slice_index s.words 1, happens Leaves 1 (slice_index s.words 1) new id v w s words homes r r' at refl (ap (λ (ws : List ℕ). slice_index ws 1) told ∙ sym next) (before ∙ ap (λ (l : List ℕ). v.number ∷ l) (sym q))),
+        ),
+      )
