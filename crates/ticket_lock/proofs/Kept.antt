@@ -2,13 +2,14 @@
 use Rattle.std.proofs.Common.{◌≡◌, ◌≢◌, ◌⊎◌, ℕ, zero, suc, ◌+◌, ◌-◌, ◌%◌, ◌^◌, ◌<◌, ◌≤◌, Bool, true, false, cond, not, ◌==◌, eq-eqb, ne_eqb, List, [], ◌∷◌, ◌++◌, length, map, set, slice_index, slice_get, refl, ap, sym, ◌∙◌, subst, inl, inr, ⊎_elim, arith, Option, Some, None, length-append, length-set}
 use Rattle.std.proofs.lemmas.List.{map-append}
 use Rattle.std.proofs.Math.Nat.{mod-add-mod, mod-mod}
+use Rattle.std.proofs.lemmas.List.Sums.{sum_by_push}
 use Rattle.std.specs.List.{sum_by}
 use mathlib.Core.Option.{some, none, some-injective, some-ne-none}
 use mathlib.Core.Logic.{dite}
 use native.Mathlib.Decide.{ℕ_discrete}
 use lib.ListN.{get_elem?}
 use lib.Seq.{set-get_or}
-use Rattle.atomic_table.specs.Table.{State, Me, step, Act, keeps, takes, gives, stepped, Allows, Splits, Joins, opening, Seen}
+use Rattle.atomic_table.specs.Table.{State, Me, step, Act, keeps, takes, gives, stepped, Allows, Splits, Joins, opening, Final, Seen}
 use Rattle.atomic_table.proofs.Lists.{at_set, set_else, at_longer, at_last}
 use Rattle.lock_rules.specs.Tag.{Tag}
 use Rattle.lock_rules.specs.Queue.{IsIn, Enters, Takes, Leaves, Stays}
@@ -49,6 +50,10 @@ mapped : (f : ℕ → ℕ) (l : List ℕ) (i x : ℕ) → slice_get (map f l) i 
 mapped f [] i x e = absurd (cc)
 mapped f (y ∷ ys) zero x e = (y, refl, cc)
 mapped f (y ∷ ys) (suc i) x e = mapped f ys i x e
+
+first_there : (l : List ℕ) → 0 < length l → (a : ℕ) × (get_elem? l 0 ≡ some a)
+first_there [] h = absurd (omega arith)
+first_there (x ∷ xs) h = (x, refl)
 
 busy_is : (v : View) (p : Phase) → v.phase ≡ p → busy v ≡ cond (is_busy p) 1 0
 busy_is v p e = ap (λ (x : Phase). cond (is_busy x) 1 0) e
@@ -96,10 +101,10 @@ place_same views id v w at b t first i j p = dite (ℕ_discrete j id)
     (λ ne. place_kept views id w first i j ne p)
 
 module _ {V : Type 0} (fit : V → Type 0) (tag_of : V → Tag) (parked : V → Bool) (n : ℕ) (tag : Tag) where
-  abbrev St : Type 0
+  abbrev pub St : Type 0
   St = State (Option V) View
 
-  abbrev Rule : St → Type 0
+  abbrev pub Rule : St → Type 0
   Rule = IsTicket fit tag_of parked n tag
 
   abbrev Homes : Type 0
@@ -187,7 +192,7 @@ module _ {V : Type 0} (fit : V → Type 0) (tag_of : V → Tag) (parked : V → 
           let g : is_busy v.phase ≡ false = ap is_busy idle in absurd cc) in
       one_number s r id m.0 v p.view at p.at live b ne (sym (number_is s.views m.0 p.view p.at) ∙ m.2)
 
-  adds : (id : ℕ) (me : Me (Option V) View) → me.0.phase ≡ Idle → me.0.spent ≡ false → Allows Rule 1 id me 0 (λ x. (x + 1) % 2 ^ 64) (entered fit tag_of parked (step 1 0 1 0 none) me)
+  pub adds : (id : ℕ) (me : Me (Option V) View) → me.0.phase ≡ Idle → me.0.spent ≡ false → Allows Rule 1 id me 0 (λ x. (x + 1) % 2 ^ 64) (entered fit tag_of parked (step 1 0 1 0 none) me)
   adds id me idle live s r count at low =
       let v : View = me.0 in
       let found : ℕ = slice_index s.words 0 in
@@ -346,7 +351,7 @@ module _ {V : Type 0} (fit : V → Type 0) (tag_of : V → Tag) (parked : V → 
       let one : h.1 ≡ v = some-injective h.1 v (sym h.2 ∙ ap (get_elem? s.views) same ∙ at) in
       let p : Holding ≡ Queued = sym h.3 ∙ ap (λ (x : View). x.phase) one ∙ queued in absurd cc) r.slot
 
-  polls : (id : ℕ) (me : Me (Option V) View) → me.0.phase ≡ Queued → Allows Rule 1 id me 1 (λ x. x) (polled fit tag_of parked (step 1 1 0 0 none) me)
+  pub polls : (id : ℕ) (me : Me (Option V) View) → me.0.phase ≡ Queued → Allows Rule 1 id me 1 (λ x. x) (polled fit tag_of parked (step 1 1 0 0 none) me)
   polls id me queued s r count at low = dite (ℕ_discrete (slice_index s.words 1) me.0.ticket)
       (λ e.
           let first = first_served s r id me.0 at queued e in
@@ -366,7 +371,7 @@ module _ {V : Type 0} (fit : V → Type 0) (tag_of : V → Tag) (parked : V → 
           let no : No ≡ Yes = sym (ap (λ (b : Bool). answer_of (not b)) same) ∙ noted in absurd cc)
       (λ ne. omega arith)
 
-  waits : (id : ℕ) (me : Me (Option V) View) → me.0.phase ≡ Holding → Allows Rule 1 id me 0 (λ x. x) (tested fit tag_of parked (step 1 0 0 0 none) me)
+  pub waits : (id : ℕ) (me : Me (Option V) View) → me.0.phase ≡ Holding → Allows Rule 1 id me 0 (λ x. x) (tested fit tag_of parked (step 1 0 0 0 none) me)
   waits id me held s r count at low =
       let v : View = me.0 in
       let w : View = tested_by v (slice_index s.words 0) in
@@ -380,10 +385,10 @@ module _ {V : Type 0} (fit : V → Type 0) (tag_of : V → Tag) (parked : V → 
       (w, keeps, tt, r', (refl, happens Nothing 0 (slice_index s.words 0) (slice_index s.words 0) id v w s words s.homes r r' at refl same q))
 
   -- what a holder puts back
-  abbrev Fits : View → V → Type 0
+  abbrev pub Fits : View → V → Type 0
   Fits v x = fit x × (tag_of x ≡ v.tag.tag) × (parked x ≡ true → v.tested ≡ Yes)
 
-  gives_back : (id : ℕ) (v : View) (x : V) (new : ℕ) (c : List (ℕ × Option V)) → v.phase ≡ Holding → c ≡ (0, Some x) ∷ [] → Fits v x → new ≡ (v.ticket + 1) % 2 ^ 64
+  pub gives_back : (id : ℕ) (v : View) (x : V) (new : ℕ) (c : List (ℕ × Option V)) → v.phase ≡ Holding → c ≡ (0, Some x) ∷ [] → Fits v x → new ≡ (v.ticket + 1) % 2 ^ 64
       → Allows Rule 1 id (v, c) 1 (λ _. new) (λ _. gave fit tag_of parked (step 1 1 new 0 none) (v, c) new)
   gives_back id v x new c held carries fits is_next s r count at low =
       let w : View = left v in
@@ -445,3 +450,112 @@ module _ {V : Type 0} (fit : V → Type 0) (tag_of : V → Tag) (parked : V → 
           (slice_index s.words 1, happens Leaves 1 (slice_index s.words 1) new id v w s words homes r r' at refl (ap (λ (ws : List ℕ). slice_index ws 1) told ∙ sym next) (before ∙ ap (λ (l : List ℕ). v.number ∷ l) (sym q))),
         ),
       )
+
+  pub splits : (id : ℕ) (v : View) → v.spent ≡ false → v.from < v.to → Splits Rule id v (without_next v) (next_split v)
+  splits id v live more s r at =
+      let w : View = without_next v in
+      let new : View = next_split v in
+      let st = r.each_seat id v at in record {
+        first = r.first;
+        seats = r.seats;
+        few = r.few;
+        words = r.words;
+        counted = let t = sum_set busy s.views id v w at in let p = sum_by_push busy (set s.views id w) new in omega (arith, t, p, r.counted);
+        numbers = numbers_split n s.views id v at live more r.numbers;
+        each_seat = λ j u e. ⊎_elim
+            (λ (e' : get_elem? (set s.views id w) j ≡ some u). ⊎_elim
+                (λ (t : (j ≡ id) × (w ≡ u)). subst (λ (x : ℕ × View). SeatStands tag r.first r.seats x.0 x.1) (λ i. (sym t.0 i, t.1 i)) (record { knows = st.knows; tagged = st.tagged; ended = st.ended }))
+                (λ (t : (j ≢ id) × (get_elem? s.views j ≡ some u)). r.each_seat j u t.1)
+                (at_set s.views id j w u e'))
+            (λ (t : (j ≡ length (set s.views id w)) × (new ≡ u)). subst (SeatStands tag r.first r.seats j) t.1 (record { knows = tt; tagged = λ _. st.tagged live; ended = λ _. refl }))
+            (at_end (set s.views id w) new u j e);
+        each_place = λ i j e. let p = place_same s.views id v w at (λ b. b) refl r.first i j (r.each_place i j e) in
+            record { view = p.view; at = at_longer (set s.views id w) (new ∷ []) j p.view p.at; in_queue = p.in_queue; ticket = p.ticket };
+        slot = let t = sum_set holds s.views id v w at in let p = sum_by_push holds (set s.views id w) new in ⊎_elim
+            (λ (home : IsHome fit tag_of parked tag r.seats s.views s.homes). inl (record {
+              value = home.value;
+              slot = home.slot;
+              fits = home.fits;
+              tagged = home.tagged;
+              relied_on = home.relied_on;
+              free = let f = home.free in omega (arith, t, p, f);
+            }))
+            (λ (away : IsAway s.views s.homes). inr (record { slot = away.slot; held = let f = away.held in omega (arith, t, p, f) }))
+            r.slot;
+      }
+
+  pub joins : (id : ℕ) (v : View) (other : ℕ) (w : View) → v.spent ≡ false → w.phase ≡ Idle → IsPlain w → Joins Rule id v other w (joined_view v w) spent_view
+  joins id v other w live idle plain s r at apart at' =
+      let both : View = joined_view v w in
+      let mid : List View = set s.views id both in
+      let st = r.each_seat id v at in
+      let b = busy_is w Idle idle in
+      let h = holds_is w Idle idle in record {
+        first = r.first;
+        seats = r.seats;
+        few = r.few;
+        words = r.words;
+        counted = let t = sum_set busy s.views id v both at in let p = sum_set busy mid other w spent_view at' in omega (arith, t, p, b, r.counted);
+        numbers = numbers_join n s.views id v other w at at' live plain r.numbers;
+        each_seat = λ j u e. ⊎_elim
+            (λ (t : (j ≡ other) × (spent_view ≡ u)). subst (SeatStands tag r.first r.seats j) t.1 (record { knows = tt; tagged = λ e'. absurd (let x : true ≡ false = e' in cc); ended = λ _. refl }))
+            (λ (t : (j ≢ other) × (get_elem? mid j ≡ some u)). ⊎_elim
+                (λ (q : (j ≡ id) × (both ≡ u)). subst (λ (x : ℕ × View). SeatStands tag r.first r.seats x.0 x.1) (λ i. (sym q.0 i, q.1 i)) (record { knows = st.knows; tagged = st.tagged; ended = st.ended }))
+                (λ (q : (j ≢ id) × (get_elem? s.views j ≡ some u)). r.each_seat j u q.1)
+                (at_set s.views id j both u t.1))
+            (at_set mid other j spent_view u e);
+        each_place = λ i j e.
+            let p : PlaceStands mid r.first i j = place_same s.views id v both at (λ x. x) refl r.first i j (r.each_place i j e) in
+            let ne : j ≢ other = λ q. (
+                let same : p.view ≡ w = some-injective p.view w (sym p.at ∙ ap (get_elem? mid) q ∙ at') in
+                let f : is_busy w.phase ≡ true = sym (ap (λ (x : View). is_busy x.phase) same) ∙ p.in_queue in
+                let g : is_busy w.phase ≡ false = ap is_busy idle in absurd cc) in
+            place_kept mid other spent_view r.first i j ne p;
+        slot = let t = sum_set holds s.views id v both at in let p = sum_set holds mid other w spent_view at' in ⊎_elim
+            (λ (home : IsHome fit tag_of parked tag r.seats s.views s.homes). inl (record {
+              value = home.value;
+              slot = home.slot;
+              fits = home.fits;
+              tagged = home.tagged;
+              relied_on = home.relied_on;
+              free = let f = home.free in omega (arith, t, p, h, f);
+            }))
+            (λ (away : IsAway s.views s.homes). inr (record { slot = away.slot; held = let f = away.held in omega (arith, t, p, h, f) }))
+            r.slot;
+      }
+
+  pub starts : (x : V) → 0 < n → n < 2 ^ 32 → fit x → tag_of x ≡ tag → parked x ≡ false → Rule (opening (0 ∷ 0 ∷ []) (Some x ∷ []) (first_view n tag))
+  starts x some_pass few fits tagged free = record {
+    first = 0;
+    seats = [];
+    few = few;
+    words = refl;
+    counted = refl;
+    numbers = numbers_first n tag some_pass;
+    each_seat = λ j u e. ⊎_elim (λ (t : get_elem? [] j ≡ some u). absurd (some-ne-none u (sym t)))
+        (λ (t : (j ≡ 0) × (first_view n tag ≡ u)). subst (SeatStands tag 0 [] j) t.1 (record { knows = tt; tagged = λ _. refl; ended = λ _. refl }))
+        (at_end [] (first_view n tag) u j e);
+    each_place = λ i j e. absurd (some-ne-none j (sym e));
+    slot = inl (record { value = x; slot = refl; fits = fits; tagged = tagged; relied_on = λ e. absurd (let c : true ≡ false = sym e ∙ free in cc); free = refl });
+  }
+
+  -- where a seat that is idle has all numbers, the queue is empty
+  all_idle : (s : St) (r : Rule s) (id : ℕ) (v : View) → get_elem? s.views id ≡ some v → v.phase ≡ Idle → numbers_of v ≡ n → (j : ℕ) → ¬ (get_elem? r.seats 0 ≡ some j)
+  all_idle s r id v at idle all j e =
+      let p = r.each_place 0 j e in
+      let ne : j ≢ id = λ q. (
+          let same : p.view ≡ v = some-injective p.view v (sym p.at ∙ ap (get_elem? s.views) q ∙ at) in
+          let f : is_busy v.phase ≡ true = sym (ap (λ (x : View). is_busy x.phase) same) ∙ p.in_queue in
+          let g : is_busy v.phase ≡ false = ap is_busy idle in absurd cc) in
+      let gone = others_spent n s.views id v j p.view r.numbers at all ne p.at in
+      let lives = busy_lives tag r.first r.seats j p.view (r.each_seat j p.view p.at) p.in_queue in absurd cc
+
+  -- what a lock that is closed has at home
+  pub ends : (id : ℕ) (v : View) (words : List ℕ) (slots : List (Option V)) → Final (Seen Rule id v) words slots → v.phase ≡ Idle → numbers_of v ≡ n
+      → (x : V) × (get_elem? slots 0 ≡ some (Some x)) × fit x × (tag_of x ≡ tag) × (parked x ≡ false)
+  ends id v words slots (s, (r, at), told, long, homes) idle all =
+      let home : IsHome fit tag_of parked tag r.seats s.views s.homes = ⊎_elim (λ h. h) (λ (away : IsAway s.views s.homes). let h = holder_first s r away in absurd (all_idle s r id v at idle all h.0 h.4)) r.slot in
+      let quiet : parked home.value ≡ false = elim (parked home.value) as (λ b. parked home.value ≡ b → parked home.value ≡ false) [
+          false ↦ λ e. e
+          | true ↦ λ e. let c = first_there r.seats (home.relied_on e) in absurd (all_idle s r id v at idle all c.0 c.1) ] refl in
+      (home.value, homes 0 (Some home.value) (ap (λ (hs : Homes). get_elem? hs 0) home.slot), home.fits, home.tagged, quiet)
