@@ -192,8 +192,8 @@ module _ {V : Type 0} (fit : V → Type 0) (tag_of : V → Tag) (parked : V → 
           let g : is_busy v.phase ≡ false = ap is_busy idle in absurd cc) in
       one_number s r id m.0 v p.view at p.at live b ne (sym (number_is s.views m.0 p.view p.at) ∙ m.2)
 
-  pub adds : (id : ℕ) (me : Me (Option V) View) → me.0.phase ≡ Idle → me.0.spent ≡ false → Allows Rule 1 id me 0 (λ x. (x + 1) % 2 ^ 64) (entered fit tag_of parked (step 1 0 1 0 none) me)
-  adds id me idle live s r count at low =
+  pub adds : (slots id : ℕ) (me : Me (Option V) View) → me.0.phase ≡ Idle → me.0.spent ≡ false → Allows Rule slots id me 0 (λ x. (x + 1) % 2 ^ 64) (entered fit tag_of parked (step slots 0 1 0 none) me)
+  adds slots id me idle live s r count at low =
       let v : View = me.0 in
       let found : ℕ = slice_index s.words 0 in
       let w : View = queued_with v found in
@@ -351,8 +351,8 @@ module _ {V : Type 0} (fit : V → Type 0) (tag_of : V → Tag) (parked : V → 
       let one : h.1 ≡ v = some-injective h.1 v (sym h.2 ∙ ap (get_elem? s.views) same ∙ at) in
       let p : Holding ≡ Queued = sym h.3 ∙ ap (λ (x : View). x.phase) one ∙ queued in absurd cc) r.slot
 
-  pub polls : (id : ℕ) (me : Me (Option V) View) → me.0.phase ≡ Queued → Allows Rule 1 id me 1 (λ x. x) (polled fit tag_of parked (step 1 1 0 0 none) me)
-  polls id me queued s r count at low = dite (ℕ_discrete (slice_index s.words 1) me.0.ticket)
+  pub polls : (slots id : ℕ) (me : Me (Option V) View) → me.0.phase ≡ Queued → Allows Rule slots id me 1 (λ x. x) (polled fit tag_of parked (step slots 1 0 0 none) me)
+  polls slots id me queued s r count at low = dite (ℕ_discrete (slice_index s.words 1) me.0.ticket)
       (λ e.
           let first = first_served s r id me.0 at queued e in
           let did = takes_it id me s queued r at first (sym e ∙ word_is s r 1) (home_before s r id me.0 at queued first) in
@@ -371,8 +371,8 @@ module _ {V : Type 0} (fit : V → Type 0) (tag_of : V → Tag) (parked : V → 
           let no : No ≡ Yes = sym (ap (λ (b : Bool). answer_of (not b)) same) ∙ noted in absurd cc)
       (λ ne. omega arith)
 
-  pub waits : (id : ℕ) (me : Me (Option V) View) → me.0.phase ≡ Holding → Allows Rule 1 id me 0 (λ x. x) (tested fit tag_of parked (step 1 0 0 0 none) me)
-  waits id me held s r count at low =
+  pub waits : (slots id : ℕ) (me : Me (Option V) View) → me.0.phase ≡ Holding → Allows Rule slots id me 0 (λ x. x) (tested fit tag_of parked (step slots 0 0 0 none) me)
+  waits slots id me held s r count at low =
       let v : View = me.0 in
       let w : View = tested_by v (slice_index s.words 0) in
       let k = knows_as r.first r.seats id v Holding held (r.each_seat id v at).knows in
@@ -388,9 +388,9 @@ module _ {V : Type 0} (fit : V → Type 0) (tag_of : V → Tag) (parked : V → 
   abbrev pub Fits : View → V → Type 0
   Fits v x = fit x × (tag_of x ≡ v.tag.tag) × (parked x ≡ true → v.tested ≡ Yes)
 
-  pub gives_back : (id : ℕ) (v : View) (x : V) (new : ℕ) (c : List (ℕ × Option V)) → v.phase ≡ Holding → c ≡ (0, Some x) ∷ [] → Fits v x → new ≡ (v.ticket + 1) % 2 ^ 64
-      → Allows Rule 1 id (v, c) 1 (λ _. new) (λ _. gave fit tag_of parked (step 1 1 new 0 none) (v, c) new)
-  gives_back id v x new c held carries fits is_next s r count at low =
+  pub gives_back : (slots id : ℕ) (v : View) (x : V) (new : ℕ) (c : List (ℕ × Option V)) → v.phase ≡ Holding → c ≡ (0, Some x) ∷ [] → Fits v x → new ≡ (v.ticket + 1) % 2 ^ 64
+      → Allows Rule slots id (v, c) 1 (λ _. new) (λ _. gave fit tag_of parked (step slots 1 new 0 none) (v, c) new)
+  gives_back slots id v x new c held carries fits is_next s r count at low =
       let w : View = left v in
       let st = r.each_seat id v at in
       let k = knows_as r.first r.seats id v Holding held st.knows in

@@ -1,3 +1,4 @@
 pub mod Rounds
 pub mod Queues
 pub mod Kept
+pub mod Seated

@@ -2,3 +2,4 @@ pub mod Rule
 pub mod Queue
 pub mod Kinds
 pub mod Tokens
+pub mod Seats
