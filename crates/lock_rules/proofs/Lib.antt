@@ -1,3 +1,4 @@
 pub mod Names
 pub mod Sums
 pub mod Numbers
+pub mod Passes

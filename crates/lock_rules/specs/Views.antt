@@ -26,6 +26,11 @@ mark_of Mcs v = v.number
 mark_of Clh v = v.node
 mark_of Hemlock v = v.number
 
+-- the node that a holder of CLH takes over at the release
+abbrev pub spare_of : Algorithm → View → ℕ
+spare_of Clh v = v.predecessor
+spare_of _ v = 0
+
 abbrev pub is_queued : Phase → Bool
 is_queued Queued = true
 is_queued _ = false

@@ -1,6 +1,6 @@
 //! The token of a holder.
 ghost use Rattle.std.specs.Prelude.{◌≡◌, [], ◌∷◌, None};
-ghost use Rattle.lock_rules.specs.Views.{IsPlain, mark_of};
+ghost use Rattle.lock_rules.specs.Views.{IsPlain, mark_of, spare_of};
 ghost use Rattle.lock_rules.specs.declared.view.Phase.TheVariants.{Holding};
 
 use crate::view::View;
@@ -15,19 +15,19 @@ pub enum Algorithm {
     Hemlock,
 }
 
-/// The seat of a holder, with the slot in hand. `mark` is the number by which the lock's words name the holder (its ticket, its pass's number or its node),
-/// and `ahead` is the word that its swap of the tail found.
+/// The seat of a holder, with the slot in hand. `mark` is the number by which the lock's words name the holder: its ticket, its pass's number or its
+/// node. `spare` is the predecessor's node, which CLH makes the holder's own at the release; it is 0 in the other locks.
 #[derive(Drop)]
 pub struct Grasp<V> {
     pub algorithm: Algorithm,
     pub seat: Seat<Option<V>, View>,
     pub mark: u64,
-    pub ahead: u64,
+    pub spare: u64,
     pub ghost holds: { seat.me.0.phase ≡ Holding },
     pub ghost plain: { IsPlain seat.me.0 },
     pub ghost carries: { seat.me.1 ≡ (0, None) ∷ [] },
     pub ghost marked: { mark ≡ mark_of algorithm seat.me.0 },
-    pub ghost behind: { ahead ≡ seat.me.0.predecessor },
+    pub ghost kept: { spare ≡ spare_of algorithm seat.me.0 },
 }
 
 /// The token of the holder of any of the four locks, with the lock's value.

@@ -52,6 +52,7 @@ pub struct View {
 }
 
 /// What the table of a lock is told when it is made: how many passes there are, and the opening value, as clauses see it.
+#[derive(Drop)]
 pub struct Opening<V> {
     pub passes: u32,
     pub value: Snapshot<V>,

@@ -7,6 +7,7 @@
 //! The words and the slot of the value lie in one table (`atomic_table`), whose rule and kinds of step are public.
 #![tactic(auto)]
 
+mod deals;
 mod lock;
 mod plays;
 mod steps;
