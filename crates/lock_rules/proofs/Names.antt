@@ -1,7 +1,6 @@
 -- The name of a lock tells its algorithm and its table.
 use Rattle.std.proofs.Common.{◌≡◌, ℕ, List, [], ◌∷◌, arith}
 use Rattle.atomic_table.specs.Seated.{TableId}
-use Rattle.lock_rules.specs.Tag.{Tag, leaf, fork}
 use Rattle.lock_rules.specs.Views.{algorithm_number, tree_of, lock_name}
 use Rattle.lock_rules.specs.declared.hold.Algorithm.{Algorithm}
 use Rattle.lock_rules.specs.declared.hold.Algorithm.TheVariants.{Ticket, Mcs, Clh, Hemlock}

@@ -1,15 +1,15 @@
 -- The numbers of a lock's passes at each kind of step.
-use Rattle.std.proofs.Common.{◌≡◌, ◌≢◌, ℕ, zero, suc, ◌+◌, ◌-◌, ◌<◌, ◌≤◌, Bool, true, false, cond, ◌&&◌, List, [], ◌∷◌, ◌++◌, length, set, nat_le, nat_lt, ◌==◌, refl, ap, sym, ◌∙◌, subst, arith, length-append}
+use Rattle.std.proofs.Common.{◌≡◌, ◌≢◌, ℕ, ◌+◌, ◌-◌, ◌<◌, ◌≤◌, true, false, cond, ◌&&◌, List, [], ◌∷◌, ◌++◌, length, set, nat_le, nat_lt, ◌==◌, refl, sym, arith, length-append}
 use Rattle.std.specs.List.{sum_by, count_by}
 use Rattle.std.proofs.lemmas.List.Sums.{sum_by-cons, sum_by-append, sum_by_push}
 use Rattle.std.proofs.lemmas.Bool.Decides.{nat_tests}
-use mathlib.Core.Option.{some, some-injective, some-ne-none}
+use mathlib.Core.Option.{some}
 use lib.ListN.{get_elem?}
 use Rattle.lock_rules.specs.Tag.{Tag}
-use Rattle.lock_rules.specs.Views.{IsPlain, numbers_of, stands_in, first_view, fresh_view, without_next, next_split, joined_view, spent_view}
-use Rattle.lock_rules.specs.Numbers.{HasNumbers, HaveTag}
+use Rattle.lock_rules.specs.Views.{IsPlain, numbers_of, stands_in, first_view, without_next, next_split, joined_view, spent_view}
+use Rattle.lock_rules.specs.Numbers.{HasNumbers}
 use Rattle.lock_rules.specs.declared.view.View.{View}
-use Rattle.lock_rules.proofs.Sums.{sum_set, part_le, parts_le}
+use Rattle.lock_rules.proofs.Sums.{sum_set, parts_le}
 
 abbrev span : ℕ → ℕ → ℕ → ℕ
 span from to k = cond (nat_le from k && nat_lt k to) 1 0
@@ -101,7 +101,10 @@ numbers_join n views id v other w at at' live plain had = record {
 
 -- beside a seat that has all numbers each other one is spent
 pub others_spent : (n : ℕ) (views : List View) (id : ℕ) (v : View) (j : ℕ) (u : View) → HasNumbers n views → get_elem? views id ≡ some v → numbers_of v ≡ n → j ≢ id → get_elem? views j ≡ some u → u.spent ≡ true
-others_spent n views id v j u had at all other at' = elim (u.spent) as (λ b. u.spent ≡ b → u.spent ≡ true) [ true ↦ λ e. e | false ↦ λ e. absurd (
-    let p = parts_le numbers_of views id j v u (λ q. other (sym q)) at at' in
-    let a = numbers_unspent u e in
-    omega (arith, p, a, had.in_all, all)) ] refl
+others_spent n views id v j u had at all other at' = elim (u.spent) as (λ b. u.spent ≡ b → u.spent ≡ true) [
+  | true ↦ λ e. e
+  | false ↦ λ e. absurd (
+      let p = parts_le numbers_of views id j v u (λ q. other (sym q)) at at' in
+      let a = numbers_unspent u e in
+      omega (arith, p, a, had.in_all, all))
+] refl

@@ -1,5 +1,5 @@
 -- What a token of a lock means.
-use Rattle.std.specs.Prelude.{◌≡◌, ℕ, Bool}
+use Rattle.std.specs.Prelude.{ℕ, Bool}
 use Rattle.lock_rules.specs.Tag.{Tag}
 use Rattle.lock_rules.specs.declared.step.Answer.{Answer}
 

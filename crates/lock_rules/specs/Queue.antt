@@ -1,5 +1,5 @@
 -- The events of the queue of a lock: a list of pass numbers, the head first.
-use Rattle.std.specs.Prelude.{◌≡◌, ◌≢◌, ℕ, List, [], ◌∷◌, ◌++◌, slice_get, Some}
+use Rattle.std.specs.Prelude.{◌≡◌, ℕ, List, [], ◌∷◌, ◌++◌, slice_get, Some}
 
 -- p stands in the queue
 abbrev pub IsIn : ℕ → List ℕ → Type 0

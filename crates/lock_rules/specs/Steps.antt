@@ -1,5 +1,4 @@
 -- What holds of the token in a `Step`.
-use Rattle.std.specs.Prelude.{◌≡◌}
 use Rattle.lock_rules.specs.declared.step.Step.{Step}
 use Rattle.lock_rules.specs.declared.step.Step.TheVariants.{Not, Got}
 

@@ -1,6 +1,6 @@
 -- Tags and names: plain data of one type, a tree of numbers. A list of trees is a chain of forks that ends in a leaf.
-use Rattle.std.specs.Prelude.{◌≡◌, ◌≢◌, ℕ, zero, suc, List, [], ◌∷◌, ◌++◌, refl}
-use Rattle.std.proofs.Common.{sym, ◌∙◌, ap, subst, append_assoc}
+use Rattle.std.specs.Prelude.{◌≡◌, ℕ, List, [], ◌∷◌, ◌++◌}
+use Rattle.std.proofs.Common.{sym, ◌∙◌, ap, append_assoc}
 use base.Stored.{Coded, coded_ℕ, coded_list, coded_via}
 
 pub data Tag : Type 0 where

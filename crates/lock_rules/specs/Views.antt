@@ -3,13 +3,13 @@ use Rattle.std.specs.Prelude.{◌≡◌, ℕ, ◌+◌, ◌-◌, Bool, true, fals
 use Rattle.std.specs.List.{count_by}
 use Rattle.atomic_table.specs.Seated.{TableId}
 use Rattle.lock_rules.specs.Tag.{Tag, leaf, fork}
-use Rattle.lock_rules.specs.Meanings.{Place, Waiting, Grip}
+use Rattle.lock_rules.specs.Meanings.{Place, Waiting}
 use Rattle.lock_rules.specs.declared.step.Answer.{Answer}
 use Rattle.lock_rules.specs.declared.step.Answer.TheVariants.{Open, No, Yes}
 use Rattle.lock_rules.specs.declared.hold.Algorithm.{Algorithm}
 use Rattle.lock_rules.specs.declared.hold.Algorithm.TheVariants.{Ticket, Mcs, Clh, Hemlock}
 use Rattle.lock_rules.specs.declared.view.Phase.{Phase}
-use Rattle.lock_rules.specs.declared.view.Phase.TheVariants.{Idle, Queued, Holding, Leaving}
+use Rattle.lock_rules.specs.declared.view.Phase.TheVariants.{Idle, Queued}
 use Rattle.lock_rules.specs.declared.view.View.{View}
 
 -- a seat that is not spent, with its own number alone

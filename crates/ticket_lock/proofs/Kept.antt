@@ -1,7 +1,6 @@
 -- Each kind of step keeps the rule, and is the event that it is said to be.
 use Rattle.std.proofs.Common.{◌≡◌, ◌≢◌, ◌⊎◌, ℕ, zero, suc, ◌+◌, ◌-◌, ◌%◌, ◌^◌, ◌<◌, ◌≤◌, Bool, true, false, cond, not, ◌==◌, eq-eqb, ne_eqb, List, [], ◌∷◌, ◌++◌, length, map, set, slice_index, slice_get, refl, ap, sym, ◌∙◌, subst, inl, inr, ⊎_elim, arith, Option, Some, None, length-append, length-set}
 use Rattle.std.proofs.lemmas.List.{map-append}
-use Rattle.std.proofs.Math.Nat.{mod-add-mod, mod-mod}
 use Rattle.std.proofs.lemmas.List.Sums.{sum_by_push}
 use Rattle.std.specs.List.{sum_by}
 use mathlib.Core.Option.{some, none, some-injective, some-ne-none}
@@ -12,11 +11,9 @@ use lib.Seq.{set-get_or}
 use Rattle.atomic_table.specs.Table.{State, Me, step, Act, keeps, takes, gives, stepped, Allows, Splits, Joins, opening, Final, Seen}
 use Rattle.atomic_table.proofs.Lists.{at_set, set_else, at_longer, at_last}
 use Rattle.lock_rules.specs.Tag.{Tag}
-use Rattle.lock_rules.specs.Queue.{IsIn, Enters, Takes, Leaves, Stays}
+use Rattle.lock_rules.specs.Queue.{IsIn, Enters, Takes, Leaves}
 use Rattle.lock_rules.specs.Views.{IsPlain, numbers_of, stands_in, answer_of, first_view, without_next, next_split, joined_view, spent_view}
-use Rattle.lock_rules.specs.Numbers.{HasNumbers}
-use Rattle.lock_rules.specs.declared.step.Answer.{Answer}
-use Rattle.lock_rules.specs.declared.step.Answer.TheVariants.{Open, No, Yes}
+use Rattle.lock_rules.specs.declared.step.Answer.TheVariants.{No, Yes}
 use Rattle.lock_rules.specs.declared.view.Phase.{Phase}
 use Rattle.lock_rules.specs.declared.view.Phase.TheVariants.{Idle, Queued, Holding, Leaving}
 use Rattle.lock_rules.specs.declared.view.View.{View}
@@ -26,7 +23,7 @@ use Rattle.ticket_lock.specs.Queue.{is_busy, is_holding, queue_of}
 use Rattle.ticket_lock.specs.Rule.{words_of, busy, holds, Knows, SeatStands, PlaceStands, IsHome, IsAway, IsTicket}
 use Rattle.ticket_lock.specs.Kinds.{queued_with, not_served, served, others_wait, tested_by, left, Happened, Nothing, entered, missed, took, polled, tested, gave}
 use Rattle.ticket_lock.proofs.Rounds.{next_ticket, one_place, busy_lives, few_seats}
-use Rattle.ticket_lock.proofs.Queues.{number_at, number_is, numbers_stay, names_stay, place_of_busy, queue_is, at_below}
+use Rattle.ticket_lock.proofs.Queues.{number_at, number_is, numbers_stay, names_stay, queue_is, at_below}
 
 module _ {A : Type 0} where
   pub set_at : (l : List A) (i : ℕ) (a b : A) → get_elem? l i ≡ some a → get_elem? (set l i b) i ≡ some b
@@ -188,8 +185,8 @@ module _ {V : Type 0} (fit : V → Type 0) (tag_of : V → Tag) (parked : V → 
       let p = r.each_place i m.0 m.1 in
       let b = busy_lives tag r.first r.seats m.0 p.view (r.each_seat m.0 p.view p.at) p.in_queue in
       let ne : m.0 ≢ id = λ q. (let same : p.view ≡ v = some-injective p.view v (sym p.at ∙ ap (get_elem? s.views) q ∙ at) in
-          let f : is_busy v.phase ≡ true = sym (ap (λ (x : View). is_busy x.phase) same) ∙ p.in_queue in
-          let g : is_busy v.phase ≡ false = ap is_busy idle in absurd cc) in
+      let f : is_busy v.phase ≡ true = sym (ap (λ (x : View). is_busy x.phase) same) ∙ p.in_queue in
+      let g : is_busy v.phase ≡ false = ap is_busy idle in absurd cc) in
       one_number s r id m.0 v p.view at p.at live b ne (sym (number_is s.views m.0 p.view p.at) ∙ m.2)
 
   pub adds : (slots id : ℕ) (me : Me (Option V) View) → me.0.phase ≡ Idle → me.0.spent ≡ false → Allows Rule slots id me 0 (λ x. (x + 1) % 2 ^ 64) (entered fit tag_of parked (step slots 0 1 0 none) me)
@@ -199,44 +196,43 @@ module _ {V : Type 0} (fit : V → Type 0) (tag_of : V → Tag) (parked : V → 
       let w : View = queued_with v found in
       let long : length (r.seats ++ id ∷ []) ≡ length r.seats + 1 = omega (arith, length-append r.seats (id ∷ [])) in
       let more : (found + 1) % 2 ^ 64 ≡ (r.first + length (r.seats ++ id ∷ [])) % 2 ^ 64 =
-          ap (λ (x : ℕ). (x + 1) % 2 ^ 64) (word_is s r 0) ∙ next_ticket r.first (length r.seats) ∙ ap (λ (x : ℕ). (r.first + x) % 2 ^ 64) (sym long) in
+      ap (λ (x : ℕ). (x + 1) % 2 ^ 64) (word_is s r 0) ∙ next_ticket r.first (length r.seats) ∙ ap (λ (x : ℕ). (r.first + x) % 2 ^ 64) (sym long) in
       let words : List ℕ = set s.words 0 ((found + 1) % 2 ^ 64) in
       let told : words ≡ words_of r.first (length (r.seats ++ id ∷ [])) =
-          ap (λ (ws : List ℕ). set ws 0 ((found + 1) % 2 ^ 64)) r.words ∙ (λ i. more i ∷ (r.first % 2 ^ 64) ∷ []) in
+      ap (λ (ws : List ℕ). set ws 0 ((found + 1) % 2 ^ 64)) r.words ∙ (λ i. more i ∷ (r.first % 2 ^ 64) ∷ []) in
       let b = busy_is v Idle idle in
       let h = holds_is v Idle idle in
       let r' : Rule (after_step words s.homes s.views id w) = step_rule s r id v w words s.homes r.first (r.seats ++ id ∷ []) at told (omega (arith, long, b)) refl (λ k. refl)
-          (record { knows = (length r.seats, at_last r.seats id (length r.seats) refl, word_is s r 0); tagged = (r.each_seat id v at).tagged; ended = λ e. absurd (let x : false ≡ true = sym live ∙ e in cc) })
-          (λ j u ne e. let st = r.each_seat j u e in record { knows = knows_longer r.first r.seats id j u u.phase st.knows; tagged = st.tagged; ended = st.ended })
-          (λ i j e. ⊎_elim
-              (λ (e' : get_elem? r.seats i ≡ some j). let p = r.each_place i j e' in
-                  let ne : j ≢ id = λ q. (let same : p.view ≡ v = some-injective p.view v (sym p.at ∙ ap (get_elem? s.views) q ∙ at) in
-                      let f : is_busy v.phase ≡ true = sym (ap (λ (x : View). is_busy x.phase) same) ∙ p.in_queue in
-                      let g : is_busy v.phase ≡ false = ap is_busy idle in absurd cc) in
-                  place_kept s.views id w r.first i j ne p)
-              (λ (t : (i ≡ length r.seats) × (id ≡ j)). record {
-                view = w;
-                at = ap (get_elem? (set s.views id w)) (sym t.1) ∙ set_at s.views id v w at;
-                in_queue = refl;
-                ticket = word_is s r 0 ∙ ap (λ (x : ℕ). (r.first + x) % 2 ^ 64) (sym t.0);
-              })
-              (at_end r.seats id j i e))
-          (⊎_elim
-              (λ (home : IsHome fit tag_of parked tag r.seats s.views s.homes). inl (record {
-                value = home.value;
-                slot = home.slot;
-                fits = home.fits;
-                tagged = home.tagged;
-                relied_on = λ e. omega (arith, long);
-                free = let t = sum_set holds s.views id v w at in let f = home.free in omega (arith, t, h, f);
-              }))
-              (λ (away : IsAway s.views s.homes). inr (record { slot = away.slot; held = let t = sum_set holds s.views id v w at in let f = away.held in omega (arith, t, h, f) }))
-              r.slot) in
+      (record { knows = (length r.seats, at_last r.seats id (length r.seats) refl, word_is s r 0); tagged = (r.each_seat id v at).tagged; ended = λ e. absurd (let x : false ≡ true = sym live ∙ e in cc) })
+      (λ j u ne e. let st = r.each_seat j u e in record { knows = knows_longer r.first r.seats id j u u.phase st.knows; tagged = st.tagged; ended = st.ended })
+      (λ i j e. ⊎_elim
+      (λ (e' : get_elem? r.seats i ≡ some j). let p = r.each_place i j e' in
+      let ne : j ≢ id = λ q. (let same : p.view ≡ v = some-injective p.view v (sym p.at ∙ ap (get_elem? s.views) q ∙ at) in
+      let f : is_busy v.phase ≡ true = sym (ap (λ (x : View). is_busy x.phase) same) ∙ p.in_queue in
+      let g : is_busy v.phase ≡ false = ap is_busy idle in absurd cc) in
+      place_kept s.views id w r.first i j ne p)
+      (λ (t : (i ≡ length r.seats) × (id ≡ j)). record {
+        view = w;
+        at = ap (get_elem? (set s.views id w)) (sym t.1) ∙ set_at s.views id v w at;
+        in_queue = refl;
+        ticket = word_is s r 0 ∙ ap (λ (x : ℕ). (r.first + x) % 2 ^ 64) (sym t.0);
+      })
+      (at_end r.seats id j i e))
+      (⊎_elim
+      (λ (home : IsHome fit tag_of parked tag r.seats s.views s.homes). inl (record {
+        value = home.value;
+        slot = home.slot;
+        fits = home.fits;
+        tagged = home.tagged;
+        relied_on = λ e. omega (arith, long);
+        free = let t = sum_set holds s.views id v w at in let f = home.free in omega (arith, t, h, f);
+      }))
+      (λ (away : IsAway s.views s.homes). inr (record { slot = away.slot; held = let t = sum_set holds s.views id v w at in let f = away.held in omega (arith, t, h, f) }))
+      r.slot) in
       let q = queue_after s (after_step words s.homes s.views id w) r' id v w at refl refl in
       let q' = queue_is fit tag_of parked n tag s r in
       let m : map (number_at s.views) (r.seats ++ id ∷ []) ≡ queue_of s.words s.views ++ v.number ∷ [] =
-          map-append (number_at s.views) r.seats (id ∷ []) ∙ (λ i. sym q' i ++ number_is s.views id v at i ∷ []) in
-      (
+      map-append (number_at s.views) r.seats (id ∷ []) ∙ (λ i. sym q' i ++ number_is s.views id v at i ∷ []) in (
         w,
         keeps,
         tt,
@@ -278,16 +274,16 @@ module _ {V : Type 0} (fit : V → Type 0) (tag_of : V → Tag) (parked : V → 
       (λ j u ne e. r.each_seat j u e)
       (λ k j e. place_same s.views id v w at (λ e'. ap is_busy phase ∙ e') ticket r.first k j (r.each_place k j e))
       (⊎_elim
-          (λ (home : IsHome fit tag_of parked tag r.seats s.views s.homes). inl (record {
-            value = home.value;
-            slot = home.slot;
-            fits = home.fits;
-            tagged = home.tagged;
-            relied_on = home.relied_on;
-            free = let t = sum_set holds s.views id v w at in let f = home.free in omega (arith, t, h, f);
-          }))
-          (λ (away : IsAway s.views s.homes). inr (record { slot = away.slot; held = let t = sum_set holds s.views id v w at in let f = away.held in omega (arith, t, h, f) }))
-          r.slot)
+      (λ (home : IsHome fit tag_of parked tag r.seats s.views s.homes). inl (record {
+        value = home.value;
+        slot = home.slot;
+        fits = home.fits;
+        tagged = home.tagged;
+        relied_on = home.relied_on;
+        free = let t = sum_set holds s.views id v w at in let f = home.free in omega (arith, t, h, f);
+      }))
+      (λ (away : IsAway s.views s.homes). inr (record { slot = away.slot; held = let t = sum_set holds s.views id v w at in let f = away.held in omega (arith, t, h, f) }))
+      r.slot)
 
   misses : (id : ℕ) (me : Me (Option V) View) (s : St) → me.0.phase ≡ Queued → Rule s → get_elem? s.views id ≡ some me.0
       → (w : View) × (a : Act (Option V)) × Rattle.atomic_table.specs.Table.Valid s.homes me.1 a × Rule (stepped s 1 (slice_index s.words 1) id me.1 w a)
@@ -318,13 +314,12 @@ module _ {V : Type 0} (fit : V → Type 0) (tag_of : V → Tag) (parked : V → 
       let slot : homes ≡ none ∷ [] = ap (λ (hs : Homes). set hs 0 none) home.slot in
       let held : sum_by holds (set s.views id w) ≡ 1 = let t = sum_set holds s.views id v w at in let f = home.free in omega (arith, t, h, f) in
       let r' : Rule (after_step words homes s.views id w) = step_rule s r id v w words homes r.first r.seats at (reread s r 1) (omega (arith, b)) refl (λ x. refl)
-          (record { knows = (first, ticket, λ e. absurd (cc)); tagged = st.tagged; ended = λ e. absurd (let x : false ≡ true = sym live ∙ e in cc) })
-          (λ j u ne e. r.each_seat j u e)
-          (λ i j e. place_same s.views id v w at (λ _. refl) refl r.first i j (r.each_place i j e))
-          (inr (record { slot = slot; held = held })) in
+      (record { knows = (first, ticket, λ e. absurd (cc)); tagged = st.tagged; ended = λ e. absurd (let x : false ≡ true = sym live ∙ e in cc) })
+      (λ j u ne e. r.each_seat j u e)
+      (λ i j e. place_same s.views id v w at (λ _. refl) refl r.first i j (r.each_place i j e))
+      (inr (record { slot = slot; held = held })) in
       let q = same_queue s r (after_step words homes s.views id w) r' id v w at refl refl refl in
-      let same = ap (λ (ws : List ℕ). slice_index ws 1) (set-get_or s.words 1 0) in
-      (
+      let same = ap (λ (ws : List ℕ). slice_index ws 1) (set-get_or s.words 1 0) in (
         w,
         takes 0 (Some home.value),
         ap (λ (hs : Homes). get_elem? hs 0) home.slot,
@@ -354,21 +349,21 @@ module _ {V : Type 0} (fit : V → Type 0) (tag_of : V → Tag) (parked : V → 
   pub polls : (slots id : ℕ) (me : Me (Option V) View) → me.0.phase ≡ Queued → Allows Rule slots id me 1 (λ x. x) (polled fit tag_of parked (step slots 1 0 0 none) me)
   polls slots id me queued s r count at low = dite (ℕ_discrete (slice_index s.words 1) me.0.ticket)
       (λ e.
-          let first = first_served s r id me.0 at queued e in
-          let did = takes_it id me s queued r at first (sym e ∙ word_is s r 1) (home_before s r id me.0 at queued first) in
-          (did.0, did.1, did.2, did.3, (λ _. did.4, λ ne. absurd (ne e))))
+      let first = first_served s r id me.0 at queued e in
+      let did = takes_it id me s queued r at first (sym e ∙ word_is s r 1) (home_before s r id me.0 at queued first) in
+      (did.0, did.1, did.2, did.3, (λ _. did.4, λ ne. absurd (ne e))))
       (λ ne. let did = misses id me s queued r at in (did.0, did.1, did.2, did.3, (λ e. absurd (ne e), λ _. did.4)))
 
   -- where the next ticket isn't the one after the holder's, another pass is queued
   others_behind : (s : St) (r : Rule s) (v : View) → 0 < length r.seats → v.ticket ≡ r.first % 2 ^ 64 → answer_of (others_wait v (slice_index s.words 0)) ≡ Yes → 1 < length r.seats
   others_behind s r v busy_now ticket noted = dite (ℕ_discrete (length r.seats) 1)
       (λ one.
-          let z : r.first + 0 ≡ r.first = omega arith in
-          let z' : 0 + 1 ≡ 1 = omega arith in
-          let next : (v.ticket + 1) % 2 ^ 64 ≡ (r.first + 1) % 2 ^ 64 = ap (λ (x : ℕ). (x + 1) % 2 ^ 64) (ticket ∙ ap (λ (x : ℕ). x % 2 ^ 64) (sym z)) ∙ next_ticket r.first 0 ∙ ap (λ (x : ℕ). (r.first + x) % 2 ^ 64) z' in
-          let found : slice_index s.words 0 ≡ (r.first + 1) % 2 ^ 64 = word_is s r 0 ∙ ap (λ (x : ℕ). (r.first + x) % 2 ^ 64) one in
-          let same : (slice_index s.words 0 == (v.ticket + 1) % 2 ^ 64) ≡ true = eq-eqb (slice_index s.words 0) ((v.ticket + 1) % 2 ^ 64) (found ∙ sym next) in
-          let no : No ≡ Yes = sym (ap (λ (b : Bool). answer_of (not b)) same) ∙ noted in absurd cc)
+      let z : r.first + 0 ≡ r.first = omega arith in
+      let z' : 0 + 1 ≡ 1 = omega arith in
+      let next : (v.ticket + 1) % 2 ^ 64 ≡ (r.first + 1) % 2 ^ 64 = ap (λ (x : ℕ). (x + 1) % 2 ^ 64) (ticket ∙ ap (λ (x : ℕ). x % 2 ^ 64) (sym z)) ∙ next_ticket r.first 0 ∙ ap (λ (x : ℕ). (r.first + x) % 2 ^ 64) z' in
+      let found : slice_index s.words 0 ≡ (r.first + 1) % 2 ^ 64 = word_is s r 0 ∙ ap (λ (x : ℕ). (r.first + x) % 2 ^ 64) one in
+      let same : (slice_index s.words 0 == (v.ticket + 1) % 2 ^ 64) ≡ true = eq-eqb (slice_index s.words 0) ((v.ticket + 1) % 2 ^ 64) (found ∙ sym next) in
+      let no : No ≡ Yes = sym (ap (λ (b : Bool). answer_of (not b)) same) ∙ noted in absurd cc)
       (λ ne. omega arith)
 
   pub waits : (slots id : ℕ) (me : Me (Option V) View) → me.0.phase ≡ Holding → Allows Rule slots id me 0 (λ x. x) (tested fit tag_of parked (step slots 0 0 0 none) me)
@@ -410,37 +405,36 @@ module _ {V : Type 0} (fit : V → Type 0) (tag_of : V → Tag) (parked : V → 
       let shift : r.first + length r.seats ≡ r.first + 1 + length rest = omega (arith, one) in
       let told : words ≡ words_of (r.first + 1) (length rest) = ap (λ (ws : List ℕ). set ws 1 new) r.words ∙ (λ i. (shift i % 2 ^ 64) ∷ next i ∷ []) in
       let r' : Rule (after_step words homes s.views id w) = step_rule s r id v w words homes (r.first + 1) rest at told (omega (arith, one, b)) refl (λ y. refl)
-          (record { knows = tt; tagged = st.tagged; ended = λ e. refl })
-          (λ j u ne e. let su = r.each_seat j u e in record {
-            knows = knows_next r.first id rest j u u.phase ne (subst (λ (l : List ℕ). Knows r.first l j u u.phase) cut.1 su.knows);
-            tagged = su.tagged;
-            ended = su.ended;
-          })
-          (λ i j e.
-              let e' : get_elem? r.seats (suc i) ≡ some j = ap (λ (l : List ℕ). get_elem? l (suc i)) cut.1 ∙ e in
-              let p : PlaceStands s.views r.first (suc i) j = r.each_place (suc i) j e' in
-              let ne : j ≢ id = λ q. (
-                  let same : p.view ≡ v = some-injective p.view v (sym p.at ∙ ap (get_elem? s.views) q ∙ at) in
-                  let l = at_below r.seats (suc i) j e' in
-                  let f = few_seats fit tag_of parked n tag s r in
-                  let g = r.few in
-                  let bad : suc i ≡ 0 = one_place r.first (suc i) 0 (omega arith) (omega arith) (sym p.ticket ∙ ap (λ (u : View). u.ticket) same ∙ k.1 ∙ ap (λ (y : ℕ). y % 2 ^ 64) (sym z)) in
-                  omega arith) in
-              let back = place_kept s.views id w r.first (suc i) j ne p in
-              let far : r.first + suc i ≡ r.first + 1 + i = omega arith in
-              record { view = back.view; at = back.at; in_queue = back.in_queue; ticket = back.ticket ∙ ap (λ (y : ℕ). y % 2 ^ 64) far })
-          (inl (record {
-            value = x;
-            slot = slot;
-            fits = fits.0;
-            tagged = fits.1 ∙ st.tagged live;
-            relied_on = λ e. let m = k.2 (fits.2 e) in omega (arith, m, one);
-            free = let t = sum_set holds s.views id v w at in let f = away.held in omega (arith, t, h, f);
-          })) in
+      (record { knows = tt; tagged = st.tagged; ended = λ e. refl })
+      (λ j u ne e. let su = r.each_seat j u e in record {
+        knows = knows_next r.first id rest j u u.phase ne (subst (λ (l : List ℕ). Knows r.first l j u u.phase) cut.1 su.knows);
+        tagged = su.tagged;
+        ended = su.ended;
+      })
+      (λ i j e.
+      let e' : get_elem? r.seats (suc i) ≡ some j = ap (λ (l : List ℕ). get_elem? l (suc i)) cut.1 ∙ e in
+      let p : PlaceStands s.views r.first (suc i) j = r.each_place (suc i) j e' in
+      let ne : j ≢ id = λ q. (
+      let same : p.view ≡ v = some-injective p.view v (sym p.at ∙ ap (get_elem? s.views) q ∙ at) in
+      let l = at_below r.seats (suc i) j e' in
+      let f = few_seats fit tag_of parked n tag s r in
+      let g = r.few in
+      let bad : suc i ≡ 0 = one_place r.first (suc i) 0 (omega arith) (omega arith) (sym p.ticket ∙ ap (λ (u : View). u.ticket) same ∙ k.1 ∙ ap (λ (y : ℕ). y % 2 ^ 64) (sym z)) in
+      omega arith) in
+      let back = place_kept s.views id w r.first (suc i) j ne p in
+      let far : r.first + suc i ≡ r.first + 1 + i = omega arith in
+      record { view = back.view; at = back.at; in_queue = back.in_queue; ticket = back.ticket ∙ ap (λ (y : ℕ). y % 2 ^ 64) far })
+      (inl (record {
+        value = x;
+        slot = slot;
+        fits = fits.0;
+        tagged = fits.1 ∙ st.tagged live;
+        relied_on = λ e. let m = k.2 (fits.2 e) in omega (arith, m, one);
+        free = let t = sum_set holds s.views id v w at in let f = away.held in omega (arith, t, h, f);
+      })) in
       let q = queue_after s (after_step words homes s.views id w) r' id v w at refl refl in
       let before : queue_of s.words s.views ≡ v.number ∷ map (number_at s.views) rest =
-          queue_is fit tag_of parked n tag s r ∙ ap (map (number_at s.views)) cut.1 ∙ (λ i. number_is s.views id v at i ∷ map (number_at s.views) rest) in
-      (
+      queue_is fit tag_of parked n tag s r ∙ ap (map (number_at s.views)) cut.1 ∙ (λ i. number_is s.views id v at i ∷ map (number_at s.views) rest) in (
         w,
         gives,
         tt,
@@ -464,9 +458,9 @@ module _ {V : Type 0} (fit : V → Type 0) (tag_of : V → Tag) (parked : V → 
         numbers = numbers_split n s.views id v at live more r.numbers;
         each_seat = λ j u e. ⊎_elim
             (λ (e' : get_elem? (set s.views id w) j ≡ some u). ⊎_elim
-                (λ (t : (j ≡ id) × (w ≡ u)). subst (λ (x : ℕ × View). SeatStands tag r.first r.seats x.0 x.1) (λ i. (sym t.0 i, t.1 i)) (record { knows = st.knows; tagged = st.tagged; ended = st.ended }))
-                (λ (t : (j ≢ id) × (get_elem? s.views j ≡ some u)). r.each_seat j u t.1)
-                (at_set s.views id j w u e'))
+            (λ (t : (j ≡ id) × (w ≡ u)). subst (λ (x : ℕ × View). SeatStands tag r.first r.seats x.0 x.1) (λ i. (sym t.0 i, t.1 i)) (record { knows = st.knows; tagged = st.tagged; ended = st.ended }))
+            (λ (t : (j ≢ id) × (get_elem? s.views j ≡ some u)). r.each_seat j u t.1)
+            (at_set s.views id j w u e'))
             (λ (t : (j ≡ length (set s.views id w)) × (new ≡ u)). subst (SeatStands tag r.first r.seats j) t.1 (record { knows = tt; tagged = λ _. st.tagged live; ended = λ _. refl }))
             (at_end (set s.views id w) new u j e);
         each_place = λ i j e. let p = place_same s.views id v w at (λ b. b) refl r.first i j (r.each_place i j e) in
@@ -500,16 +494,16 @@ module _ {V : Type 0} (fit : V → Type 0) (tag_of : V → Tag) (parked : V → 
         each_seat = λ j u e. ⊎_elim
             (λ (t : (j ≡ other) × (spent_view ≡ u)). subst (SeatStands tag r.first r.seats j) t.1 (record { knows = tt; tagged = λ e'. absurd (let x : true ≡ false = e' in cc); ended = λ _. refl }))
             (λ (t : (j ≢ other) × (get_elem? mid j ≡ some u)). ⊎_elim
-                (λ (q : (j ≡ id) × (both ≡ u)). subst (λ (x : ℕ × View). SeatStands tag r.first r.seats x.0 x.1) (λ i. (sym q.0 i, q.1 i)) (record { knows = st.knows; tagged = st.tagged; ended = st.ended }))
-                (λ (q : (j ≢ id) × (get_elem? s.views j ≡ some u)). r.each_seat j u q.1)
-                (at_set s.views id j both u t.1))
+            (λ (q : (j ≡ id) × (both ≡ u)). subst (λ (x : ℕ × View). SeatStands tag r.first r.seats x.0 x.1) (λ i. (sym q.0 i, q.1 i)) (record { knows = st.knows; tagged = st.tagged; ended = st.ended }))
+            (λ (q : (j ≢ id) × (get_elem? s.views j ≡ some u)). r.each_seat j u q.1)
+            (at_set s.views id j both u t.1))
             (at_set mid other j spent_view u e);
         each_place = λ i j e.
             let p : PlaceStands mid r.first i j = place_same s.views id v both at (λ x. x) refl r.first i j (r.each_place i j e) in
             let ne : j ≢ other = λ q. (
-                let same : p.view ≡ w = some-injective p.view w (sym p.at ∙ ap (get_elem? mid) q ∙ at') in
-                let f : is_busy w.phase ≡ true = sym (ap (λ (x : View). is_busy x.phase) same) ∙ p.in_queue in
-                let g : is_busy w.phase ≡ false = ap is_busy idle in absurd cc) in
+            let same : p.view ≡ w = some-injective p.view w (sym p.at ∙ ap (get_elem? mid) q ∙ at') in
+            let f : is_busy w.phase ≡ true = sym (ap (λ (x : View). is_busy x.phase) same) ∙ p.in_queue in
+            let g : is_busy w.phase ≡ false = ap is_busy idle in absurd cc) in
             place_kept mid other spent_view r.first i j ne p;
         slot = let t = sum_set holds s.views id v both at in let p = sum_set holds mid other w spent_view at' in ⊎_elim
             (λ (home : IsHome fit tag_of parked tag r.seats s.views s.homes). inl (record {
@@ -544,9 +538,9 @@ module _ {V : Type 0} (fit : V → Type 0) (tag_of : V → Tag) (parked : V → 
   all_idle s r id v at idle all j e =
       let p = r.each_place 0 j e in
       let ne : j ≢ id = λ q. (
-          let same : p.view ≡ v = some-injective p.view v (sym p.at ∙ ap (get_elem? s.views) q ∙ at) in
-          let f : is_busy v.phase ≡ true = sym (ap (λ (x : View). is_busy x.phase) same) ∙ p.in_queue in
-          let g : is_busy v.phase ≡ false = ap is_busy idle in absurd cc) in
+      let same : p.view ≡ v = some-injective p.view v (sym p.at ∙ ap (get_elem? s.views) q ∙ at) in
+      let f : is_busy v.phase ≡ true = sym (ap (λ (x : View). is_busy x.phase) same) ∙ p.in_queue in
+      let g : is_busy v.phase ≡ false = ap is_busy idle in absurd cc) in
       let gone = others_spent n s.views id v j p.view r.numbers at all ne p.at in
       let lives = busy_lives tag r.first r.seats j p.view (r.each_seat j p.view p.at) p.in_queue in absurd cc
 
@@ -556,6 +550,7 @@ module _ {V : Type 0} (fit : V → Type 0) (tag_of : V → Tag) (parked : V → 
   ends id v words slots (s, (r, at), told, long, homes) idle all =
       let home : IsHome fit tag_of parked tag r.seats s.views s.homes = ⊎_elim (λ h. h) (λ (away : IsAway s.views s.homes). let h = holder_first s r away in absurd (all_idle s r id v at idle all h.0 h.4)) r.slot in
       let quiet : parked home.value ≡ false = elim (parked home.value) as (λ b. parked home.value ≡ b → parked home.value ≡ false) [
-          false ↦ λ e. e
-          | true ↦ λ e. let c = first_there r.seats (home.relied_on e) in absurd (all_idle s r id v at idle all c.0 c.1) ] refl in
+        | false ↦ λ e. e
+        | true ↦ λ e. let c = first_there r.seats (home.relied_on e) in absurd (all_idle s r id v at idle all c.0 c.1)
+      ] refl in
       (home.value, homes 0 (Some home.value) (ap (λ (hs : Homes). get_elem? hs 0) home.slot), home.fits, home.tagged, quiet)

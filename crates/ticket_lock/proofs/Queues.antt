@@ -1,19 +1,16 @@
 -- The queue that is computed from words and views is that of the rule.
-use Rattle.std.proofs.Common.{◌≡◌, ◌≢◌, ℕ, zero, suc, ◌+◌, ◌-◌, ◌%◌, ◌^◌, ◌<◌, ◌≤◌, Bool, true, false, cond, ◌&&◌, eqb, ◌==◌, eq-eqb, List, [], ◌∷◌, ◌++◌, length, map, set, slice_index, refl, ap, sym, ◌∙◌, subst, arith, Option, Some, None}
+use Rattle.std.proofs.Common.{◌≡◌, ℕ, zero, suc, ◌+◌, ◌%◌, ◌^◌, ◌<◌, Bool, true, false, cond, ◌&&◌, ◌==◌, eq-eqb, List, [], ◌∷◌, length, map, set, refl, ap, sym, ◌∙◌, arith, Option}
 use Rattle.std.proofs.Math.Nat.{mod-add-mod}
 use mathlib.Core.Option.{some, none, some-injective, some-ne-none}
-use mathlib.Core.Logic.{dite}
-use native.Mathlib.Decide.{ℕ_discrete}
 use lib.ListN.{get_elem?}
 use borrow.Author.Tests.{eqb-true}
 use Rattle.atomic_table.specs.Table.{State}
-use Rattle.atomic_table.proofs.Lists.{at_set, set_here, set_else}
 use Rattle.lock_rules.specs.Tag.{Tag}
 use Rattle.lock_rules.specs.declared.view.Phase.{Phase}
 use Rattle.lock_rules.specs.declared.view.Phase.TheVariants.{Idle, Queued, Holding, Leaving}
 use Rattle.lock_rules.specs.declared.view.View.{View}
-use Rattle.ticket_lock.specs.Queue.{is_busy, pass_with, passes_from, tickets_out, serving_of, next_of, queue_of}
-use Rattle.ticket_lock.specs.Rule.{words_of, Knows, SeatStands, PlaceStands, IsTicket}
+use Rattle.ticket_lock.specs.Queue.{is_busy, pass_with, passes_from, queue_of}
+use Rattle.ticket_lock.specs.Rule.{Knows, PlaceStands, IsTicket}
 use Rattle.ticket_lock.proofs.Rounds.{out_is, one_place, few_seats}
 
 abbrev number_in : mathlib.Core.Option.Option View → ℕ
@@ -59,8 +56,9 @@ pass_with_is (u ∷ us) zero v t at b e only =
     rw (p, q) (ap (λ (x : View). x.number) s)
 pass_with_is (u ∷ us) (suc j) v t at b e only =
     elim (is_busy u.phase && (u.ticket == t)) as (λ x. (is_busy u.phase && (u.ticket == t)) ≡ x → cond x u.number (pass_with us t) ≡ v.number) [
-      true ↦ λ h. let p = both_true (is_busy u.phase) (u.ticket == t) h in let z : zero ≡ suc j = only zero u refl p.0 (eqb-true u.ticket t p.1) in absurd (omega arith)
-      | false ↦ λ h. pass_with_is us j v t at b e (λ k w at' b' e'. let z : suc k ≡ suc j = only (suc k) w at' b' e' in omega arith) ] refl
+      | true ↦ λ h. let p = both_true (is_busy u.phase) (u.ticket == t) h in let z : zero ≡ suc j = only zero u refl p.0 (eqb-true u.ticket t p.1) in absurd (omega arith)
+      | false ↦ λ h. pass_with_is us j v t at b e (λ k w at' b' e'. let z : suc k ≡ suc j = only (suc k) w at' b' e' in omega arith)
+    ] refl
 
 passes_are : (views : List View) (g t : ℕ) (seats : List ℕ) → t % 2 ^ 64 ≡ g % 2 ^ 64 → AreApart views → ((i j : ℕ) → get_elem? seats i ≡ some j → PlaceStands views g i j)
     → passes_from views t (length seats) ≡ map (number_at views) seats
@@ -70,10 +68,10 @@ passes_are views g t (j ∷ js) e apart places =
     let z : g + 0 ≡ g = omega arith in
     let tick : p.view.ticket ≡ t % 2 ^ 64 = p.ticket ∙ ap (λ (x : ℕ). x % 2 ^ 64) z ∙ sym e in
     let h : pass_with views (t % 2 ^ 64) ≡ number_at views j =
-        pass_with_is views j p.view (t % 2 ^ 64) p.at p.in_queue tick (λ k u at b e'. apart k j u p.view at p.at b p.in_queue (e' ∙ sym tick)) ∙ sym (number_is views j p.view p.at) in
+    pass_with_is views j p.view (t % 2 ^ 64) p.at p.in_queue tick (λ k u at b e'. apart k j u p.view at p.at b p.in_queue (e' ∙ sym tick)) ∙ sym (number_is views j p.view p.at) in
     let step : (t + 1) % 2 ^ 64 ≡ (g + 1) % 2 ^ 64 = sym (mod-add-mod t (2 ^ 64) 1) ∙ ap (λ (x : ℕ). (x + 1) % 2 ^ 64) e ∙ mod-add-mod g (2 ^ 64) 1 in
     let rest = passes_are views (g + 1) (t + 1) js step apart (λ i k at. let q : PlaceStands views g (suc i) k = places (suc i) k at in let s : g + suc i ≡ g + 1 + i = omega arith in
-        record { view = q.view; at = q.at; in_queue = q.in_queue; ticket = q.ticket ∙ ap (λ (x : ℕ). x % 2 ^ 64) s }) in
+    record { view = q.view; at = q.at; in_queue = q.in_queue; ticket = q.ticket ∙ ap (λ (x : ℕ). x % 2 ^ 64) s }) in
     λ i. h i ∷ rest i
 
 -- a seat that is busy has a place in the queue

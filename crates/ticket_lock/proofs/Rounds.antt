@@ -1,22 +1,17 @@
 -- Tickets modulo 2 ^ 64, and what the sums of the rule say of the queue.
-use Rattle.std.proofs.Common.{◌≡◌, ◌≢◌, ◌⊎◌, ℕ, zero, suc, ◌+◌, ◌-◌, ◌*◌, ◌/◌, ◌%◌, ◌^◌, ◌<◌, ◌≤◌, Bool, true, false, cond, List, [], ◌∷◌, ◌++◌, length, set, refl, ap, sym, ◌∙◌, subst, inl, inr, ⊎_elim, arith, Option, Some, None}
-use Rattle.std.proofs.Math.Nat.{mod-add-mod, add-mod-mod, div-add-mod'}
+use Rattle.std.proofs.Common.{◌≡◌, ℕ, ◌+◌, ◌-◌, ◌*◌, ◌/◌, ◌%◌, ◌^◌, ◌<◌, ◌≤◌, Bool, true, false, List, length, refl, ap, sym, ◌∙◌, arith, Option}
+use Rattle.std.proofs.Math.Nat.{mod-add-mod, div-add-mod'}
 use Rattle.std.proofs.lemmas.Nat.{mod-mul-add, mod_below}
-use Rattle.std.specs.List.{sum_by}
-use mathlib.Core.Option.{some, none, some-injective, some-ne-none}
 use native.Mathlib.Decide.{dec_le}
-use lib.ListN.{get_elem?}
 use Rattle.atomic_table.specs.Table.{State}
 use Rattle.atomic_table.proofs.Lists.{one_turn}
 use Rattle.lock_rules.specs.Tag.{Tag}
 use Rattle.lock_rules.specs.Views.{numbers_of}
-use Rattle.lock_rules.specs.declared.view.Phase.{Phase}
-use Rattle.lock_rules.specs.declared.view.Phase.TheVariants.{Idle, Queued, Holding, Leaving}
 use Rattle.lock_rules.specs.declared.view.View.{View}
-use Rattle.lock_rules.proofs.Sums.{sum_le, some_part}
+use Rattle.lock_rules.proofs.Sums.{sum_le}
 use Rattle.lock_rules.proofs.Numbers.{numbers_unspent}
-use Rattle.ticket_lock.specs.Queue.{is_busy, is_holding}
-use Rattle.ticket_lock.specs.Rule.{busy, holds, Knows, SeatStands, IsTicket}
+use Rattle.ticket_lock.specs.Queue.{is_busy}
+use Rattle.ticket_lock.specs.Rule.{busy, SeatStands, IsTicket}
 
 abbrev M : ℕ
 M = 2 ^ 64
@@ -37,8 +32,9 @@ out_is f k h =
 -- two places less than a turn apart that have one ticket are one
 pub one_place : (f i j : ℕ) → i < 2 ^ 64 → j < 2 ^ 64 → (f + i) % 2 ^ 64 ≡ (f + j) % 2 ^ 64 → i ≡ j
 one_place f i j hi hj e = elim (dec_le i j) [
-    yes le ↦ let s : f + i ≡ f + j = one_turn (f + i) (f + j) (2 ^ 64) (omega arith) (omega arith) e in omega arith
-    | no gt ↦ let s : f + j ≡ f + i = one_turn (f + j) (f + i) (2 ^ 64) (omega arith) (omega arith) (sym e) in omega arith ]
+  | yes le ↦ let s : f + i ≡ f + j = one_turn (f + i) (f + j) (2 ^ 64) (omega arith) (omega arith) e in omega arith
+  | no gt ↦ let s : f + j ≡ f + i = one_turn (f + j) (f + i) (2 ^ 64) (omega arith) (omega arith) (sym e) in omega arith
+]
 
 -- a seat that is busy isn't spent
 pub busy_lives : (tag : Tag) (first : ℕ) (seats : List ℕ) (j : ℕ) (v : View) → SeatStands tag first seats j v → is_busy v.phase ≡ true → v.spent ≡ false
@@ -46,8 +42,9 @@ busy_lives tag first seats j v st b = elim (v.spent) as (λ x. v.spent ≡ x →
 
 busy_le : (tag : Tag) (first : ℕ) (seats : List ℕ) (j : ℕ) (v : View) → SeatStands tag first seats j v → busy v ≤ numbers_of v
 busy_le tag first seats j v st = elim (is_busy v.phase) as (λ x. is_busy v.phase ≡ x → busy v ≤ numbers_of v) [
-    false ↦ λ e. rw e (omega arith)
-    | true ↦ λ e. let n = numbers_unspent v (busy_lives tag first seats j v st e) in let b : busy v ≡ 1 = rw e refl in omega (arith, n, b) ] refl
+  | false ↦ λ e. rw e (omega arith)
+  | true ↦ λ e. let n = numbers_unspent v (busy_lives tag first seats j v st e) in let b : busy v ≡ 1 = rw e refl in omega (arith, n, b)
+] refl
 
 module _ {V : Type 0} (fit : V → Type 0) (tag_of : V → Tag) (parked : V → Bool) where
   -- the queue is no longer than the number of passes

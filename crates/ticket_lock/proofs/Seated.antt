@@ -1,5 +1,5 @@
 -- A seat after a step: its table and its number stay.
-use Rattle.std.proofs.Common.{◌≡◌, ℕ, ◌+◌, ◌-◌, false, List, [], ◌∷◌, length, length-append, refl, ap, sym, ◌∙◌, subst, arith, Option, Some}
+use Rattle.std.proofs.Common.{◌≡◌, ℕ, ◌+◌, false, List, [], ◌∷◌, length, length-append, refl, ap, sym, ◌∙◌, subst, arith, Option, Some}
 use mathlib.Core.Option.{some, some-injective}
 use Rattle.atomic_table.specs.Table.{rest}
 use Rattle.atomic_table.specs.declared.badge.Badge.{Badge}

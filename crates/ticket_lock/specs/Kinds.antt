@@ -1,12 +1,11 @@
 -- The kinds of atomic step of a Ticket lock, what each does to the view of its seat, and its event in the queue.
-use Rattle.std.specs.Prelude.{◌≡◌, ◌≢◌, ℕ, ◌+◌, ◌%◌, ◌^◌, Bool, true, false, List, [], ◌∷◌, Option, Some, None, slice_index, ◌==◌, not}
+use Rattle.std.specs.Prelude.{◌≡◌, ◌≢◌, ℕ, ◌+◌, ◌%◌, ◌^◌, Bool, true, false, List, [], ◌∷◌, Option, Some, slice_index, ◌==◌, not}
 use Rattle.atomic_table.specs.Table.{State, Me, Step}
 use mathlib.Core.Option.{some}
 use lib.ListN.{get_elem?}
 use Rattle.lock_rules.specs.Tag.{Tag}
 use Rattle.lock_rules.specs.Queue.{Enters, Takes, Leaves, Stays}
 use Rattle.lock_rules.specs.Views.{answer_of}
-use Rattle.lock_rules.specs.declared.step.Answer.{Answer}
 use Rattle.lock_rules.specs.declared.step.Answer.TheVariants.{Open}
 use Rattle.lock_rules.specs.declared.view.Phase.TheVariants.{Idle, Queued, Holding}
 use Rattle.lock_rules.specs.declared.view.View.{View}

@@ -1,5 +1,5 @@
 -- The queue of a Ticket lock, computed from the words and the views of its table.
-use Rattle.std.specs.Prelude.{◌≡◌, ℕ, zero, suc, ◌+◌, ◌-◌, ◌%◌, ◌^◌, Bool, true, false, cond, ◌&&◌, List, [], ◌∷◌, slice_index, ◌==◌}
+use Rattle.std.specs.Prelude.{ℕ, zero, suc, ◌+◌, ◌-◌, ◌%◌, ◌^◌, Bool, true, false, cond, ◌&&◌, List, [], ◌∷◌, slice_index, ◌==◌}
 use Rattle.lock_rules.specs.declared.view.Phase.{Phase}
 use Rattle.lock_rules.specs.declared.view.Phase.TheVariants.{Queued, Holding}
 use Rattle.lock_rules.specs.declared.view.View.{View}

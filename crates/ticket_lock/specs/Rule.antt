@@ -1,12 +1,11 @@
 -- The rule of a Ticket lock: what holds of the words, of the value at home and of all views between any two steps.
-use Rattle.std.specs.Prelude.{◌≡◌, ◌⊎◌, ℕ, ◌+◌, ◌%◌, ◌^◌, ◌<◌, Bool, true, false, cond, List, [], ◌∷◌, length, Option, Some, None}
+use Rattle.std.specs.Prelude.{◌≡◌, ◌⊎◌, ℕ, ◌+◌, ◌%◌, ◌^◌, ◌<◌, Bool, true, false, cond, List, [], ◌∷◌, length, Option, Some}
 use Rattle.std.specs.List.{sum_by}
 use mathlib.Core.Option.{some, none}
 use lib.ListN.{get_elem?}
 use Rattle.atomic_table.specs.Table.{State}
 use Rattle.lock_rules.specs.Tag.{Tag}
 use Rattle.lock_rules.specs.Numbers.{HasNumbers}
-use Rattle.lock_rules.specs.declared.step.Answer.{Answer}
 use Rattle.lock_rules.specs.declared.step.Answer.TheVariants.{Yes}
 use Rattle.lock_rules.specs.declared.view.Phase.{Phase}
 use Rattle.lock_rules.specs.declared.view.Phase.TheVariants.{Idle, Queued, Holding, Leaving}

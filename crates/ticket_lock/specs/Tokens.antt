@@ -1,7 +1,6 @@
 -- What the tokens of a Ticket lock mean.
-use Rattle.std.specs.Prelude.{◌≡◌, ℕ, List, [], ◌∷◌, length}
+use Rattle.std.specs.Prelude.{◌≡◌, List, [], ◌∷◌, length}
 use Rattle.atomic_table.specs.declared.badge.Badge.{Badge}
-use Rattle.lock_rules.specs.Tag.{leaf}
 use Rattle.lock_rules.specs.Meanings.{Place, Waiting}
 use Rattle.lock_rules.specs.Views.{IsPlain, spent_view, lock_name, place_of, waiting_of}
 use Rattle.lock_rules.specs.declared.hold.Algorithm.TheVariants.{Ticket}

@@ -58,8 +58,7 @@ impl<V: Cargo> Basic<V> for Ticket<V> {
         Ok((Ticket { table }, list))
     }
 
-    fn begin(&self, pass: Pass) -> Step<Queue, Hold<V>>
-    {
+    fn begin(&self, pass: Pass) -> Step<Queue, Hold<V>> {
         let Pass { badge } = pass;
         let mut seat = badge.into_seat();
         let ticket = fetch_and_increment_next(&self.table.shared, &mut seat);
@@ -92,8 +91,7 @@ impl<V: Cargo> Basic<V> for Ticket<V> {
         next != held.grasp.mark.wrapping_add(1)
     }
 
-    fn begin_release(&self, held: Hold<V>) -> Step<Leave, Pass>
-    {
+    fn begin_release(&self, held: Hold<V>) -> Step<Leave, Pass> {
         let Hold { grasp, value } = held;
         let Grasp {
             algorithm: _,

@@ -57,7 +57,11 @@ pub(crate) fn load_next<V: Cargo>(words: &Words<V>, seat: &mut Seat<Option<V>, V
 }
 
 /// Serves the ticket behind the holder's, by which the holder leaves the queue and gives the slot back.
-pub(crate) fn store_serving<V: Cargo>(words: &Words<V>, seat: &mut Seat<Option<V>, View>, ticket: u64)
+pub(crate) fn store_serving<V: Cargo>(
+    words: &Words<V>,
+    seat: &mut Seat<Option<V>, View>,
+    ticket: u64,
+)
     requires table { seat.old.table_id ≡ words.now.table_id }
     requires size { IsSized words.now.table_id }
     requires holds { seat.old.me.0.phase ≡ Holding }

@@ -1,12 +1,8 @@
-use Rattle.std.proofs.Common.{◌≡◌, ℕ, ◌+◌, ◌-◌, ◌≤◌, List, [], refl, ap, sym, ◌∙◌, subst, arith, rules}
+use Rattle.std.proofs.Common.{◌≡◌, ◌+◌, ◌-◌, refl, ap, sym, ◌∙◌, arith, rules}
 use Rattle.std.proofs.lemmas.Grind.{common_steps}
-use Rattle.lock_rules.specs.Meanings.{Place}
-use Rattle.lock_rules.specs.Passes.{AreAll}
 use Rattle.lock_rules.specs.Views.{without_next, next_split, lock_name}
 use Rattle.lock_rules.specs.declared.hold.Algorithm.TheVariants.{Ticket}
 use Rattle.lock_rules.proofs.Passes.{one_more}
-use Rattle.ticket_lock.specs.Tokens.{badge_place}
-use Rattle.ticket_lock.specs.declared.tokens.Pass.{Pass}
 use Rattle.ticket_lock.proofs.Kept.{splits}
 use Rattle.ticket_lock.proofs.Seated.{view_is, place_is}
 use Rattle.ticket_lock.proofs.deals.deal.Goals as goal

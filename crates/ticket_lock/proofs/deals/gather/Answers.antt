@@ -1,7 +1,5 @@
-use Rattle.std.proofs.Common.{◌≡◌, ℕ, ◌+◌, ◌-◌, ◌++◌, [], ◌∷◌, length, ap, sym, ◌∙◌, subst, arith, rules, length-append}
+use Rattle.std.proofs.Common.{ap, sym, ◌∙◌, subst, arith, rules}
 use Rattle.lock_rules.specs.Views.{IsPlain, numbers_of}
-use Rattle.lock_rules.specs.declared.view.View.{View}
-use Rattle.lock_rules.proofs.Numbers.{numbers_unspent}
 use Rattle.lock_rules.proofs.Passes.{one_less}
 use Rattle.lock_rules.proofs.Names.{lock_name-tells}
 use Rattle.ticket_lock.proofs.Kept.{joins}

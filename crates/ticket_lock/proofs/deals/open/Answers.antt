@@ -1,4 +1,4 @@
-use Rattle.std.proofs.Common.{◌≡◌, false, Some, ap, sym, ◌∙◌, subst}
+use Rattle.std.proofs.Common.{◌≡◌, ap, sym, ◌∙◌, subst}
 use mathlib.Core.Option.{some-injective}
 use Rattle.ticket_lock.proofs.Seated.{taken}
 use Rattle.ticket_lock.proofs.Kept.{ends}

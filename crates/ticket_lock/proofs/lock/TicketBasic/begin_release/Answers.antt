@@ -1,4 +1,4 @@
-use Rattle.std.proofs.Common.{◌≡◌, ℕ, ◌+◌, ◌%◌, ◌^◌, ap, sym, ◌∙◌}
+use Rattle.std.proofs.Common.{ℕ, ◌+◌, ◌%◌, ◌^◌, ap, sym, ◌∙◌}
 use Rattle.ticket_lock.specs.Kinds.{left}
 use Rattle.ticket_lock.proofs.Seated.{held_here, in_hand, mark_is, view_is, place_is, held_place}
 use Rattle.ticket_lock.proofs.lock.TicketBasic.begin_release.Goals as goal
