@@ -1,0 +1,23 @@
+-- Which pass a token of a script is of.
+use Rattle.std.specs.Prelude.{◌≡◌}
+use Rattle.lock_rules.specs.Tag.{Tag}
+use Rattle.lock_rules.specs.Meanings.{Place, Waiting, Grip}
+use Rattle.lock_trials.specs.declared.script.Token.{Token}
+use Rattle.lock_trials.specs.declared.script.Token.TheVariants.{Idle, Queued, Holding, Leaving}
+
+module _ {P Q H L V : Type 0} (pass : P → Place) (queue : Q → Waiting) (held : H → Grip V) (leave : L → Waiting) where
+  abbrev pub place_of_token : Token P Q H L → Place
+  place_of_token (Idle p) = pass p
+  place_of_token (Queued q) = (queue q).place
+  place_of_token (Holding h) = (held h).place
+  place_of_token (Leaving l) = (leave l).place
+
+  -- the tokens of the passes 0 and 1 of a lock
+  pub record ArePair (lock tag : Tag) (first second : Token P Q H L) : Type 0 where
+    pub first_is : place_of_token first ≡ record { lock = lock; tag = tag; number = 0 }
+    pub second_is : place_of_token second ≡ record { lock = lock; tag = tag; number = 1 }
+
+module _ {P : Type 0} (pass : P → Place) where
+  pub record ArePasses (lock tag : Tag) (first second : P) : Type 0 where
+    pub first_is : pass first ≡ record { lock = lock; tag = tag; number = 0 }
+    pub second_is : pass second ≡ record { lock = lock; tag = tag; number = 1 }

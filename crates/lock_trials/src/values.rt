@@ -1,0 +1,47 @@
+//! The values that the locks keep in the trials.
+ghost use Rattle.std.specs.Prelude.{◌≡◌, false};
+ghost use Rattle.lock_rules.specs.Tag.{leaf};
+ghost use Rattle.lock_rules.specs.declared.step.Answer.TheVariants.{Open};
+
+use lock_rules::Cargo;
+
+/// A number. It may always stand at home, is never parked and keeps no answer.
+#[derive(Drop)]
+pub struct Tally {
+    pub count: u64,
+}
+
+impl Cargo for Tally {
+    ghost tag = { λ _. leaf 0 };
+
+    ghost fit = { λ _. Unit {0} };
+
+    ghost parked = { λ _. false };
+
+    ghost said = { λ _. Open };
+
+    fn parked(&self) -> bool {
+        false
+    }
+}
+
+/// A number that its holder may park where somebody is queued behind.
+#[derive(Drop)]
+pub struct Parcel {
+    pub count: u64,
+    pub parked: bool,
+}
+
+impl Cargo for Parcel {
+    ghost tag = { λ _. leaf 0 };
+
+    ghost fit = { λ _. Unit {0} };
+
+    ghost parked = { λ p. p.parked };
+
+    ghost said = { λ _. Open };
+
+    fn parked(&self) -> bool {
+        self.parked
+    }
+}
