@@ -2,9 +2,9 @@
 ghost use Rattle.std.specs.Prelude.{◌≡◌, ◌+◌, IfSome, length, vec_len};
 ghost use Rattle.lock_rules.specs.Tag.{leaf};
 ghost use Rattle.lock_rules.specs.Passes.{IsOf};
-ghost use Rattle.lock_trials.specs.Tokens.{place_of_token, ArePair, ArePasses};
+ghost use Rattle.lock_trials.specs.Tokens.{place_of_token, Stands, IsNoted, IsSound, ArePair, ArePasses};
 
-use crate::values::Tally;
+use crate::parcel::Parcel;
 use lock_rules::{Basic, Step};
 use std::alloc::Global;
 
@@ -22,6 +22,10 @@ pub enum Call {
     Waiter,
     BeginRelease,
     PollRelease,
+    /// Parks the value, which a holder may do behind a yes of `waiter`.
+    Park,
+    /// Takes the value's mark off.
+    Unpark,
 }
 
 /// A call of a script.
@@ -31,7 +35,7 @@ pub struct Move {
     pub call: Call,
 }
 
-/// What a call answered: `Not` or `Got`, and for `waiter` yes or no.
+/// What a call answered: `Not` or `Got`; for `waiter` yes or no; for `Unpark` whether the value was parked.
 #[derive(Clone, Copy, PartialEq, Eq, Debug, Drop)]
 pub enum Told {
     Not,
@@ -52,81 +56,137 @@ pub struct Outcome {
 pub enum Token<P, Q, H, L> {
     Idle(P),
     Queued(Q),
-    Holding(H),
+    Holding(Holder<H>),
     Leaving(L),
 }
 
+/// A holder's token, and whether the last `waiter` of this hold said yes.
+#[derive(Drop)]
+pub struct Holder<H> {
+    pub held: H,
+    pub followed: bool,
+}
 
-fn play_idle<B: Basic<Tally>>(
+
+fn play_idle<B: Basic<Parcel>>(
     lock: &B,
     pass: B::Pass,
     call: Call,
 ) -> Option<(Token<B::Pass, B::Queue, B::Held, B::Leave>, Told)>
     requires { IsOf (B.name lock.now) (B.tag lock.now) (B.Pass.place pass) }
-    ensures { IfSome result (λ t. place_of_token B.Pass.place B.Queue.waiting B.Held.grip B.Leave.waiting t.0 ≡ B.Pass.place pass) }
+    ensures { IfSome result (λ t. Stands B.Pass.place B.Queue.waiting B.Held.grip B.Leave.waiting (B.Pass.place pass) t.0) }
 {
     let Call::Begin = call else { return None };
     match lock.begin(pass) {
         Step::Not(queue) => Some((Token::Queued(queue), Told::Not)),
-        Step::Got(held) => Some((Token::Holding(held), Told::Got)),
+        Step::Got(held) => Some((Token::Holding(Holder {
+                held,
+                followed: false,
+            }), Told::Got)),
     }
 }
 
-fn play_queued<B: Basic<Tally>>(
+fn play_queued<B: Basic<Parcel>>(
     lock: &B,
     queue: B::Queue,
     call: Call,
 ) -> Option<(Token<B::Pass, B::Queue, B::Held, B::Leave>, Told)>
     requires { IsOf (B.name lock.now) (B.tag lock.now) (B.Queue.waiting queue).place }
-    ensures { IfSome result (λ t. place_of_token B.Pass.place B.Queue.waiting B.Held.grip B.Leave.waiting t.0 ≡ (B.Queue.waiting queue).place) }
+    ensures { IfSome result (λ t. Stands B.Pass.place B.Queue.waiting B.Held.grip B.Leave.waiting (B.Queue.waiting queue).place t.0) }
 {
     let Call::Poll = call else { return None };
     match lock.poll(queue) {
         Step::Not(queue) => Some((Token::Queued(queue), Told::Not)),
-        Step::Got(held) => Some((Token::Holding(held), Told::Got)),
+        Step::Got(held) => Some((Token::Holding(Holder {
+                held,
+                followed: false,
+            }), Told::Got)),
     }
 }
 
-fn release<B: Basic<Tally>>(
+fn release<B: Basic<Parcel>>(
     lock: &B,
-    held: B::Held,
-) -> (Token<B::Pass, B::Queue, B::Held, B::Leave>, Told)
-    requires own { IsOf (B.name lock.now) (B.tag lock.now) (B.Held.grip held).place }
+    holder: Holder<B::Held>,
+) -> Option<(Token<B::Pass, B::Queue, B::Held, B::Leave>, Told)>
+    requires own { IsOf (B.name lock.now) (B.tag lock.now) (B.Held.grip holder.held).place }
     requires tag { B.tag lock.now ≡ leaf 0 }
-    ensures { place_of_token B.Pass.place B.Queue.waiting B.Held.grip B.Leave.waiting result.0 ≡ (B.Held.grip held).place }
+    requires said { IsNoted B.Held.grip holder }
+    ensures { IfSome result (λ t. Stands B.Pass.place B.Queue.waiting B.Held.grip B.Leave.waiting (B.Held.grip holder.held).place t.0) }
 {
+    let Holder { held, followed } = holder;
+    if B::value(&held).parked && !followed {
+        return None;
+    }
     match lock.begin_release(held) {
-        Step::Not(leave) => (Token::Leaving(leave), Told::Not),
-        Step::Got(pass) => (Token::Idle(pass), Told::Got),
+        Step::Not(leave) => Some((Token::Leaving(leave), Told::Not)),
+        Step::Got(pass) => Some((Token::Idle(pass), Told::Got)),
     }
 }
 
-fn play_holding<B: Basic<Tally>>(
+fn ask<B: Basic<Parcel>>(lock: &B, holder: Holder<B::Held>) -> (Holder<B::Held>, Told)
+    requires { IsOf (B.name lock.now) (B.tag lock.now) (B.Held.grip holder.held).place }
+    ensures place { (B.Held.grip result.0.held).place ≡ (B.Held.grip holder.held).place }
+    ensures said { IsNoted B.Held.grip result.0 }
+{
+    let Holder { mut held, followed: _ } = holder;
+    let followed = lock.waiter(&mut held);
+    let told = if followed { Told::Yes } else { Told::No };
+    (Holder { held, followed }, told)
+}
+
+fn park<B: Basic<Parcel>>(holder: Holder<B::Held>) -> Holder<B::Held>
+    requires { IsNoted B.Held.grip holder }
+    ensures place { (B.Held.grip result.held).place ≡ (B.Held.grip holder.held).place }
+    ensures said { IsNoted B.Held.grip result }
+{
+    let Holder { mut held, followed } = holder;
+    B::value_mut(&mut held).parked = true;
+    Holder { held, followed }
+}
+
+fn unpark<B: Basic<Parcel>>(holder: Holder<B::Held>) -> (Holder<B::Held>, Told)
+    requires { IsNoted B.Held.grip holder }
+    ensures place { (B.Held.grip result.0.held).place ≡ (B.Held.grip holder.held).place }
+    ensures said { IsNoted B.Held.grip result.0 }
+{
+    let Holder { mut held, followed } = holder;
+    let told = if B::value(&held).parked { Told::Yes } else { Told::No };
+    B::value_mut(&mut held).parked = false;
+    (Holder { held, followed }, told)
+}
+
+fn play_holding<B: Basic<Parcel>>(
     lock: &B,
-    mut held: B::Held,
+    holder: Holder<B::Held>,
     call: Call,
 ) -> Option<(Token<B::Pass, B::Queue, B::Held, B::Leave>, Told)>
-    requires own { IsOf (B.name lock.now) (B.tag lock.now) (B.Held.grip held).place }
+    requires own { IsOf (B.name lock.now) (B.tag lock.now) (B.Held.grip holder.held).place }
     requires tag { B.tag lock.now ≡ leaf 0 }
-    ensures { IfSome result (λ t. place_of_token B.Pass.place B.Queue.waiting B.Held.grip B.Leave.waiting t.0 ≡ (B.Held.grip held).place) }
+    requires said { IsNoted B.Held.grip holder }
+    ensures { IfSome result (λ t. Stands B.Pass.place B.Queue.waiting B.Held.grip B.Leave.waiting (B.Held.grip holder.held).place t.0) }
 {
     match call {
         Call::Waiter => {
-            let told = if lock.waiter(&mut held) { Told::Yes } else { Told::No };
-            Some((Token::Holding(held), told))
+            let (holder, told) = ask(lock, holder);
+            Some((Token::Holding(holder), told))
         }
-        Call::BeginRelease => Some(release(lock, held)),
+        Call::Park => Some((Token::Holding(park::<B>(holder)), Told::Got)),
+        Call::Unpark => {
+            let (holder, told) = unpark::<B>(holder);
+            Some((Token::Holding(holder), told))
+        }
+        Call::BeginRelease => release(lock, holder),
         _ => None,
     }
 }
 
-fn play_leaving<B: Basic<Tally>>(
+fn play_leaving<B: Basic<Parcel>>(
     lock: &B,
     leave: B::Leave,
     call: Call,
 ) -> Option<(Token<B::Pass, B::Queue, B::Held, B::Leave>, Told)>
     requires { IsOf (B.name lock.now) (B.tag lock.now) (B.Leave.waiting leave).place }
-    ensures { IfSome result (λ t. place_of_token B.Pass.place B.Queue.waiting B.Held.grip B.Leave.waiting t.0 ≡ (B.Leave.waiting leave).place) }
+    ensures { IfSome result (λ t. Stands B.Pass.place B.Queue.waiting B.Held.grip B.Leave.waiting (B.Leave.waiting leave).place t.0) }
 {
     let Call::PollRelease = call else {
         return None;
@@ -138,19 +198,20 @@ fn play_leaving<B: Basic<Tally>>(
 }
 
 /// Makes a call of a pass. The answer is `None` where the call isn't one of a pass that stands so.
-fn play<B: Basic<Tally>>(
+fn play<B: Basic<Parcel>>(
     lock: &B,
     token: Token<B::Pass, B::Queue, B::Held, B::Leave>,
     call: Call,
 ) -> Option<(Token<B::Pass, B::Queue, B::Held, B::Leave>, Told)>
     requires own { IsOf (B.name lock.now) (B.tag lock.now) (place_of_token B.Pass.place B.Queue.waiting B.Held.grip B.Leave.waiting token) }
+    requires sound { IsSound B.Pass.place B.Queue.waiting B.Held.grip B.Leave.waiting token }
     requires tag { B.tag lock.now ≡ leaf 0 }
-    ensures { IfSome result (λ t. place_of_token B.Pass.place B.Queue.waiting B.Held.grip B.Leave.waiting t.0 ≡ place_of_token B.Pass.place B.Queue.waiting B.Held.grip B.Leave.waiting token) }
+    ensures { IfSome result (λ t. Stands B.Pass.place B.Queue.waiting B.Held.grip B.Leave.waiting (place_of_token B.Pass.place B.Queue.waiting B.Held.grip B.Leave.waiting token) t.0) }
 {
     match token {
         Token::Idle(pass) => play_idle(lock, pass, call),
         Token::Queued(queue) => play_queued(lock, queue, call),
-        Token::Holding(held) => play_holding(lock, held, call),
+        Token::Holding(holder) => play_holding(lock, holder, call),
         Token::Leaving(leave) => play_leaving(lock, leave, call),
     }
 }
@@ -163,7 +224,7 @@ struct Pair<P, Q, H, L> {
 }
 
 /// Makes one move of a script.
-fn make_move<B: Basic<Tally>>(
+fn make_move<B: Basic<Parcel>>(
     lock: &B,
     pair: Pair<B::Pass, B::Queue, B::Held, B::Leave>,
     next: Move,
@@ -186,7 +247,7 @@ fn make_move<B: Basic<Tally>>(
 }
 
 /// Makes all moves of a script, and notes the answers.
-fn make_moves<B: Basic<Tally>>(
+fn make_moves<B: Basic<Parcel>>(
     lock: &B,
     mut pair: Pair<B::Pass, B::Queue, B::Held, B::Leave>,
     moves: &[Move],
@@ -211,14 +272,17 @@ fn make_moves<B: Basic<Tally>>(
 
 /// A lock with two passes, the moves of a script on it, and its end. The answer is `None` for want of memory, or where a move isn't one of a pass
 /// that stands so, or a pass isn't idle at the end.
-pub fn carry_out<B: Basic<Tally> + Drop>(
+pub fn carry_out<B: Basic<Parcel> + Drop>(
     alloc: Global,
     recipe: B::Recipe,
     moves: &[Move],
 ) -> Option<Outcome>
     ensures { IfSome result (λ o. vec_len o.told ≡ length moves.now) }
 {
-    let (lock, mut passes) = B::make(alloc, recipe, 2, Tally { count: 7 }).ok()?;
+    let (lock, mut passes) = B::make(alloc, recipe, 2, Parcel {
+        count: 7,
+        parked: false,
+    }).ok()?;
     let second = Token::Idle(passes.pop()?);
     let first = Token::Idle(passes.pop()?);
     let mut told = Vec::new(alloc);
