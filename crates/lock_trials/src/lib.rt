@@ -6,6 +6,8 @@
 
 mod parcel;
 mod script;
+mod threads;
 
 pub use parcel::Parcel;
 pub use script::{Call, Holder, Move, Outcome, Told, Token, Who, carry_out};
+pub use threads::{HOLDS, hold_by_four};
