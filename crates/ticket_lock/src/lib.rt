@@ -11,6 +11,8 @@ mod deals;
 mod lock;
 mod plays;
 mod steps;
+#[cfg(test)]
+mod tests;
 mod tokens;
 
 pub use lock::Ticket;
