@@ -11,10 +11,10 @@ use Rattle.lock_rules.specs.Numbers.{HasNumbers}
 use Rattle.lock_rules.specs.declared.view.View.{View}
 use Rattle.lock_rules.proofs.Sums.{sum_set, parts_le}
 
-abbrev span : ℕ → ℕ → ℕ → ℕ
+abbrev pub span : ℕ → ℕ → ℕ → ℕ
 span from to k = cond (nat_le from k && nat_lt k to) 1 0
 
-abbrev hits : ℕ → ℕ → ℕ
+abbrev pub hits : ℕ → ℕ → ℕ
 hits a k = cond (a == k) 1 0
 
 -- the first of a span is one of it, and the rest is a span
@@ -30,7 +30,7 @@ first_hit n k h = grind (arith, nat_tests)
 pub numbers_unspent : (v : View) → v.spent ≡ false → numbers_of v ≡ 1 + (v.to - v.from) + length v.joined
 numbers_unspent v e = rw e refl
 
-stands_unspent : (k : ℕ) (v : View) → v.spent ≡ false → stands_in k v ≡ hits v.number k + span v.from v.to k + count_by (λ x. x == k) v.joined
+pub stands_unspent : (k : ℕ) (v : View) → v.spent ≡ false → stands_in k v ≡ hits v.number k + span v.from v.to k + count_by (λ x. x == k) v.joined
 stands_unspent k v e = rw e refl
 
 -- the first seat alone

@@ -6,3 +6,4 @@ pub mod Passes
 pub mod Holds
 pub mod Queue
 pub mod Numbers
+pub mod Points
