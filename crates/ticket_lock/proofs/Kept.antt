@@ -43,50 +43,51 @@ module _ {A : Type 0} where
   head_cut (x ∷ xs) a e = (xs, λ i. some-injective x a e i ∷ xs)
 
 -- an element of a mapped list
-mapped : (f : ℕ → ℕ) (l : List ℕ) (i x : ℕ) → slice_get (map f l) i ≡ Some x → (j : ℕ) × (get_elem? l i ≡ some j) × (f j ≡ x)
+pub mapped : (f : ℕ → ℕ) (l : List ℕ) (i x : ℕ) → slice_get (map f l) i ≡ Some x → (j : ℕ) × (get_elem? l i ≡ some j) × (f j ≡ x)
 mapped f [] i x e = absurd (cc)
 mapped f (y ∷ ys) zero x e = (y, refl, cc)
 mapped f (y ∷ ys) (suc i) x e = mapped f ys i x e
 
-first_there : (l : List ℕ) → 0 < length l → (a : ℕ) × (get_elem? l 0 ≡ some a)
-first_there [] h = absurd (omega arith)
-first_there (x ∷ xs) h = (x, refl)
+pub there : (l : List ℕ) (i : ℕ) → i < length l → (a : ℕ) × (get_elem? l i ≡ some a)
+there [] i h = absurd (omega arith)
+there (x ∷ xs) zero h = (x, refl)
+there (x ∷ xs) (suc i) h = there xs i (omega arith)
 
-busy_is : (v : View) (p : Phase) → v.phase ≡ p → busy v ≡ cond (is_busy p) 1 0
+pub busy_is : (v : View) (p : Phase) → v.phase ≡ p → busy v ≡ cond (is_busy p) 1 0
 busy_is v p e = ap (λ (x : Phase). cond (is_busy x) 1 0) e
 
-holds_is : (v : View) (p : Phase) → v.phase ≡ p → holds v ≡ cond (is_holding p) 1 0
+pub holds_is : (v : View) (p : Phase) → v.phase ≡ p → holds v ≡ cond (is_holding p) 1 0
 holds_is v p e = ap (λ (x : Phase). cond (is_holding x) 1 0) e
 
-holding : (p : Phase) → 0 < cond (is_holding p) 1 0 → p ≡ Holding
+pub holding : (p : Phase) → 0 < cond (is_holding p) 1 0 → p ≡ Holding
 holding Idle h = absurd (omega arith)
 holding Queued h = absurd (omega arith)
 holding Holding h = refl
 holding Leaving h = absurd (omega arith)
 
-knows_as : (first : ℕ) (seats : List ℕ) (seat : ℕ) (v : View) (p : Phase) → v.phase ≡ p → Knows first seats seat v v.phase → Knows first seats seat v p
+pub knows_as : (first : ℕ) (seats : List ℕ) (seat : ℕ) (v : View) (p : Phase) → v.phase ≡ p → Knows first seats seat v v.phase → Knows first seats seat v p
 knows_as first seats seat v p e k = subst (Knows first seats seat v) e k
 
 -- one more pass at the end changes nothing for the others
-knows_longer : (first : ℕ) (seats : List ℕ) (new seat : ℕ) (v : View) (p : Phase) → Knows first seats seat v p → Knows first (seats ++ new ∷ []) seat v p
+pub knows_longer : (first : ℕ) (seats : List ℕ) (new seat : ℕ) (v : View) (p : Phase) → Knows first seats seat v p → Knows first (seats ++ new ∷ []) seat v p
 knows_longer first seats new seat v Idle k = tt
 knows_longer first seats new seat v Queued k = (k.0, at_longer seats (new ∷ []) k.0 seat k.1, k.2)
 knows_longer first seats new seat v Holding k = (at_longer seats (new ∷ []) 0 seat k.0, k.1, λ e. let a = k.2 e in omega (arith, length-append seats (new ∷ [])))
 knows_longer first seats new seat v Leaving k = k
 
 -- the head has gone
-knows_next : (first : ℕ) (gone : ℕ) (rest : List ℕ) (seat : ℕ) (v : View) (p : Phase) → seat ≢ gone → Knows first (gone ∷ rest) seat v p → Knows (first + 1) rest seat v p
+pub knows_next : (first : ℕ) (gone : ℕ) (rest : List ℕ) (seat : ℕ) (v : View) (p : Phase) → seat ≢ gone → Knows first (gone ∷ rest) seat v p → Knows (first + 1) rest seat v p
 knows_next first gone rest seat v Idle ne k = tt
 knows_next first gone rest seat v Queued ne (zero, at, e) = absurd (ne (sym (some-injective gone seat at)))
 knows_next first gone rest seat v Queued ne (suc i, at, e) = let s : first + suc i ≡ first + 1 + i = omega arith in (i, at, e ∙ ap (λ (x : ℕ). x % 2 ^ 64) s)
 knows_next first gone rest seat v Holding ne k = absurd (ne (sym (some-injective gone seat k.0)))
 knows_next first gone rest seat v Leaving ne k = k
 
-place_kept : (views : List View) (id : ℕ) (w : View) (first i j : ℕ) → j ≢ id → PlaceStands views first i j → PlaceStands (set views id w) first i j
+pub place_kept : (views : List View) (id : ℕ) (w : View) (first i j : ℕ) → j ≢ id → PlaceStands views first i j → PlaceStands (set views id w) first i j
 place_kept views id w first i j ne p = record { view = p.view; at = set_else views id j w ne ∙ p.at; in_queue = p.in_queue; ticket = p.ticket }
 
 -- the place of a seat that stays busy with its ticket
-place_same : (views : List View) (id : ℕ) (v w : View) → get_elem? views id ≡ some v → (is_busy v.phase ≡ true → is_busy w.phase ≡ true) → w.ticket ≡ v.ticket
+pub place_same : (views : List View) (id : ℕ) (v w : View) → get_elem? views id ≡ some v → (is_busy v.phase ≡ true → is_busy w.phase ≡ true) → w.ticket ≡ v.ticket
     → (first i j : ℕ) → PlaceStands views first i j → PlaceStands (set views id w) first i j
 place_same views id v w at b t first i j p = dite (ℕ_discrete j id)
     (λ e. let same : p.view ≡ v = some-injective p.view v (sym p.at ∙ ap (get_elem? views) e ∙ at) in record {
@@ -166,7 +167,7 @@ module _ {V : Type 0} (fit : V → Type 0) (tag_of : V → Tag) (parked : V → 
   reread s r i = set-get_or s.words i 0 ∙ r.words
 
   -- Two seats that are not spent do not have one number
-  one_number : (s : St) (r : Rule s) (id j : ℕ) (v u : View) → get_elem? s.views id ≡ some v → get_elem? s.views j ≡ some u → v.spent ≡ false → u.spent ≡ false → j ≢ id → ¬ (u.number ≡ v.number)
+  pub one_number : (s : St) (r : Rule s) (id j : ℕ) (v u : View) → get_elem? s.views id ≡ some v → get_elem? s.views j ≡ some u → v.spent ≡ false → u.spent ≡ false → j ≢ id → ¬ (u.number ≡ v.number)
   one_number s r id j v u at at' live live' ne e =
       let p = parts_le (stands_in v.number) s.views id j v u (λ q. ne (sym q)) at at' in
       let a : (v.number == v.number) ≡ true = eq-eqb v.number v.number refl in
@@ -241,7 +242,7 @@ module _ {V : Type 0} (fit : V → Type 0) (tag_of : V → Tag) (parked : V → 
       )
 
   -- The first place is that of a holder, so nobody else holds beside a seat that is first
-  holder_first : (s : St) (r : Rule s) → IsAway s.views s.homes → (j : ℕ) × (v : View) × (get_elem? s.views j ≡ some v) × (v.phase ≡ Holding) × (get_elem? r.seats 0 ≡ some j)
+  pub holder_first : (s : St) (r : Rule s) → IsAway s.views s.homes → (j : ℕ) × (v : View) × (get_elem? s.views j ≡ some v) × (v.phase ≡ Holding) × (get_elem? r.seats 0 ≡ some j)
   holder_first s r away =
       let h = away.held in
       let p = some_part holds s.views (omega arith) in
@@ -445,7 +446,7 @@ module _ {V : Type 0} (fit : V → Type 0) (tag_of : V → Tag) (parked : V → 
         ),
       )
 
-  pub splits : (id : ℕ) (v : View) → v.spent ≡ false → v.from < v.to → Splits Rule id v (without_next v) (next_split v)
+  abbrev pub splits : (id : ℕ) (v : View) → v.spent ≡ false → v.from < v.to → Splits Rule id v (without_next v) (next_split v)
   splits id v live more s r at =
       let w : View = without_next v in
       let new : View = next_split v in
@@ -478,7 +479,7 @@ module _ {V : Type 0} (fit : V → Type 0) (tag_of : V → Tag) (parked : V → 
             r.slot;
       }
 
-  pub joins : (id : ℕ) (v : View) (other : ℕ) (w : View) → v.spent ≡ false → w.phase ≡ Idle → IsPlain w → Joins Rule id v other w (joined_view v w) spent_view
+  abbrev pub joins : (id : ℕ) (v : View) (other : ℕ) (w : View) → v.spent ≡ false → w.phase ≡ Idle → IsPlain w → Joins Rule id v other w (joined_view v w) spent_view
   joins id v other w live idle plain s r at apart at' =
       let both : View = joined_view v w in
       let mid : List View = set s.views id both in
@@ -551,6 +552,6 @@ module _ {V : Type 0} (fit : V → Type 0) (tag_of : V → Tag) (parked : V → 
       let home : IsHome fit tag_of parked tag r.seats s.views s.homes = ⊎_elim (λ h. h) (λ (away : IsAway s.views s.homes). let h = holder_first s r away in absurd (all_idle s r id v at idle all h.0 h.4)) r.slot in
       let quiet : parked home.value ≡ false = elim (parked home.value) as (λ b. parked home.value ≡ b → parked home.value ≡ false) [
         | false ↦ λ e. e
-        | true ↦ λ e. let c = first_there r.seats (home.relied_on e) in absurd (all_idle s r id v at idle all c.0 c.1)
+        | true ↦ λ e. let c = there r.seats 0 (home.relied_on e) in absurd (all_idle s r id v at idle all c.0 c.1)
       ] refl in
       (home.value, homes 0 (Some home.value) (ap (λ (hs : Homes). get_elem? hs 0) home.slot), home.fits, home.tagged, quiet)

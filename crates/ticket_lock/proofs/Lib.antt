@@ -2,3 +2,4 @@ pub mod Rounds
 pub mod Queues
 pub mod Kept
 pub mod Seated
+pub mod Implied

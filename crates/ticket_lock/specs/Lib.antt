@@ -3,3 +3,4 @@ pub mod Queue
 pub mod Kinds
 pub mod Tokens
 pub mod Seats
+pub mod Implied

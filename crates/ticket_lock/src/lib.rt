@@ -8,6 +8,7 @@
 #![tactic(auto)]
 
 mod deals;
+mod laws;
 mod lock;
 mod plays;
 mod steps;
@@ -15,6 +16,7 @@ mod steps;
 mod tests;
 mod tokens;
 
+pub use laws::{join_stays, rule_has_distances, rule_is_basic, split_stays};
 pub use lock::Ticket;
 pub use plays::{AddNext, LoadNext, LoadServing, StoreServing, TicketRule};
 pub use tokens::{Leave, Pass, Queue};
