@@ -4,10 +4,11 @@ ghost use Rattle.crossbeam_utils.specs.Padded.{padded_value};
 ghost use Rattle.lock_rules.specs.declared.hold.Algorithm.TheVariants.{Ticket as ticket_algorithm};
 ghost use Rattle.lock_rules.specs.declared.step.Answer.TheVariants.{Open, Yes};
 ghost use Rattle.lock_rules.specs.Views.{lock_name, answer_of};
+ghost use Rattle.lock_rules.specs.Holds.{grip_of};
 ghost use Rattle.lock_rules.specs.Steps.{IfNot, IfGot, IsNot, IsGot};
 ghost use Rattle.lock_rules.specs.Passes.{IsOf, AreAll};
 ghost use Rattle.ticket_lock.specs.Seats.{IsSized};
-ghost use Rattle.ticket_lock.specs.Tokens.{badge_place};
+ghost use Rattle.ticket_lock.specs.Tokens.{badge_place, badge_waiting};
 
 use crate::deals::{deal, gather, lay, open};
 use crate::plays::TicketRule;
@@ -106,7 +107,15 @@ impl<V: Cargo> Basic<V> for Ticket<V> {
         Step::Got(Pass { badge })
     }
 
-    fn poll_release(&self, leave: Leave) -> Step<Leave, Pass> {
+    /// The answer is never `Not`.
+    fn poll_release(&self, leave: Leave) -> Step<Leave, Pass>
+        requires own { IsOf (lock_name ticket_algorithm (padded_value self.now.table).shared.table_id) (V.tag (padded_value self.now.table).shared.key.value.value) (badge_waiting leave.pass.badge).place }
+        ensures never { IsGot result }
+        ensures leave { IfNot result (λ l. (badge_waiting l.pass.badge).place ≡ (badge_waiting leave.pass.badge).place) }
+        ensures loaded { IfNot result (λ l. (badge_waiting l.pass.badge).loads ≡ (badge_waiting leave.pass.badge).loads + 1) }
+        ensures unready { IfNot result (λ l. (badge_waiting l.pass.badge).ready ≡ false) }
+        ensures pass { IfGot result (λ p. badge_place p.badge ≡ (badge_waiting leave.pass.badge).place) }
+    {
         let Leave { pass } = leave;
         Step::Got(pass)
     }
