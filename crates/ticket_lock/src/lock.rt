@@ -67,6 +67,7 @@ impl<V: Cargo> Basic<V> for Ticket<V> {
         Step::Not(Queue { badge, ticket })
     }
 
+    #[tactic(auto, using(crate::proofs::Seated::own_table))]
     fn poll(&self, queue: Queue) -> Step<Queue, Hold<V>> {
         let Queue { badge, ticket } = queue;
         let words = &self.table.shared;

@@ -1,5 +1,6 @@
 //! The atomic steps on the lock's words, by their names in the published pseudo-code.
-ghost use Rattle.std.specs.Prelude.{◌≡◌, ◌≢◌, ◌+◌, ◌%◌, ◌^◌, [], ◌∷◌, true, false, Some};
+ghost use Rattle.std.specs.Prelude.{◌≡◌, ◌≢◌, ◌+◌, ◌%◌, ◌^◌, [], ◌∷◌, true, false, Option, Some};
+ghost use Rattle.atomic_table.specs.Table.{rest};
 ghost use Rattle.lock_rules.specs.Queue.{Enters, Takes, Leaves};
 ghost use Rattle.lock_rules.specs.declared.step.Answer.TheVariants.{Yes};
 ghost use Rattle.lock_rules.specs.declared.view.Phase.TheVariants.{Idle, Queued, Holding};
@@ -39,6 +40,7 @@ pub(crate) fn load_serving<V: Cargo>(words: &Words<V>, seat: &mut Seat<Option<V>
     requires queued { seat.old.me.0.phase ≡ Queued }
     ensures served { result ≡ seat.old.me.0.ticket → (x : V) × V.fit x × (V.tag x ≡ seat.old.me.0.tag.tag) × (seat.new ≡ seat_as seat.old (served seat.old.me.0) ((0, Some x) ∷ seat.old.me.1)) }
     ensures not_served { result ≢ seat.old.me.0.ticket → seat.new ≡ seat_as seat.old (not_served seat.old.me.0) seat.old.me.1 }
+    ensures slot { result ≡ seat.old.me.0.ticket → (x : Option V) × (seat.new.me.1 ≡ (0, x) ∷ rest seat.new.me.1) }
     ensures takes { result ≡ seat.old.me.0.ticket → Happened V.fit V.tag V.parked Takes SERVING result result seat.old.me.0 seat.new.me.0 }
     ensures stays { result ≢ seat.old.me.0.ticket → Happened V.fit V.tag V.parked Nothing SERVING result result seat.old.me.0 seat.new.me.0 }
 {
