@@ -10,4 +10,4 @@ mod threads;
 
 pub use parcel::Parcel;
 pub use script::{Call, Holder, Move, Outcome, Told, Token, Who, carry_out};
-pub use threads::{HOLDS, hold_by_four};
+pub use threads::{HOLDS, hold_alone, hold_by_four, hold_by_two};

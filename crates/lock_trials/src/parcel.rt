@@ -1,4 +1,5 @@
 //! The value that a lock keeps in the trials.
+ghost use Rattle.std.specs.Prelude.{◌≡◌, false};
 ghost use Rattle.lock_rules.specs.Tag.{leaf};
 ghost use Rattle.lock_rules.specs.declared.step.Answer.TheVariants.{Open};
 
@@ -9,6 +10,18 @@ use lock_rules::Cargo;
 pub struct Parcel {
     pub count: u64,
     pub parked: bool,
+}
+
+impl Parcel {
+    /// A parcel with the number 0.
+    pub fn new() -> Parcel
+        ensures { (result.count ≡ 0) × (result.parked ≡ false) }
+    {
+        Parcel {
+            count: 0,
+            parked: false,
+        }
+    }
 }
 
 impl Cargo for Parcel {

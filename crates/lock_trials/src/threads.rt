@@ -11,7 +11,7 @@ use std::alloc::Global;
 use std::sync::Wait;
 use std::thread::{Threads, join};
 
-/// How often each thread holds the lock.
+/// How often each thread holds the lock in the tests of the locks.
 pub const HOLDS: u32 = 100;
 
 /// Adds one to the number in the value. Where `parks` is true the value is unparked first, and is parked again where somebody is queued behind.
@@ -28,13 +28,19 @@ fn hold<B: Basic<Parcel>, R: Wait>(rt: &R, lock: &B, pass: B::Pass, parks: bool)
     lock.release(rt, held)
 }
 
-fn hold_often<B: Basic<Parcel>, R: Wait>(rt: &R, lock: &B, pass: B::Pass, parks: bool) -> B::Pass
+fn hold_often<B: Basic<Parcel>, R: Wait>(
+    rt: &R,
+    lock: &B,
+    pass: B::Pass,
+    holds: u32,
+    parks: bool,
+) -> B::Pass
     requires own { IsOf (B.name lock.now) (B.tag lock.now) (B.Pass.place pass) }
     requires tag { B.tag lock.now ≡ leaf 0 }
     ensures { B.Pass.place result ≡ B.Pass.place pass }
 {
     let mut pass = pass;
-    for _ in 0..HOLDS {
+    for _ in 0..holds {
         pass = hold(rt, lock, pass, parks);
     }
     pass
@@ -55,6 +61,7 @@ trait Works<P: Placed> {
 struct Shift<'a, B, R> {
     rt: &'a R,
     lock: &'a B,
+    holds: u32,
     parks: bool,
 }
 
@@ -62,7 +69,7 @@ impl<'a, B: Basic<Parcel>, R: Wait> Works<B::Pass> for Shift<'a, B, R> {
     ghost allows = { λ s p. IsOf (B.name s.lock.now) (B.tag s.lock.now) (B.Pass.place p) × (B.tag s.lock.now ≡ leaf 0) };
 
     fn work(&self, pass: B::Pass) -> B::Pass {
-        hold_often(self.rt, self.lock, pass, self.parks)
+        hold_often(self.rt, self.lock, pass, self.holds, self.parks)
     }
 }
 
@@ -160,12 +167,56 @@ fn close_with<B: Basic<Parcel> + Drop>(
     Some(lock.close(passes).count)
 }
 
-/// Four threads each hold the lock `HOLDS` times and add one to the number in the value. Where `parks` is true each holder unparks the value, and parks it
+/// One pass holds the lock as often as asked and adds one to the number in the value. The answer is the number at the end, or `None` for want of memory.
+pub fn hold_alone<B: Basic<Parcel> + Drop, R: Wait>(
+    rt: &R,
+    alloc: Global,
+    recipe: B::Recipe,
+    holds: u32,
+) -> Option<u64> {
+    let (lock, mut passes) = B::make(alloc, recipe, 1, Parcel::new()).ok()?;
+    let pass = passes.pop()?;
+    let pass = hold_often(rt, &lock, pass, holds, false);
+    passes.push(pass).ok()?;
+    Some(lock.close(passes).count)
+}
+
+/// The same by two threads.
+pub fn hold_by_two<B: Basic<Parcel> + Sync + Drop, R: Threads + Wait + Sync>(
+    rt: &R,
+    alloc: Global,
+    recipe: B::Recipe,
+    holds: u32,
+) -> Option<u64>
+where
+    B::Recipe: Send,
+    B::Pass: Send,
+    B::Queue: Send,
+    B::Held: Send,
+    B::Leave: Send,
+{
+    let (lock, mut passes) = B::make(alloc, recipe, 2, Parcel::new()).ok()?;
+    let second = passes.pop()?;
+    let first = passes.pop()?;
+    let shift = Shift {
+        rt,
+        lock: &lock,
+        holds,
+        parks: false,
+    };
+    let (first, second) = by_two(rt, &shift, first, second);
+    passes.push(first).ok()?;
+    passes.push(second).ok()?;
+    Some(lock.close(passes).count)
+}
+
+/// Four threads each hold the lock as often as asked and add one to the number in the value. Where `parks` is true each holder unparks the value, and parks it
 /// where somebody is queued behind. The answer is the number at the end, or `None` for want of memory.
 pub fn hold_by_four<B: Basic<Parcel> + Sync + Drop, R: Threads + Wait + Sync>(
     rt: &R,
     alloc: Global,
     recipe: B::Recipe,
+    holds: u32,
     parks: bool,
 ) -> Option<u64>
 where
@@ -175,15 +226,12 @@ where
     B::Held: Send,
     B::Leave: Send,
 {
-    let parcel = Parcel {
-        count: 0,
-        parked: false,
-    };
-    let (lock, passes) = B::make(alloc, recipe, 4, parcel).ok()?;
+    let (lock, passes) = B::make(alloc, recipe, 4, Parcel::new()).ok()?;
     let (front, back) = apart(&lock, passes)?;
     let shift = Shift {
         rt,
         lock: &lock,
+        holds,
         parks,
     };
     let (front, back) = by_four(rt, &shift, front, back);
