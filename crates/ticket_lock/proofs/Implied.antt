@@ -1,5 +1,5 @@
 -- The rule of a Ticket lock implies the rule of a basic lock.
-use Rattle.std.proofs.Common.{◌≡◌, ◌≢◌, ◌⊎◌, ℕ, zero, suc, ◌+◌, ◌-◌, ◌%◌, ◌^◌, ◌<◌, ◌≤◌, Bool, true, false, cond, ◌||◌, List, [], ◌∷◌, ◌++◌, length, map, set, slice_index, slice_get, refl, ap, sym, ◌∙◌, subst, inl, inr, ⊎_elim, arith, Option, Some, None}
+use Rattle.std.proofs.Common.{◌≡◌, ◌≢◌, ℕ, zero, suc, ◌+◌, ◌-◌, ◌%◌, ◌^◌, ◌<◌, Bool, true, false, ◌||◌, List, [], ◌∷◌, ◌++◌, length, map, set, slice_index, slice_get, refl, ap, sym, ◌∙◌, subst, inl, inr, ⊎_elim, arith, Option, Some}
 use mathlib.Core.Option.{some, none, some-injective, some-ne-none}
 use mathlib.Core.Logic.{dite}
 use native.Mathlib.Decide.{ℕ_discrete}
@@ -7,20 +7,20 @@ use lib.ListN.{get_elem?}
 use Rattle.atomic_table.specs.Table.{State}
 use Rattle.atomic_table.proofs.Lists.{set_else, at_longer}
 use Rattle.lock_rules.specs.Tag.{Tag}
-use Rattle.lock_rules.specs.Points.{IsAt, IsPassIn, IsHomeValue, IsBasic}
+use Rattle.lock_rules.specs.Points.{IsPassIn, IsHomeValue, IsBasic}
 use Rattle.lock_rules.specs.Queue.{IsIn, IsHead}
 use Rattle.lock_rules.specs.Views.{IsPlain, is_queued, without_next, next_split, joined_view, spent_view}
-use Rattle.lock_rules.specs.declared.step.Answer.TheVariants.{Yes}
 use Rattle.lock_rules.specs.declared.view.Phase.{Phase}
 use Rattle.lock_rules.specs.declared.view.Phase.TheVariants.{Idle, Queued, Holding, Leaving}
 use Rattle.lock_rules.specs.declared.view.View.{View}
 use Rattle.lock_rules.proofs.Points.{one_seat}
 use Rattle.ticket_lock.specs.Queue.{is_busy, is_holding, queue_of, tickets_out}
-use Rattle.ticket_lock.specs.Rule.{words_of, Knows, SeatStands, PlaceStands, IsHome, IsAway, IsTicket}
-use Rattle.ticket_lock.specs.Implied.{distance, IsBusyAt, HasDistances, RuleIsBasic, RuleHasDistances, SplitStays, JoinStays}
+use Rattle.ticket_lock.specs.Rule.{Knows, PlaceStands, IsHome, IsAway, IsTicket}
+use Rattle.ticket_lock.specs.Implied.{distance, HasDistances}
 use Rattle.ticket_lock.proofs.Rounds.{out_is, one_place, busy_lives, few_seats}
 use Rattle.ticket_lock.proofs.Queues.{number_at, number_is, numbers_stay, place_of_busy, queue_is, at_below}
-use Rattle.ticket_lock.proofs.Kept.{mapped, one_number, holder_first, knows_as, holding, splits, joins, place_same, there}
+use Rattle.ticket_lock.proofs.Kept.{one_number, holder_first, splits, joins}
+use Rattle.ticket_lock.proofs.Standing.{mapped, knows_as, place_same, there}
 
 mapped_at : (f : ℕ → ℕ) (l : List ℕ) (i j : ℕ) → get_elem? l i ≡ some j → slice_get (map f l) i ≡ Some (f j)
 mapped_at f [] i j e = absurd (some-ne-none j (sym e))
@@ -161,8 +161,8 @@ module _ {V : Type 0} (fit : V → Type 0) (tag_of : V → Tag) (parked : V → 
       let after : State (Option V) View = record { words = s.words; homes = s.homes; views = set s.views id w ++ next_split v ∷ [] } in
       let r' : IsTicket fit tag_of parked n tag after = splits fit tag_of parked n tag id v live more s r at in
       let same = names_same (number_at after.views) (number_at s.views) r.seats (λ i j e.
-          let p : PlaceStands (set s.views id w) r.first i j = place_same s.views id v w at (λ b. b) refl r.first i j (r.each_place i j e) in
-          number_is after.views j p.view (at_longer (set s.views id w) (next_split v ∷ []) j p.view p.at) ∙ sym (number_is (set s.views id w) j p.view p.at) ∙ numbers_stay s.views id v w at refl j) in
+      let p : PlaceStands (set s.views id w) r.first i j = place_same s.views id v w at (λ b. b) refl r.first i j (r.each_place i j e) in
+      number_is after.views j p.view (at_longer (set s.views id w) (next_split v ∷ []) j p.view p.at) ∙ sym (number_is (set s.views id w) j p.view p.at) ∙ numbers_stay s.views id v w at refl j) in
       queue_is fit tag_of parked n tag after r' ∙ same ∙ sym (queue_is fit tag_of parked n tag s r)
 
   pub join_same : (id : ℕ) (v : View) (other : ℕ) (w : View) → get_elem? s.views id ≡ some v → v.spent ≡ false → ¬ (other ≡ id) → get_elem? (set s.views id (joined_view v w)) other ≡ some w → w.phase ≡ Idle → IsPlain w
@@ -173,10 +173,10 @@ module _ {V : Type 0} (fit : V → Type 0) (tag_of : V → Tag) (parked : V → 
       let after : State (Option V) View = record { words = s.words; homes = s.homes; views = set mid other spent_view } in
       let r' : IsTicket fit tag_of parked n tag after = joins fit tag_of parked n tag id v other w live idle plain s r at apart at' in
       let same = names_same (number_at after.views) (number_at s.views) r.seats (λ i j e.
-          let p : PlaceStands mid r.first i j = place_same s.views id v both at (λ b. b) refl r.first i j (r.each_place i j e) in
-          let ne : j ≢ other = λ q. (
-              let one : p.view ≡ w = some-injective p.view w (sym p.at ∙ ap (get_elem? mid) q ∙ at') in
-              let f : is_busy w.phase ≡ true = sym (ap (λ (x : View). is_busy x.phase) one) ∙ p.in_queue in
-              let g : is_busy w.phase ≡ false = ap is_busy idle in absurd cc) in
-          number_is after.views j p.view (set_else mid other j spent_view ne ∙ p.at) ∙ sym (number_is mid j p.view p.at) ∙ numbers_stay s.views id v both at refl j) in
+      let p : PlaceStands mid r.first i j = place_same s.views id v both at (λ b. b) refl r.first i j (r.each_place i j e) in
+      let ne : j ≢ other = λ q. (
+      let one : p.view ≡ w = some-injective p.view w (sym p.at ∙ ap (get_elem? mid) q ∙ at') in
+      let f : is_busy w.phase ≡ true = sym (ap (λ (x : View). is_busy x.phase) one) ∙ p.in_queue in
+      let g : is_busy w.phase ≡ false = ap is_busy idle in absurd cc) in
+      number_is after.views j p.view (set_else mid other j spent_view ne ∙ p.at) ∙ sym (number_is mid j p.view p.at) ∙ numbers_stay s.views id v both at refl j) in
       queue_is fit tag_of parked n tag after r' ∙ same ∙ sym (queue_is fit tag_of parked n tag s r)

@@ -81,7 +81,7 @@ fn a_parked_value_is_handed_over(rt: HostRuntime) {
 #[test]
 fn four_threads_hold_in_turn(rt: HostRuntime) {
     for parks in [false, true] {
-        let count = hold_by_four::<Ticket<Parcel>, _>(&rt, rt.alloc(), (), parks);
+        let count = hold_by_four::<Ticket<Parcel>, _>(&rt, rt.alloc(), (), HOLDS, parks);
         assert!(rt; count == Some(4 * u64::from(HOLDS)));
     }
 }
