@@ -1,7 +1,7 @@
 ghost use Rattle.lock_rules.specs.Tag.{leaf};
 
-use crate::own::{Context, Higher, Kept, Own};
 use crate::Level;
+use crate::own::{Context, Higher, Kept, Own};
 use lock_rules::{Basic, Placed, Step};
 use ticket_lock::Ticket;
 

@@ -1,17 +1,14 @@
 -- The numbers that stand once by the sums stand in exactly one seat.
-use Rattle.std.proofs.Common.{◌≡◌, ◌≢◌, ◌⊎◌, ℕ, zero, suc, ◌+◌, ◌-◌, ◌<◌, ◌≤◌, Bool, true, false, cond, ◌&&◌, List, [], ◌∷◌, length, nat_le, nat_lt, ◌==◌, slice_get, refl, ap, sym, ◌∙◌, subst, inl, inr, ⊎_elim, arith, eq-eqb, Option, Some, None}
+use Rattle.std.proofs.Common.{◌≡◌, ℕ, zero, suc, ◌<◌, ◌≤◌, true, false, cond, List, [], ◌∷◌, nat_lt, ◌==◌, slice_get, refl, ap, ◌∙◌, inl, inr, ⊎_elim, arith, Some}
 use Rattle.std.specs.List.{sum_by, count_by}
 use Rattle.std.proofs.lemmas.List.Sums.{sum_by-cons}
 use Rattle.std.proofs.lemmas.Bool.Decides.{nat_tests}
-use mathlib.Core.Option.{some}
 use mathlib.Core.Logic.{dite}
 use native.Mathlib.Decide.{ℕ_discrete}
-use lib.ListN.{get_elem?}
-use borrow.Author.Tests.{eqb-true}
 use Rattle.lock_rules.specs.Queue.{IsIn}
-use Rattle.lock_rules.specs.Views.{numbers_of, stands_in}
+use Rattle.lock_rules.specs.Views.{stands_in}
 use Rattle.lock_rules.specs.Numbers.{HasNumbers}
-use Rattle.lock_rules.specs.Points.{IsAt, HasNumber, HasOneSeat}
+use Rattle.lock_rules.specs.Points.{HasNumber, HasOneSeat}
 use Rattle.lock_rules.specs.declared.view.View.{View}
 use Rattle.lock_rules.proofs.Sums.{parts_le, some_part}
 use Rattle.lock_rules.proofs.Numbers.{span, hits, stands_unspent}
@@ -37,24 +34,25 @@ has_unspent : (k : ℕ) (v : View) → 0 < stands_in k v → v.spent ≡ false �
 has_unspent k v h live =
     let s = stands_unspent k v live in
     dite (ℕ_discrete (hits v.number k) 0)
-        (λ a. dite (ℕ_discrete (span v.from v.to k) 0)
-            (λ b. inr (inr (counted k v.joined (omega (arith, s, a, b, h)))))
-            (λ b. inr (inl (in_span v.from v.to k (omega arith)))))
-        (λ a. inl (hit v.number k (omega arith)))
+    (λ a. dite (ℕ_discrete (span v.from v.to k) 0)
+    (λ b. inr (inr (counted k v.joined (omega (arith, s, a, b, h)))))
+    (λ b. inr (inl (in_span v.from v.to k (omega arith)))))
+    (λ a. inl (hit v.number k (omega arith)))
 
 -- a seat in which the number stands is not spent and has it
 pub stands_has : (k : ℕ) (v : View) → 0 < stands_in k v → (v.spent ≡ false) × HasNumber k v
 stands_has k v h = elim (v.spent) as (λ b. v.spent ≡ b → (v.spent ≡ false) × HasNumber k v) [
-    true ↦ λ e. absurd (let z : stands_in k v ≡ 0 = rw e refl in omega arith)
-    | false ↦ λ e. (e, has_unspent k v h e) ] refl
+  | true ↦ λ e. absurd (let z : stands_in k v ≡ 0 = rw e refl in omega arith)
+  | false ↦ λ e. (e, has_unspent k v h e)
+] refl
 
 -- and the other way round
 pub has_stands : (k : ℕ) (v : View) → v.spent ≡ false → HasNumber k v → 0 < stands_in k v
 has_stands k v live h =
     let s = stands_unspent k v live in
     ⊎_elim (λ (e : v.number ≡ k). let a : hits v.number k ≡ 1 = grind (arith, nat_tests) in omega (arith, s, a))
-        (λ t. ⊎_elim (λ (r : (v.from ≤ k) × (k < v.to)). let a = r.0 in let b = r.1 in let c : span v.from v.to k ≡ 1 = grind (arith, nat_tests) in omega (arith, s, c))
-            (λ (r : IsIn k v.joined). let a = counts k v.joined r.0 r.1 in omega (arith, s, a)) t) h
+    (λ t. ⊎_elim (λ (r : (v.from ≤ k) × (k < v.to)). let a = r.0 in let b = r.1 in let c : span v.from v.to k ≡ 1 = grind (arith, nat_tests) in omega (arith, s, c))
+    (λ (r : IsIn k v.joined). let a = counts k v.joined r.0 r.1 in omega (arith, s, a)) t) h
 
 pub one_seat : (n : ℕ) (views : List View) → HasNumbers n views → (k : ℕ) → k < n → HasOneSeat k views
 one_seat n views had k below =

@@ -67,7 +67,6 @@ pub struct Holder<H> {
     pub followed: bool,
 }
 
-
 fn play_idle<B: Basic<Parcel>>(
     lock: &B,
     pass: B::Pass,
@@ -79,10 +78,13 @@ fn play_idle<B: Basic<Parcel>>(
     let Call::Begin = call else { return None };
     match lock.begin(pass) {
         Step::Not(queue) => Some((Token::Queued(queue), Told::Not)),
-        Step::Got(held) => Some((Token::Holding(Holder {
+        Step::Got(held) => Some((
+            Token::Holding(Holder {
                 held,
                 followed: false,
-            }), Told::Got)),
+            }),
+            Told::Got,
+        )),
     }
 }
 
@@ -97,10 +99,13 @@ fn play_queued<B: Basic<Parcel>>(
     let Call::Poll = call else { return None };
     match lock.poll(queue) {
         Step::Not(queue) => Some((Token::Queued(queue), Told::Not)),
-        Step::Got(held) => Some((Token::Holding(Holder {
+        Step::Got(held) => Some((
+            Token::Holding(Holder {
                 held,
                 followed: false,
-            }), Told::Got)),
+            }),
+            Told::Got,
+        )),
     }
 }
 
@@ -128,7 +133,10 @@ fn ask<B: Basic<Parcel>>(lock: &B, holder: Holder<B::Held>) -> (Holder<B::Held>,
     ensures place { (B.Held.grip result.0.held).place ≡ (B.Held.grip holder.held).place }
     ensures said { IsNoted B.Held.grip result.0 }
 {
-    let Holder { mut held, followed: _ } = holder;
+    let Holder {
+        mut held,
+        followed: _,
+    } = holder;
     let followed = lock.waiter(&mut held);
     let told = if followed { Told::Yes } else { Told::No };
     (Holder { held, followed }, told)
@@ -150,7 +158,11 @@ fn unpark<B: Basic<Parcel>>(holder: Holder<B::Held>) -> (Holder<B::Held>, Told)
     ensures said { IsNoted B.Held.grip result.0 }
 {
     let Holder { mut held, followed } = holder;
-    let told = if B::value(&held).parked { Told::Yes } else { Told::No };
+    let told = if B::value(&held).parked {
+        Told::Yes
+    } else {
+        Told::No
+    };
     B::value_mut(&mut held).parked = false;
     (Holder { held, followed }, told)
 }
@@ -279,10 +291,16 @@ pub fn carry_out<B: Basic<Parcel> + Drop>(
 ) -> Option<Outcome>
     ensures { IfSome result (λ o. vec_len o.told ≡ length moves.now) }
 {
-    let (lock, mut passes) = B::make(alloc, recipe, 2, Parcel {
-        count: 7,
-        parked: false,
-    }).ok()?;
+    let (lock, mut passes) = B::make(
+        alloc,
+        recipe,
+        2,
+        Parcel {
+            count: 7,
+            parked: false,
+        },
+    )
+    .ok()?;
     let second = Token::Idle(passes.pop()?);
     let first = Token::Idle(passes.pop()?);
     let mut told = Vec::new(alloc);
