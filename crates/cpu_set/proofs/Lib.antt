@@ -1,0 +1,9 @@
+pub mod Ends
+pub mod HexSteps
+pub mod ListSteps
+pub mod MemberLaws
+pub mod NumeralOrder
+pub mod PartLemmas
+pub mod Searches
+pub mod SetSteps
+pub mod Weights

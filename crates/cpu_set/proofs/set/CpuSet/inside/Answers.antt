@@ -1,0 +1,20 @@
+use Rattle.std.proofs.Common.{arith, refl}
+use Rattle.std.proofs.lemmas.Bool.{false≢true}
+use Rattle.cpu_set.proofs.Searches.{inside_none, inside_more, inside_all, not_inside}
+use Rattle.cpu_set.proofs.set.CpuSet.inside.Goals as goal
+
+pub words-init : goal.words-init
+words-init c = inside_none c.self.inside.words c.other.inside.words
+
+pub words-preserved : goal.words-preserved
+words-preserved c = inside_more c.self.inside.words c.other.inside.words c.words.place c.words.invariant c.if-self-place-ne0.false
+
+pub returns : goal.returns
+returns c =
+    let all = inside_all c.self.inside.words c.other.inside.words c.args.self.now c.args.other.now c.self.view_is c.other.view_is c.self.invariant c.other.invariant c.words.place c.words-test.false c.words.invariant in
+    (λ _. all, λ _. refl)
+
+pub returns-then-self-place-ne0 : goal.returns-then-self-place-ne0
+returns-then-self-place-ne0 c =
+    let out = not_inside c.self.inside.words c.other.inside.words c.args.self.now c.args.other.now c.self.view_is c.other.view_is c.self.invariant c.other.invariant c.words.place c.words-test.true c.if-self-place-ne0.true in
+    (λ h. absurd (false≢true h), λ all. absurd (out all))

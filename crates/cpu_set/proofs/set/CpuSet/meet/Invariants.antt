@@ -1,0 +1,6 @@
+use Rattle.std.proofs.Common.{bit_and}
+use Rattle.cpu_set.proofs.SetSteps.{CombinedBelow}
+use Rattle.cpu_set.proofs.set.CpuSet.meet.Given as goal
+
+abbrev pub invariant-words : goal.invariant-words
+invariant-words l = CombinedBelow bit_and l.initial.words l.other-inside.words l.words l.place

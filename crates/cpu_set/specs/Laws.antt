@@ -1,0 +1,33 @@
+-- What the laws of this crate say, each shown by the function that cites it.
+use Rattle.std.specs.Prelude.{ℕ, ◌≡◌, ◌<◌, Bool, true, false, ◌⊎◌, ◌↔◌, List, Contains, IsTrue}
+use Rattle.cpu_set.specs.declared.fault.SetFault.{SetFault}
+use Rattle.cpu_set.specs.Sets.{IsSet, has, numbers_where, union, minus, meet, xor}
+use Rattle.cpu_set.specs.Texts.{hex_text, list_text}
+use Rattle.cpu_set.specs.Readings.{ReadsHex, HexRefused, ReadsList, ListRefused}
+
+-- a set has exactly the numbers below 4,096 that pass its test
+pub record HasJust (test : ℕ → Bool) : Type 0 where
+  pub set : IsSet (numbers_where test)
+  pub members : (number : ℕ) → Contains (numbers_where test) number ↔ ((number < 4096) × IsTrue (test number))
+
+-- two sets with the same numbers are equal
+abbrev pub SameByMembers : List ℕ → List ℕ → Type 0
+SameByMembers one other = IsSet one → IsSet other → ((number : ℕ) → Contains one number ↔ Contains other number) → one ≡ other
+
+-- the four operations, by membership
+pub record CombinesSets (one other : List ℕ) : Type 0 where
+  pub union : (number : ℕ) → Contains (union one other) number ↔ (Contains one number ⊎ Contains other number)
+  pub minus : (number : ℕ) → Contains (minus one other) number ↔ (Contains one number × ¬ (Contains other number))
+  pub meet : (number : ℕ) → Contains (meet one other) number ↔ (Contains one number × Contains other number)
+  pub xor : (number : ℕ) → Contains (xor one other) number ↔ ((Contains one number × ¬ (Contains other number)) ⊎ (Contains other number × ¬ (Contains one number)))
+
+-- exactly one set or exactly one fault
+pub record ExactlyOne (Reads : List ℕ → Type 0) (Refused : SetFault → Type 0) : Type 0 where
+  pub some : ((set : List ℕ) × Reads set) ⊎ ((fault : SetFault) × Refused fault)
+  pub not_both : (set : List ℕ) (fault : SetFault) → Reads set → ¬ (Refused fault)
+  pub one_set : (one other : List ℕ) → Reads one → Reads other → one ≡ other
+  pub one_fault : (one other : SetFault) → Refused one → Refused other → one ≡ other
+
+-- what is read is a set
+abbrev pub ReadsSets : (List ℕ → Type 0) → Type 0
+ReadsSets Reads = (set : List ℕ) → Reads set → IsSet set

@@ -1,0 +1,21 @@
+//! Stand-in until `edge_io` has it.
+
+use std::alloc::{AllocError, AllocFailed};
+use thiserror::Error;
+
+/// There was not enough memory.
+#[derive(Clone, Copy, Debug, PartialEq, Eq, Error)]
+#[error("out of memory")]
+pub struct OutOfMemory;
+
+impl From<AllocError> for OutOfMemory {
+    fn from(_: AllocError) -> Self {
+        OutOfMemory
+    }
+}
+
+impl<T: Drop> From<AllocFailed<T>> for OutOfMemory {
+    fn from(_: AllocFailed<T>) -> Self {
+        OutOfMemory
+    }
+}

@@ -1,0 +1,217 @@
+//! The set of numbers: 128 words of 32 bits, which are the words of its hexadecimal text.
+
+ghost use Rattle.std.specs.Prelude.{◌≡◌, ℕ, ◌+◌, ◌*◌, ◌/◌, ◌%◌, ◌<◌, ◌≤◌, ◌↔◌, ◌||◌, ◌&&◌, ◌==◌, nat_le, [], ◌∷◌, length, All, Contains, IsTrue, IsNone, IfNone, IfSome, slice_get};
+ghost use Rattle.std.specs.Int.{bit_at};
+ghost use Rattle.cpu_set.specs.Sets.{IsSet, has, numbers_where, union, minus, meet, xor};
+ghost use Rattle.cpu_set.specs.Bits.{word_of};
+ghost use Rattle.cpu_set.specs.Texts.{highest, numbers_from};
+
+use std::marker::Model;
+
+const WORDS: usize = 128;
+
+/// A set of numbers below 4,096, which contracts see as the ascending list of its numbers.
+#[derive(Clone, Copy)]
+pub struct CpuSet {
+    words: [u32; 128],
+}
+
+impl Model for CpuSet {
+    ghost use Rattle.std.specs.Prelude.{ℕ, List};
+    ghost use Rattle.std.proofs.Common.{ap};
+    ghost use Rattle.cpu_set.specs.Bits.{AreWords, set_of_words, words_of_set};
+    ghost use Rattle.cpu_set.specs.WordLaws.{words_of_set_of_words};
+
+    ghost Value = { List ℕ };
+
+    ghost view = { λ set. set_of_words set.words };
+
+    ghost invariant = { λ set. AreWords set.words };
+
+    ghost inverse = { λ set. record { words = words_of_set set } };
+
+    ghost inverse_ok = { λ set words. ap (λ ws. record { words = ws }) (words_of_set_of_words set.words words) };
+}
+
+impl CpuSet {
+    /// The set of no number.
+    pub fn empty() -> CpuSet
+        ensures { result ≡ [] }
+    {
+        CpuSet { words: [0; 128] }
+    }
+
+    /// Adds a number below 4,096.
+    pub fn with(&mut self, number: u32)
+        requires { number < 4096 }
+        ensures { self.new ≡ union self.old (number ∷ []) }
+    {
+        self.add_word(number as usize / 32, 1 << (number % 32));
+    }
+
+    /// Whether the set has the number.
+    pub fn has(&self, number: u32) -> bool
+        ensures found { IsTrue result ↔ Contains self.now number }
+        ensures set { IsSet self.now }
+    {
+        let words = &self.words;
+        number < 4096 && (words[number as usize / 32] >> (number % 32)) & 1 == 1
+    }
+
+    /// The lowest number, or `None` exactly for the empty set.
+    pub fn first(&self) -> Option<u32>
+        ensures lowest { result ≡ slice_get self.now 0 }
+        ensures none { IsNone result ↔ (self.now ≡ []) }
+        ensures set { IsSet self.now }
+    {
+        self.next(0)
+    }
+
+    /// How many numbers the set has.
+    pub fn weight(&self) -> u32
+        ensures count { result ≡ length self.now }
+        ensures set { IsSet self.now }
+    {
+        let mut count = 0;
+        for word in &self.words {
+            count += word.count_ones();
+        }
+        count
+    }
+
+    /// The numbers that are in this set or in the other.
+    pub fn union(&self, other: &CpuSet) -> CpuSet
+        ensures { result ≡ union self.now other.now }
+    {
+        let mut words = self.words;
+        'words: for place in 0..WORDS {
+            words[place] |= other.words[place];
+        }
+        CpuSet { words }
+    }
+
+    /// The numbers that are in this set and not in the other.
+    pub fn minus(&self, other: &CpuSet) -> CpuSet
+        ensures { result ≡ minus self.now other.now }
+    {
+        let mut words = self.words;
+        'words: for place in 0..WORDS {
+            words[place] &= !other.words[place];
+        }
+        CpuSet { words }
+    }
+
+    /// The numbers that are in both sets.
+    pub fn meet(&self, other: &CpuSet) -> CpuSet
+        ensures { result ≡ meet self.now other.now }
+    {
+        let mut words = self.words;
+        'words: for place in 0..WORDS {
+            words[place] &= other.words[place];
+        }
+        CpuSet { words }
+    }
+
+    /// The numbers that are in just one of the two sets.
+    pub fn xor(&self, other: &CpuSet) -> CpuSet
+        ensures { result ≡ xor self.now other.now }
+    {
+        let mut words = self.words;
+        'words: for place in 0..WORDS {
+            words[place] ^= other.words[place];
+        }
+        CpuSet { words }
+    }
+
+    /// Whether every number of this set is in the other.
+    pub fn inside(&self, other: &CpuSet) -> bool
+        ensures { IsTrue result ↔ All (Contains other.now) self.now }
+    {
+        'words: for place in 0..WORDS {
+            if self.words[place] & !other.words[place] != 0 {
+                return false;
+            }
+        }
+        true
+    }
+
+    // The word at a place below 128.
+    pub(crate) fn word(&self, place: usize) -> u32
+        requires { place < 128 }
+        ensures { result ≡ word_of self.now place }
+    {
+        self.words[place]
+    }
+
+    // The lowest number from `from` on.
+    pub(crate) fn next(&self, from: u32) -> Option<u32>
+        ensures none { IfNone result (numbers_from from self.now ≡ []) }
+        ensures found { IfSome result (λ number. numbers_from from self.now ≡ number ∷ numbers_from (number + 1) self.now) }
+        ensures from { IfSome result (λ number. from ≤ number) }
+        ensures limit { IfSome result (λ number. number < 4096) }
+        ensures set { IsSet self.now }
+    {
+        let words = &self.words;
+        if from >= 4096 {
+            return None;
+        }
+        let start = from as usize / 32;
+        let word = words[start] & (u32::MAX << (from % 32));
+        if word != 0 {
+            return Some(32 * start as u32 + word.trailing_zeros());
+        }
+        'words: for place in start + 1..WORDS {
+            let word = words[place];
+            if word != 0 {
+                return Some(32 * place as u32 + word.trailing_zeros());
+            }
+        }
+        None
+    }
+
+    // The highest number, or 0 of the empty set.
+    pub(crate) fn highest(&self) -> u32
+        ensures { result ≡ highest self.now }
+    {
+        for place in (0..WORDS).rev() {
+            let word = self.words[place];
+            if word != 0 {
+                return 32 * place as u32 + (31 - word.leading_zeros());
+            }
+        }
+        0
+    }
+
+    // Adds the numbers whose bits are set in the word at a place.
+    pub(crate) fn add_word(&mut self, place: usize, word: u32)
+        requires { place < 128 }
+        ensures { self.new ≡ numbers_where (λ number.
+            has self.old number || (number / 32 == place && bit_at word (number % 32) == 1)) }
+    {
+        self.words[place] |= word;
+    }
+
+    // Adds the numbers from `low` to `high`, both among them.
+    pub(crate) fn add_range(&mut self, low: u32, high: u32)
+        requires ends { low ≤ high }
+        requires limit { high < 4096 }
+        ensures { self.new ≡ numbers_where (λ number.
+            has self.old number || (nat_le low number && nat_le number high)) }
+    {
+        'words: for place in low / 32..high / 32 + 1 {
+            let first = if place == low / 32 { low % 32 } else { 0 };
+            let last = if place == high / 32 { high % 32 } else { 31 };
+            self.add_word(place as usize, ones_between(first, last));
+        }
+    }
+}
+
+// The word whose bits from `first` to `last` are set, and no others.
+fn ones_between(first: u32, last: u32) -> u32
+    requires ends { first ≤ last }
+    requires within { last < 32 }
+    ensures { (bit : ℕ) → bit < 32
+        → (bit_at result bit == 1) ≡ (nat_le first bit && nat_le bit last) }
+{
+    (u32::MAX >> (31 - last)) & (u32::MAX << first)
+}
