@@ -2,6 +2,7 @@
 
 ghost use Rattle.std.specs.Prelude.{◌≡◌};
 ghost use Rattle.synth_text.specs.declared.fault.SynthFault.TheVariants as faults;
+ghost use Rattle.synth_text.specs.declared.fault.Flaw.TheVariants as flaws;
 
 use std::alloc::{AllocError, AllocFailed};
 use thiserror::Error;
@@ -55,6 +56,50 @@ impl<T: Drop> From<AllocFailed<T>> for SynthFault {
 
     fn from(_refused: AllocFailed<T>) -> SynthFault {
         SynthFault::OutOfMemory
+    }
+}
+
+/// What is wrong with an item, apart from its place.
+#[derive(Clone, Copy, Debug, PartialEq, Eq)]
+pub enum Flaw {
+    Name,
+    Arity,
+    Attribute,
+    Indexes,
+    OutOfMemory,
+}
+
+impl Flaw {
+    ghost use Rattle.std.specs.Prelude.{◌≡◌};
+    ghost use Rattle.synth_text.specs.Flaws.{fault_at};
+
+    /// The fault of an item that begins at an offset.
+    pub fn at(self, at: usize) -> SynthFault
+        ensures { result ≡ fault_at at self }
+    {
+        match self {
+            Flaw::Name => SynthFault::BadType { at },
+            Flaw::Arity => SynthFault::BadArity { at },
+            Flaw::Attribute => SynthFault::BadAttr { at },
+            Flaw::Indexes => SynthFault::BadIndexes { at },
+            Flaw::OutOfMemory => SynthFault::OutOfMemory,
+        }
+    }
+}
+
+impl From<AllocError> for Flaw {
+    ghost from_gives = { λ _ e. e ≡ flaws.OutOfMemory };
+
+    fn from(_refused: AllocError) -> Flaw {
+        Flaw::OutOfMemory
+    }
+}
+
+impl<T: Drop> From<AllocFailed<T>> for Flaw {
+    ghost from_gives = { λ _ e. e ≡ flaws.OutOfMemory };
+
+    fn from(_refused: AllocFailed<T>) -> Flaw {
+        Flaw::OutOfMemory
     }
 }
 

@@ -32,17 +32,25 @@ pub enum Kind {
 }
 
 impl Kind {
-    ghost use Rattle.std.specs.Prelude.{◌≡◌, ◌↔◌, IsTrue};
-    ghost use Rattle.synth_text.specs.Kinds.{IsCache, short_name_of, long_name_of};
+    ghost use Rattle.std.specs.Prelude.{◌≡◌};
+    ghost use Rattle.synth_text.specs.Kinds.{is_cache, same_kind, short_name_of, long_name_of};
 
     /// Whether objects of this kind are caches, which have a size.
     pub fn is_cache(self) -> bool
-        ensures { IsTrue result ↔ IsCache self }
+        ensures { result ≡ is_cache self }
     {
         matches!(
             self,
             Kind::L5 | Kind::L4 | Kind::L3 | Kind::L2 | Kind::L1d | Kind::L1i
         )
+    }
+
+    /// Whether another kind is this one.
+    #[tactic(auto, unfolding(crate::specs::Kinds::same_kind))]
+    pub fn is_same(self, other: Kind) -> bool
+        ensures { result ≡ same_kind self other }
+    {
+        self as u8 == other as u8
     }
 
     /// The name that a printed object has, without a Group's number.

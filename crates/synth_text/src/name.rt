@@ -3,7 +3,8 @@ ghost use Rattle.std.specs.Prelude.{◌≡◌, ◌<◌, drop};
 ghost use Rattle.synth_text.specs.Names.{name_of, kind_named, group_numbered};
 
 use crate::kind::Kind;
-use byte_text::{Numeral, read_numeral};
+use crate::number::capped_number;
+use crate::table::{entry_named, is_same_word};
 
 /// What a word names.
 #[derive(Clone, Copy, Debug, PartialEq, Eq)]
@@ -57,15 +58,11 @@ pub fn read_name(word: &[u8]) -> Option<Name>
 fn named_kind(word: &[u8]) -> Option<Kind>
     ensures { result ≡ kind_named word.now }
 {
-    for (name, kind) in &NAMES {
-        if word.eq_ignore_ascii_case(name) {
-            return Some(*kind);
-        }
-    }
-    None
+    entry_named(&NAMES, word)
 }
 
 // The Group level that `group` and digits name.
+#[tactic(auto, unfolding(crate::specs::Names::group_numbered))]
 fn numbered_group(word: &[u8]) -> Option<Name>
     ensures { result ≡ group_numbered word.now }
 {
@@ -73,12 +70,9 @@ fn numbered_group(word: &[u8]) -> Option<Name>
         return None;
     }
     let (front, digits) = word.split_at(5);
-    if !front.eq_ignore_ascii_case(b"group") {
+    if !is_same_word(front, b"group") {
         return None;
     }
-    match read_numeral(10, digits, u64::from(u32::MAX)) {
-        Numeral::Number(number) => Some(Name::Group(number as u32)),
-        Numeral::TooLarge => Some(Name::Group(u32::MAX)),
-        Numeral::NotNumeral => None,
-    }
+    let number = capped_number(digits)?;
+    Some(Name::Group(number))
 }

@@ -1,0 +1,93 @@
+-- What one item says.
+use Rattle.std.specs.Prelude.{◌≡◌, ℕ, zero, suc, ◌-◌, ◌^◌, Bool, ◌==◌, List, [], ◌∷◌, drop, slice_index, Option, Some, None, Result, Ok, Err, if◌then◌else◌, MatchBool}
+use Rattle.std.specs.List.{list_all, take_while, prefix_len}
+use Rattle.std.specs.Char.{is_ascii_alphanumeric}
+use Rattle.synth_text.specs.declared.kind.Kind.{Kind}
+use Rattle.synth_text.specs.declared.kind.Kind.TheVariants.{Machine, Package, Die, Group, L5, L4, L3, L2, L1d, L1i, Core, Pu, NumaNode}
+use Rattle.synth_text.specs.declared.name.Name.{Name}
+use Rattle.synth_text.specs.declared.name.Name.TheVariants as names
+use Rattle.synth_text.specs.declared.description.Indexes.TheVariants as indexes
+use Rattle.synth_text.specs.declared.attributes.Attributes.{Attributes}
+use Rattle.synth_text.specs.declared.parts.Part.{Part}
+use Rattle.synth_text.specs.declared.fault.Flaw.{Flaw}
+use Rattle.synth_text.specs.declared.fault.Flaw.TheVariants as flaws
+use Rattle.synth_text.specs.Items.{is_white}
+use Rattle.synth_text.specs.Names.{name_of}
+use Rattle.synth_text.specs.Numbers.{number_in}
+use Rattle.synth_text.specs.Cuts.{first_piece}
+use Rattle.synth_text.specs.Flaws.{◌>>=◌, or_flaw}
+use Rattle.synth_text.specs.Attributes.{attributes_of}
+
+-- the kind of a level without a name that has so many level items behind it
+abbrev pub untyped_kind : ℕ → Kind
+untyped_kind zero = Pu
+untyped_kind (suc zero) = Core
+untyped_kind (suc (suc behind)) = Group
+
+-- the kind that a level's name gives; digits behind `group` are ignored
+abbrev pub level_name : Option Name → Result Kind Flaw
+level_name None = Err flaws.Name
+level_name (Some (names.Kind Machine)) = Err flaws.Name
+level_name (Some (names.Kind kind)) = Ok kind
+level_name (Some (names.Group number)) = Ok Group
+
+-- A head is `name:arity`, or an arity alone: then the kind is that of a level without a name.
+abbrev pub head_kind : Kind → List ℕ × Option (List ℕ) → Result Kind Flaw
+head_kind untyped (arity, None) = Ok untyped
+head_kind untyped (name, Some arity) = level_name (name_of name)
+
+abbrev pub head_arity : List ℕ × Option (List ℕ) → List ℕ
+head_arity (arity, None) = arity
+head_arity (name, Some arity) = arity
+
+-- A level `numa:k` is a Group level with one node of memory at each object, which has the attributes.
+abbrev pub level_part : Kind → ℕ → Attributes → Part
+level_part NumaNode arity attributes =
+    record {
+      level = Some (record { kind = Group; arity = arity; size = None; indexes = indexes.Ordered });
+      nodes = Some (record { size = attributes.memory; indexes = attributes.indexes });
+    }
+level_part kind arity attributes =
+    record { level = Some (record { kind = kind; arity = arity; size = attributes.size; indexes = attributes.indexes }); nodes = None }
+
+-- A level item is a head up to its first `(` or its end, and the attributes behind that.
+unfoldable pub level_of : Kind → List ℕ → Result Part Flaw
+level_of untyped text = do
+  kind ← head_kind untyped (first_piece (λ byte. byte == 58) (first_piece (λ byte. byte == 40) text).0)
+  arity ← or_flaw flaws.Arity (number_in 1 (2 ^ 32 - 1) (head_arity (first_piece (λ byte. byte == 58) (first_piece (λ byte. byte == 40) text).0)))
+  attributes ← attributes_of kind (first_piece (λ byte. byte == 40) text).1
+  Ok (level_part kind arity attributes)
+
+-- what stands in brackets: behind the `[`, up to the first `]`
+abbrev pub bracketed : List ℕ × Option (List ℕ) → Result (List ℕ) Flaw
+bracketed (text, None) = Err flaws.Name
+bracketed (text, Some behind) = Ok text
+
+-- the name of a NUMANode
+abbrev pub node_name : Option Name → Result Kind Flaw
+node_name (Some (names.Kind NumaNode)) = Ok NumaNode
+node_name _ = Err flaws.Name
+
+-- what stands behind the `(` that follows a name, if one does; else there is at most white space
+abbrev pub opened : List ℕ → Result (Option (List ℕ)) Flaw
+opened text =
+    if list_all is_white text then Ok None
+    else if slice_index text 0 == 40 then Ok (Some (drop 1 text))
+    else Err flaws.Attribute
+
+abbrev pub memory_part : Attributes → Part
+memory_part attributes = record { level = None; nodes = Some (record { size = attributes.memory; indexes = attributes.indexes }) }
+
+-- a text without the bytes in front that pass
+abbrev pub without_front : (ℕ → Bool) → List ℕ → List ℕ
+without_front test text = drop (prefix_len test text) text
+
+-- A memory item is a name of NUMANode in brackets, behind optional white space, with optional attributes directly behind
+-- it. The name goes as far as letters and digits go.
+unfoldable pub memory_of : List ℕ → Result Part Flaw
+memory_of text = do
+  inner ← bracketed (first_piece (λ byte. byte == 93) (drop 1 text))
+  kind ← node_name (name_of (take_while is_ascii_alphanumeric (without_front is_white inner)))
+  open_part ← opened (without_front is_ascii_alphanumeric (without_front is_white inner))
+  attributes ← attributes_of kind open_part
+  Ok (memory_part attributes)
