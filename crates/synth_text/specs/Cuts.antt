@@ -1,11 +1,15 @@
 -- Cuts of a text at its first byte of a kind.
-use Rattle.std.specs.Prelude.{ℕ, Bool, List, [], ◌∷◌, Option, Some, None, option_map, if◌then◌else◌}
-use Rattle.std.specs.List.{slice_split}
+use Rattle.std.specs.Prelude.{ℕ, Bool, List, [], ◌∷◌, drop, Option, Some, None, option_map, if◌then◌else◌}
+use Rattle.std.specs.List.{slice_split, prefix_len}
+
+-- two parts with a byte in front of the first
+abbrev pub with_byte : ℕ → List ℕ × List ℕ → List ℕ × List ℕ
+with_byte byte parts = (byte ∷ parts.0, parts.1)
 
 -- what stands before the first byte that passes, and what stands behind it, where one does
 abbrev pub cut : (ℕ → Bool) → List ℕ → Option (List ℕ × List ℕ)
 cut test [] = None
-cut test (byte ∷ bytes) = if test byte then Some ([], bytes) else option_map (λ parts. (byte ∷ parts.0, parts.1)) (cut test bytes)
+cut test (byte ∷ bytes) = if test byte then Some ([], bytes) else option_map (with_byte byte) (cut test bytes)
 
 -- what stands before the first byte that passes, or all; and what stands behind that byte, if there is one
 abbrev pub piece_or : List ℕ → Option (List ℕ × List ℕ) → List ℕ × Option (List ℕ)
@@ -19,3 +23,7 @@ first_piece test text = piece_or text (cut test text)
 abbrev pub pieces : (ℕ → Bool) → Option (List ℕ) → List (List ℕ)
 pieces test None = []
 pieces test (Some text) = slice_split test text
+
+-- a text without the bytes in front that pass
+abbrev pub without_front : (ℕ → Bool) → List ℕ → List ℕ
+without_front test text = drop (prefix_len test text) text

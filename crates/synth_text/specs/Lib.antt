@@ -5,6 +5,7 @@ pub mod Tables
 pub mod Items
 pub mod Views
 pub mod Cuts
+pub mod Classes
 pub mod Flaws
 pub mod Sizes
 pub mod IndexTexts

@@ -1,6 +1,6 @@
 -- What one item says.
 use Rattle.std.specs.Prelude.{◌≡◌, ℕ, zero, suc, ◌-◌, ◌^◌, Bool, ◌==◌, List, [], ◌∷◌, drop, slice_index, Option, Some, None, Result, Ok, Err, if◌then◌else◌, MatchBool}
-use Rattle.std.specs.List.{list_all, take_while, prefix_len}
+use Rattle.std.specs.List.{list_all, take_while}
 use Rattle.std.specs.Char.{is_ascii_alphanumeric}
 use Rattle.synth_text.specs.declared.kind.Kind.{Kind}
 use Rattle.synth_text.specs.declared.kind.Kind.TheVariants.{Machine, Package, Die, Group, L5, L4, L3, L2, L1d, L1i, Core, Pu, NumaNode}
@@ -14,7 +14,7 @@ use Rattle.synth_text.specs.declared.fault.Flaw.TheVariants as flaws
 use Rattle.synth_text.specs.Items.{is_white}
 use Rattle.synth_text.specs.Names.{name_of}
 use Rattle.synth_text.specs.Numbers.{number_in}
-use Rattle.synth_text.specs.Cuts.{first_piece}
+use Rattle.synth_text.specs.Cuts.{first_piece, without_front}
 use Rattle.synth_text.specs.Flaws.{◌>>=◌, or_flaw}
 use Rattle.synth_text.specs.Attributes.{attributes_of}
 
@@ -77,10 +77,6 @@ opened text =
 
 abbrev pub memory_part : Attributes → Part
 memory_part attributes = record { level = None; nodes = Some (record { size = attributes.memory; indexes = attributes.indexes }) }
-
--- a text without the bytes in front that pass
-abbrev pub without_front : (ℕ → Bool) → List ℕ → List ℕ
-without_front test text = drop (prefix_len test text) text
 
 -- A memory item is a name of NUMANode in brackets, behind optional white space, with optional attributes directly behind
 -- it. The name goes as far as letters and digits go.

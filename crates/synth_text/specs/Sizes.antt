@@ -1,8 +1,9 @@
 -- Sizes in bytes: digits and a suffix, without regard to case.
-use Rattle.std.specs.Prelude.{ℕ, ◌*◌, ◌-◌, ◌^◌, List, [], ◌∷◌, drop, codes, Option, Some, None, nat_lt, if◌then◌else◌}
+use Rattle.std.specs.Prelude.{ℕ, ◌*◌, ◌-◌, ◌^◌, List, [], ◌∷◌, codes, Option, Some, None, nat_lt, if◌then◌else◌}
 use Rattle.std.specs.Option.{option_and_then}
-use Rattle.std.specs.List.{take_while, prefix_len}
+use Rattle.std.specs.List.{take_while}
 use Rattle.std.specs.Char.{is_ascii_digit}
+use Rattle.synth_text.specs.Cuts.{without_front}
 use Rattle.synth_text.specs.Numbers.{number_in}
 use Rattle.synth_text.specs.Tables.{entry_of}
 
@@ -21,4 +22,4 @@ unfoldable pub size_of : List ℕ → Option ℕ
 size_of text =
     option_and_then
     (λ unit. option_and_then (λ number. small_size (number * unit)) (number_in 0 (2 ^ 64 - 1) (take_while is_ascii_digit text)))
-    (entry_of units (drop (prefix_len is_ascii_digit text) text))
+    (entry_of units (without_front is_ascii_digit text))

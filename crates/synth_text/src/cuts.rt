@@ -1,11 +1,10 @@
 // Cuts of a text at its first byte of a kind.
-ghost use Rattle.std.specs.Prelude.{◌≡◌, ◌==◌, ℕ, Option, option_map, drop};
+ghost use Rattle.std.specs.Prelude.{◌≡◌, ◌==◌};
 ghost use Rattle.std.specs.List.{take_while, prefix_len, list_all};
-ghost use Rattle.std.specs.Char.{is_ascii_digit, is_ascii_alphanumeric};
 ghost use Rattle.synth_text.specs.Items.{is_white};
-ghost use Rattle.synth_text.specs.Cuts.{cut, first_piece};
+ghost use Rattle.synth_text.specs.Cuts.{cut, first_piece, without_front};
 ghost use Rattle.synth_text.specs.Views.{texts, piece_texts};
-ghost use Rattle.synth_text.specs.Parts.{without_front};
+ghost use Rattle.synth_text.specs.Classes.{in_class};
 
 use crate::items::is_white;
 
@@ -28,42 +27,36 @@ pub fn first_piece(text: &[u8], byte: u8) -> (&[u8], Option<&[u8]>)
 }
 
 /// What stands before the first white space of a text, or all of it; and what stands behind that byte, if there is one.
+#[tactic(auto, unfolding(crate::specs::Cuts::first_piece))]
 pub fn first_word(text: &[u8]) -> (&[u8], Option<&[u8]>)
     ensures { piece_texts result ≡ first_piece is_white text.now }
 {
-    match text.iter().position(|byte| is_white(*byte)) {
-        Some(place) => (&text[..place], Some(&text[place + 1..])),
-        None => (text, None),
+    for (place, byte) in text.iter().enumerate() {
+        if is_white(*byte) {
+            return (&text[..place], Some(&text[place + 1..]));
+        }
     }
+    (text, None)
 }
 
-/// The digits in front of a text, and what stands behind them.
-pub fn split_digits(text: &[u8]) -> (&[u8], &[u8])
-    ensures front { result.0.now ≡ take_while is_ascii_digit text.now }
-    ensures behind { result.1.now ≡ without_front is_ascii_digit text.now }
+/// The bytes of a class in front of a text, and what stands behind them.
+pub fn split_front(text: &[u8], class: Class) -> (&[u8], &[u8])
+    ensures front { result.0.now ≡ take_while (in_class class) text.now }
+    ensures behind { result.1.now ≡ without_front (in_class class) text.now }
 {
-    let count = text.iter().take_while(|byte| byte.is_ascii_digit()).count();
-    text.split_at(count)
+    text.split_at(front_len(text, class))
 }
 
-/// The letters and digits in front of a text, and what stands behind them.
-pub fn split_name(text: &[u8]) -> (&[u8], &[u8])
-    ensures front { result.0.now ≡ take_while is_ascii_alphanumeric text.now }
-    ensures behind { result.1.now ≡ without_front is_ascii_alphanumeric text.now }
+// How many bytes of a class stand in front of a text.
+fn front_len(text: &[u8], class: Class) -> usize
+    ensures { result ≡ prefix_len (in_class class) text.now }
 {
-    let count = text
-        .iter()
-        .take_while(|byte| byte.is_ascii_alphanumeric())
-        .count();
-    text.split_at(count)
-}
-
-/// A text without the white space in front.
-pub fn without_white(text: &[u8]) -> &[u8]
-    ensures { result.now ≡ without_front is_white text.now }
-{
-    let count = text.iter().take_while(|byte| is_white(**byte)).count();
-    &text[count..]
+    for (place, byte) in text.iter().enumerate() {
+        if !class.has(*byte) {
+            return place;
+        }
+    }
+    text.len()
 }
 
 /// Whether a text is white space alone.
@@ -71,4 +64,28 @@ pub fn is_blank(text: &[u8]) -> bool
     ensures { result ≡ list_all is_white text.now }
 {
     text.iter().all(|byte| is_white(*byte))
+}
+
+/// A class of bytes.
+#[derive(Clone, Copy, Debug, PartialEq, Eq)]
+pub enum Class {
+    /// White space.
+    White,
+    /// Decimal digits.
+    Digit,
+    /// Letters and digits.
+    Alphanumeric,
+}
+
+impl Class {
+    // Whether a byte is of the class.
+    fn has(self, byte: u8) -> bool
+        ensures { result ≡ in_class self byte }
+    {
+        match self {
+            Class::White => is_white(byte),
+            Class::Digit => byte.is_ascii_digit(),
+            Class::Alphanumeric => byte.is_ascii_alphanumeric(),
+        }
+    }
 }

@@ -1,5 +1,5 @@
 // Decimal numbers.
-ghost use Rattle.std.specs.Prelude.{◌≡◌, ◌≤◌};
+ghost use Rattle.std.specs.Prelude.{◌≡◌, ◌≤◌, IfSome};
 ghost use Rattle.synth_text.specs.Numbers.{number_in, number_capped};
 
 use byte_text::{Numeral, read_numeral};
@@ -18,7 +18,8 @@ pub fn capped_number(text: &[u8]) -> Option<u32>
 /// The number that a numeral writes, where it is from `low` to `high`.
 pub fn number_between(low: u64, high: u64, text: &[u8]) -> Option<u64>
     requires { low ≤ high }
-    ensures { result ≡ number_in low high text.now }
+    ensures number { result ≡ number_in low high text.now }
+    ensures bound { IfSome result (λ number. number ≤ high) }
 {
     match read_numeral(10, text, high) {
         Numeral::Number(number) => { if low <= number { Some(number) } else { None } }

@@ -6,7 +6,7 @@ ghost use Rattle.synth_text.specs.Views.{text_at, piece_texts};
 ghost use Rattle.synth_text.specs.Parts.{head_kind, head_arity, level_name, level_part, level_of, node_name, opened, memory_part, memory_of};
 
 use crate::attributes::{Attributes, read_attributes};
-use crate::cuts::{first_piece, is_blank, split_name, without_white};
+use crate::cuts::{Class, first_piece, is_blank, split_front};
 use crate::description::{Indexes, Level};
 use crate::fault::Flaw;
 use crate::kind::Kind;
@@ -112,7 +112,8 @@ pub fn read_memory(alloc: Global, text: &[u8]) -> Result<Part, Flaw>
     if behind.is_none() {
         return Err(Flaw::Name);
     }
-    let (name, behind) = split_name(without_white(inner));
+    let (_, inner) = split_front(inner, Class::White);
+    let (name, behind) = split_front(inner, Class::Alphanumeric);
     let Some(Name::Kind(Kind::NumaNode)) = read_name(name) else {
         return Err(Flaw::Name);
     };

@@ -2,7 +2,7 @@
 ghost use Rattle.std.specs.Prelude.{◌≡◌};
 ghost use Rattle.synth_text.specs.Sizes.{size_of};
 
-use crate::cuts::split_digits;
+use crate::cuts::{Class, split_front};
 use crate::number::number_between;
 use crate::table::entry_named;
 
@@ -24,7 +24,7 @@ const UNITS: [(&[u8], u64); 9] = [
 pub fn read_size(text: &[u8]) -> Option<u64>
     ensures { result ≡ size_of text.now }
 {
-    let (digits, suffix) = split_digits(text);
+    let (digits, suffix) = split_front(text, Class::Digit);
     let unit = entry_named(&UNITS, suffix)?;
     let number = number_between(0, u64::MAX, digits)?;
     number.checked_mul(unit)
