@@ -1,3 +1,4 @@
 pub mod Numerals
 pub mod CutLaws
 pub mod Entries
+pub mod AttributeLaws

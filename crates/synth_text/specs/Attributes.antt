@@ -64,17 +64,19 @@ with_word kind attributes word = do
   key ← or_flaw flaws.Attribute (key_of parts.0)
   if takes kind key && not (has attributes key) then with_value attributes key parts.1 else Err flaws.Attribute
 
--- whether a text is empty
-abbrev pub is_empty : List ℕ → Bool
+-- whether a list has no element
+abbrev pub is_empty : {X : Type 0} → List X → Bool
 is_empty [] = true
-is_empty (byte ∷ bytes) = false
+is_empty (x ∷ xs) = false
 
--- The words behind the first, from the left. An empty one that isn't the last lies in a gap of several white bytes.
+-- the attributes with a word behind the first; an empty one with more behind it lies in a gap of several white bytes
+unfoldable pub with_next : Kind → Attributes → List ℕ → Bool → Result Attributes Flaw
+with_next kind attributes word is_more = if is_empty word && is_more then Ok attributes else with_word kind attributes word
+
+-- the words behind the first, from the left
 abbrev pub with_words : Kind → Attributes → List (List ℕ) → Result Attributes Flaw
 with_words kind attributes [] = Ok attributes
-with_words kind attributes (word ∷ []) = with_word kind attributes word
-with_words kind attributes (word ∷ next ∷ words) =
-    if is_empty word then with_words kind attributes (next ∷ words) else with_word kind attributes word >>= λ more. with_words kind more (next ∷ words)
+with_words kind attributes (word ∷ words) = with_next kind attributes word (not (is_empty words)) >>= λ next. with_words kind next words
 
 -- what stands in parentheses; white space at either end makes an empty word, which is no attribute
 abbrev pub with_first : Kind → List (List ℕ) → Result Attributes Flaw

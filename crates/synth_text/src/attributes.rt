@@ -2,7 +2,7 @@
 ghost use Rattle.std.specs.Prelude.{◌≡◌, ◌==◌, Result};
 ghost use Rattle.synth_text.specs.declared.fault.Flaw.TheVariants as flaws;
 ghost use Rattle.synth_text.specs.Flaws.{Gives, GivesAs};
-ghost use Rattle.synth_text.specs.Attributes.{key_of, takes, no_attributes, has, with_value, with_word, attributes_in, enclosed, attributes_of};
+ghost use Rattle.synth_text.specs.Attributes.{key_of, takes, no_attributes, has, with_value, with_word, with_next, attributes_in, enclosed, attributes_of};
 ghost use Rattle.synth_text.specs.Views.{text_at};
 
 use crate::cuts::{cut_at, first_word, is_blank};
@@ -62,11 +62,26 @@ fn read_words(alloc: Global, kind: Kind, text: &[u8]) -> Result<Attributes, Flaw
     while let Some(text) = rest {
         let (word, behind) = first_word(text);
         rest = behind;
-        if !word.is_empty() || behind.is_none() {
-            attributes = with_word(alloc, kind, attributes, word)?;
-        }
+        attributes = with_next(alloc, kind, attributes, word, behind.is_some())?;
     }
     Ok(attributes)
+}
+
+// The attributes with a word behind the first. An empty one with more behind it lies in a gap of several white bytes.
+#[tactic(auto, unfolding(crate::specs::Attributes::with_next))]
+fn with_next(
+    alloc: Global,
+    kind: Kind,
+    attributes: Attributes,
+    word: &[u8],
+    is_more: bool,
+) -> Result<Attributes, Flaw>
+    ensures { Gives result (with_next kind attributes word.now is_more) }
+{
+    if word.is_empty() && is_more {
+        return Ok(attributes);
+    }
+    with_word(alloc, kind, attributes, word)
 }
 
 // The attributes with one more word.
