@@ -1,9 +1,9 @@
 // Reading one item.
-ghost use Rattle.std.specs.Prelude.{◌≡◌, ◌==◌, ◌<◌, length, Ok, if◌then◌else◌};
+ghost use Rattle.std.specs.Prelude.{◌≡◌, ◌<◌, length};
 ghost use Rattle.synth_text.specs.Names.{name_of};
 ghost use Rattle.synth_text.specs.Flaws.{Gives, GivesAs};
-ghost use Rattle.synth_text.specs.Views.{text_at, piece_texts};
-ghost use Rattle.synth_text.specs.Parts.{head_kind, head_arity, level_name, level_part, level_of, node_name, opened, memory_part, memory_of};
+ghost use Rattle.synth_text.specs.Views.{text_at};
+ghost use Rattle.synth_text.specs.Parts.{level_name, with_arity, head_of, level_part, level_of, node_name, opened, memory_part, memory_in_brackets, memory_of};
 
 use crate::attributes::{Attributes, read_attributes};
 use crate::cuts::{Class, first_piece, is_blank, split_front};
@@ -46,21 +46,37 @@ pub struct Nodes {
 pub fn read_level(alloc: Global, untyped: Kind, text: &[u8]) -> Result<Part, Flaw>
     ensures { Gives result (level_of untyped text.now) }
 {
-    let (head, attributes) = first_piece(text, b'(');
-    let (name, arity) = first_piece(head, b':');
-    let kind = read_kind(untyped, name, arity.is_some())?;
-    let arity = number_between(1, u64::from(u32::MAX), arity.unwrap_or(name)).ok_or(Flaw::Arity)?;
-    let attributes = read_attributes(alloc, kind, attributes)?;
-    Ok(level_part(kind, arity as u32, attributes))
+    let (head, behind) = first_piece(text, b'(');
+    let (kind, arity) = read_head(untyped, head)?;
+    let attributes = read_attributes(alloc, kind, behind)?;
+    Ok(level_part(kind, arity, attributes))
+}
+
+// The kind and the arity that a level's head gives.
+#[tactic(auto, unfolding(crate::specs::Parts::head_of))]
+fn read_head(untyped: Kind, head: &[u8]) -> Result<(Kind, u32), Flaw>
+    ensures { Gives result (head_of untyped head.now) }
+{
+    match first_piece(head, b':') {
+        (arity, None) => with_arity(untyped, arity),
+        (name, Some(arity)) => with_arity(level_kind(name)?, arity),
+    }
+}
+
+// A kind with the arity that a text gives.
+fn with_arity(kind: Kind, text: &[u8]) -> Result<(Kind, u32), Flaw>
+    ensures { Gives result (with_arity kind text.now) }
+{
+    match number_between(1, u64::from(u32::MAX), text) {
+        Some(arity) => Ok((kind, arity as u32)),
+        None => Err(Flaw::Arity),
+    }
 }
 
 // The kind that a level's name gives.
-fn read_kind(untyped: Kind, name: &[u8], is_name: bool) -> Result<Kind, Flaw>
-    ensures { Gives result (if is_name then level_name (name_of name.now) else Ok untyped) }
+fn level_kind(name: &[u8]) -> Result<Kind, Flaw>
+    ensures { Gives result (level_name (name_of name.now)) }
 {
-    if !is_name {
-        return Ok(untyped);
-    }
     match read_name(name) {
         None | Some(Name::Kind(Kind::Machine)) => Err(Flaw::Name),
         Some(Name::Kind(kind)) => Ok(kind),
@@ -108,23 +124,51 @@ pub fn read_memory(alloc: Global, text: &[u8]) -> Result<Part, Flaw>
     requires { 0 < length text.now }
     ensures { Gives result (memory_of text.now) }
 {
-    let (inner, behind) = first_piece(&text[1..], b']');
-    if behind.is_none() {
-        return Err(Flaw::Name);
+    match first_piece(&text[1..], b']') {
+        (_, None) => Err(Flaw::Name),
+        (inner, Some(_)) => read_brackets(alloc, inner),
     }
-    let (_, inner) = split_front(inner, Class::White);
-    let (name, behind) = split_front(inner, Class::Alphanumeric);
-    let Some(Name::Kind(Kind::NumaNode)) = read_name(name) else {
-        return Err(Flaw::Name);
-    };
-    let attributes = read_attributes(alloc, Kind::NumaNode, opened(behind)?)?;
-    Ok(Part {
+}
+
+// Reads what stands in brackets.
+#[tactic(auto, unfolding(crate::specs::Parts::memory_in_brackets))]
+fn read_brackets(alloc: Global, text: &[u8]) -> Result<Part, Flaw>
+    ensures { Gives result (memory_in_brackets text.now) }
+{
+    let (_, text) = split_front(text, Class::White);
+    let (name, behind) = split_front(text, Class::Alphanumeric);
+    let kind = node_kind(name)?;
+    let given = opened(behind)?;
+    let attributes = read_attributes(alloc, kind, given)?;
+    Ok(memory_part(attributes))
+}
+
+// The kind NUMANode, where a name is one of its names.
+fn node_kind(name: &[u8]) -> Result<Kind, Flaw>
+    ensures { Gives result (node_name (name_of name.now)) }
+{
+    match read_name(name) {
+        Some(Name::Kind(Kind::NumaNode)) => Ok(Kind::NumaNode),
+        _ => Err(Flaw::Name),
+    }
+}
+
+// Nodes of memory with their attributes.
+fn memory_part(attributes: Attributes) -> Part
+    ensures { result ≡ memory_part attributes }
+{
+    let Attributes {
+        size: _,
+        memory,
+        indexes,
+    } = attributes;
+    Part {
         level: None,
         nodes: Some(Nodes {
-            size: attributes.memory,
-            indexes: attributes.indexes,
+            size: memory,
+            indexes,
         }),
-    })
+    }
 }
 
 // What stands behind the `(` that follows a name, if one does; else there is at most white space.
