@@ -20,6 +20,14 @@ use Rattle.synth_text.specs.Kinds.{same_kind}
 abbrev pub levels_of : List Placed → List Level
 levels_of parts = filter_map (λ item. item.part.level) parts
 
+-- whether an item gives a level
+abbrev pub is_level : Placed → Bool
+is_level item = is_some item.part.level
+
+-- whether an item has nodes of memory
+abbrev pub has_nodes : Placed → Bool
+has_nodes item = is_some item.part.nodes
+
 -- how many levels an item gives
 abbrev pub level_count : Option Level → ℕ
 level_count None = 0
@@ -72,14 +80,18 @@ abbrev pub has_kind : Kind → Option Level → Bool
 has_kind kind None = false
 has_kind kind (Some level) = same_kind level.kind kind
 
+-- whether one of the items gives a level of this kind
+abbrev pub any_of_kind : Kind → List Placed → Bool
+any_of_kind kind items = list_any (λ item. has_kind kind item.part.level) items
+
 -- whether a level is of a kind other than Group that a level before it has
 abbrev pub is_kind_again : List Placed → Option Level → Bool
 is_kind_again before None = false
-is_kind_again before (Some level) = not (same_kind level.kind Group) && list_any (λ other. has_kind level.kind other.part.level) before
+is_kind_again before (Some level) = not (same_kind level.kind Group) && any_of_kind level.kind before
 
 -- whether an item repeats a kind, or attaches a second memory
 abbrev pub is_again : List Placed → Placed → Bool
-is_again before item = (is_some item.part.nodes && list_any (λ other. is_some other.part.nodes) before) || is_kind_again before item.part.level
+is_again before item = (has_nodes item && list_any has_nodes before) || is_kind_again before item.part.level
 
 -- where the first such item behind others begins
 abbrev pub first_again : List Placed → List Placed → Option ℕ
@@ -89,7 +101,7 @@ first_again before (item ∷ items) = if is_again before item then Some item.at 
 -- the items from the last level item on
 abbrev pub from_last : List Placed → List Placed
 from_last [] = []
-from_last (item ∷ items) = if list_any (λ other. is_some other.part.level) items then from_last items else item ∷ items
+from_last (item ∷ items) = if list_any is_level items then from_last items else item ∷ items
 
 -- where the last level item begins if it isn't of PUs, else the memory item behind it
 abbrev pub wrong_end : List Placed → Option ℕ

@@ -1,8 +1,8 @@
 // The rules on all items of a text together.
 ghost use Rattle.std.specs.Prelude.{◌≡◌, ◌≤◌, [], length, IfOk};
-ghost use Rattle.std.specs.List.{AllByRecursion};
+ghost use Rattle.std.specs.List.{AllByRecursion, list_any};
 ghost use Rattle.synth_text.specs.Flaws.{Answers};
-ghost use Rattle.synth_text.specs.Rules.{levels_of, description_of, is_again, is_kind_again, has_kind, first_again, from_last, wrong_end, broken, unless_broken, broken_items, fault_of};
+ghost use Rattle.synth_text.specs.Rules.{levels_of, description_of, has_nodes, is_again, is_kind_again, any_of_kind, has_kind, first_again, from_last, wrong_end, broken, unless_broken, broken_items, fault_of};
 
 use crate::counts::is_large;
 use crate::description::{Description, Level, Memory};
@@ -64,8 +64,22 @@ fn first_again(parts: &[Placed]) -> Option<usize>
 fn is_again(before: &[Placed], item: &Placed) -> bool
     ensures { result ≡ is_again before.now item.now }
 {
-    let second = item.part.nodes.is_some() && before.iter().any(|other| other.part.nodes.is_some());
-    second || is_kind_again(before, &item.part.level)
+    if item.part.nodes.is_some() && have_nodes(before) {
+        return true;
+    }
+    is_kind_again(before, &item.part.level)
+}
+
+// Whether one of the items has nodes of memory.
+fn have_nodes(items: &[Placed]) -> bool
+    ensures { result ≡ list_any has_nodes items.now }
+{
+    for item in items {
+        if item.part.nodes.is_some() {
+            return true;
+        }
+    }
+    false
 }
 
 // Whether a level is of a kind other than Group that a level before it has.
@@ -74,13 +88,20 @@ fn is_kind_again(before: &[Placed], level: &Option<Level>) -> bool
 {
     match level {
         None => false,
-        Some(level) => {
-            !level.kind.is_same(Kind::Group)
-                && before
-                    .iter()
-                    .any(|other| has_kind(&other.part.level, level.kind))
+        Some(level) => !level.kind.is_same(Kind::Group) && are_any_of_kind(before, level.kind),
+    }
+}
+
+// Whether one of the items gives a level of this kind.
+fn are_any_of_kind(items: &[Placed], kind: Kind) -> bool
+    ensures { result ≡ any_of_kind kind items.now }
+{
+    for item in items {
+        if has_kind(&item.part.level, kind) {
+            return true;
         }
     }
+    false
 }
 
 // Whether there is a level, of this kind.
