@@ -1,0 +1,6 @@
+pub mod Numerals
+pub mod CutLaws
+pub mod Entries
+pub mod AttributeLaws
+pub mod RuleLaws
+pub mod PartLaws
