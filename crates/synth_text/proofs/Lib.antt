@@ -4,3 +4,4 @@ pub mod Entries
 pub mod AttributeLaws
 pub mod RuleLaws
 pub mod PartLaws
+pub mod Lists

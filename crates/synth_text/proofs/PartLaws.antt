@@ -1,5 +1,7 @@
 -- Reading items one after the other.
-use Rattle.std.proofs.Common.{◌≡◌, ℕ, List, [], ◌∷◌, ◌++◌, Result, Ok, Err, refl, sym, ap, ◌∙◌, append_assoc}
+use mir.Val.{bool_byte}
+use Rattle.std.specs.Prelude.{not, if◌then◌else◌}
+use Rattle.std.proofs.Common.{◌≡◌, ℕ, ◌+◌, ◌-◌, Bool, true, false, List, [], ◌∷◌, ◌++◌, Result, Ok, Err, refl, sym, ap, ◌∙◌, append_assoc, arith}
 use Rattle.std.proofs.lemmas.List.{append-nil}
 use Rattle.synth_text.specs.declared.items.Item.{Item}
 use Rattle.synth_text.specs.declared.parts.Placed.{Placed}
@@ -43,3 +45,21 @@ stops text front item items fault total failed so_far =
 
 pub is_done : (front : List Placed) (total : Result (List Placed) SynthFault) → with_front front (Ok []) ≡ total → total ≡ Ok front
 is_done front total so_far = sym so_far ∙ ap Ok (append-nil front)
+
+-- how many level items are left behind an item
+pub behind_after : (is_memory : Bool) (behind one rest : ℕ) → behind ≡ (if is_memory then 0 else 1) + rest → one ≡ bool_byte (not is_memory) → behind - one ≡ rest
+behind_after true behind one rest h is = omega arith
+behind_after false behind one rest h is = omega arith
+
+-- a reading that is refused for a fault fails with it
+pub fails_with_itself : {A : Type 0} (fault : SynthFault) (reading : Result A SynthFault) → reading ≡ Err fault → FailsWith fault reading
+fails_with_itself faults.OutOfMemory reading h = tt
+fails_with_itself faults.Empty reading h = h
+fails_with_itself (faults.BadType at) reading h = h
+fails_with_itself (faults.BadArity at) reading h = h
+fails_with_itself (faults.BadAttr at) reading h = h
+fails_with_itself (faults.BadIndexes at) reading h = h
+fails_with_itself (faults.LastNotPu at) reading h = h
+fails_with_itself (faults.RepeatedType at) reading h = h
+fails_with_itself faults.TooManyLevels reading h = h
+fails_with_itself faults.TooManyObjects reading h = h

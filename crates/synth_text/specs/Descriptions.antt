@@ -1,5 +1,5 @@
 -- Which text describes what, and which is refused why.
-use Rattle.std.specs.Prelude.{◌≡◌, ℕ, Bool, not, List, [], ◌∷◌, Result, Ok, Err, count_by, if◌then◌else◌}
+use Rattle.std.specs.Prelude.{◌≡◌, ℕ, ◌+◌, Bool, List, [], ◌∷◌, Result, Ok, Err, if◌then◌else◌}
 use Rattle.synth_text.specs.declared.description.Description.{Description}
 use Rattle.synth_text.specs.declared.fault.Flaw.{Flaw}
 use Rattle.synth_text.specs.declared.fault.SynthFault.{SynthFault}
@@ -13,7 +13,8 @@ use Rattle.synth_text.specs.Rules.{description_of, broken, unless_broken}
 
 -- how many level items there are
 abbrev pub level_items : List Item → ℕ
-level_items items = count_by (λ item. not item.is_memory) items
+level_items [] = 0
+level_items (item ∷ items) = (if item.is_memory then 0 else 1) + level_items items
 
 -- what the bytes of an item say that has so many level items behind it
 abbrev pub part_of : List ℕ → Bool → ℕ → Result Part Flaw

@@ -6,7 +6,7 @@ ghost use Rattle.synth_text.specs.declared.fault.SynthFault.{SynthFault as Fault
 ghost use Rattle.synth_text.specs.Items.{AreItems};
 ghost use Rattle.synth_text.specs.Flaws.{Gives, Answers, AnswersAs};
 ghost use Rattle.synth_text.specs.Parts.{untyped_kind};
-ghost use Rattle.synth_text.specs.Descriptions.{part_of, placed_part, parts_of, meaning, Describes, SynthRefused};
+ghost use Rattle.synth_text.specs.Descriptions.{level_items, part_of, placed_part, parts_of, meaning, Describes, SynthRefused};
 ghost use Rattle.synth_text.specs.Outcomes.{IsRefusedUnlessMemory};
 ghost use Rattle.synth_text.specs.Sound.{IsSound};
 
@@ -48,15 +48,24 @@ fn read_parts(alloc: Global, text: &[u8], items: &[Item]) -> Result<Vec<Placed>,
     requires { AreItems text.now 0 items.now }
     ensures { AnswersAs (λ parts. parts.items) result (parts_of text.now items.now) }
 {
-    let mut behind = items.iter().filter(|item| !item.is_memory).count();
+    let mut behind = level_items(items);
     let mut parts = Vec::new(alloc);
     for item in items {
-        if !item.is_memory {
-            behind -= 1;
-        }
+        behind -= usize::from(!item.is_memory);
         parts.push(read_placed(alloc, text, *item, behind)?)?;
     }
     Ok(parts)
+}
+
+// How many level items there are.
+fn level_items(items: &[Item]) -> usize
+    ensures { result ≡ level_items items.now }
+{
+    let mut count = 0;
+    for item in items {
+        count += usize::from(!item.is_memory);
+    }
+    count
 }
 
 // What one item says, with its place.

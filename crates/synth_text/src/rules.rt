@@ -26,6 +26,7 @@ pub fn described(alloc: Global, parts: Vec<Placed>) -> Result<Description, Synth
 }
 
 // The first broken rule on the items themselves.
+#[tactic(auto, unfolding(crate::specs::Rules::broken_items))]
 fn check_items(parts: &[Placed]) -> Result<(), SynthFault>
     ensures { fault_of result ≡ broken_items parts.now }
 {

@@ -1,0 +1,21 @@
+-- Steps along a list, and lists of texts with a byte between them.
+use Rattle.std.proofs.Common.{◌≡◌, ℕ, suc, ◌+◌, ◌<◌, List, [], ◌∷◌, ◌++◌, length, get_or, take, drop, map, refl, sym, ap, ◌∙◌, append_assoc, add-one, arith}
+use Rattle.std.proofs.Math.Seq.{drop-cons}
+use Rattle.std.proofs.lemmas.List.{take_more, map_push}
+use Rattle.std.specs.List.{join_with_byte}
+
+pub drop_element : {X : Type 0} (xs : List X) (i : ℕ) (x : X) → i < length xs → x ≡ get_or xs i x → drop i xs ≡ x ∷ drop (i + 1) xs
+drop_element xs i x lt is = drop-cons xs i x lt ∙ ap (λ y. y ∷ drop (suc i) xs) (sym is) ∙ rw add-one refl
+
+pub drop_at_index : {X : Type 0} (xs : List X) (i : ℕ) (d : X) → i < length xs → drop i xs ≡ get_or xs i d ∷ drop (i + 1) xs
+drop_at_index xs i d lt = drop-cons xs i d lt ∙ rw add-one refl
+
+pub map-take-element : {X Y : Type 0} (f : X → Y) (xs : List X) (i : ℕ) (x : X) → i < length xs → x ≡ get_or xs i x → map f (take (i + 1) xs) ≡ map f (take i xs) ++ f x ∷ []
+map-take-element f xs i x lt is = ap (map f) (take_more xs i x lt ∙ ap (λ y. take i xs ++ y ∷ []) (sym is)) ∙ map_push f (take i xs) x
+
+-- one more text behind others
+pub join_more : (byte : ℕ) (texts : List (List ℕ)) (text : List ℕ) → 0 < length texts → join_with_byte byte (texts ++ text ∷ []) ≡ join_with_byte byte texts ++ byte ∷ text
+join_more byte [] text some = absurd (omega arith)
+join_more byte (first ∷ []) text some = refl
+join_more byte (first ∷ second ∷ texts) text some =
+    ap (λ (rest : List ℕ). first ++ byte ∷ rest) (join_more byte (second ∷ texts) text (omega arith)) ∙ sym (append_assoc first (byte ∷ join_with_byte byte (second ∷ texts)) (byte ∷ text))
