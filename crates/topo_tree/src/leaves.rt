@@ -1,5 +1,5 @@
 // Which PU has a physical number.
-ghost use Rattle.std.specs.Prelude.{◌≡◌, ◌<◌, ◌≤◌, ◌^◌, ◌==◌, ℕ, None, length, take, slice_index, false, IfOk};
+ghost use Rattle.std.specs.Prelude.{◌≡◌, ◌<◌, ◌≤◌, ℕ, [], length, false, IfOk};
 ghost use Rattle.cpu_set.specs.Sets.{has};
 ghost use Rattle.topo_tree.specs.Numbers.{is_bad};
 ghost use Rattle.topo_tree.specs.TableLists.{leaf_table};

@@ -12,7 +12,8 @@ pub fn push_indent(out: &mut Vec<u8>, depth: u32) -> Result<(), AllocError>
     ensures { OnOk result (out.new.items ≡ out.old.items ++ replicate (2 * depth) 32) }
 {
     for _ in 0..depth {
-        out.extend_from_slice(b"  ")?;
+        out.push(b' ')?;
+        out.push(b' ')?;
     }
     Ok(())
 }

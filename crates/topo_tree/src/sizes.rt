@@ -11,6 +11,7 @@ const GIB: u64 = 1 << 30;
 const TIB: u64 = 1 << 40;
 
 /// Appends a size as a whole number of the greatest unit that divides it.
+#[tactic(auto, unfolding(crate::specs::Sizes::size_text))]
 pub fn push_size(out: &mut Vec<u8>, size: u64) -> Result<(), AllocError>
     ensures { OnOk result (out.new.items ≡ out.old.items ++ size_text size) }
 {

@@ -1,0 +1,55 @@
+-- Products of arities: how many objects a depth has, and how many PUs each covers.
+use Rattle.std.proofs.Common.{◌≡◌, ℕ, zero, suc, ◌+◌, ◌*◌, ◌/◌, ◌%◌, ◌<◌, ◌≤◌, List, [], ◌∷◌, ◌++◌, length, map, take, drop, get_or, refl, sym, ap, ◌∙◌, arith}
+use Rattle.std.proofs.Math.Nat.{mul_comm, mul_assoc, one-mul, mul-one, one-le-mul, mul-le-mul_left, mul-le-mul_right}
+use Rattle.std.proofs.lemmas.List.{take_more, length-map, length-take-le, get_or-map, get_or-take}
+use Rattle.std.specs.List.{AllByRecursion}
+use Rattle.synth_text.specs.declared.description.Level.{Level}
+use Rattle.synth_text.specs.Rules.{arities, product}
+
+-- each level has an arity
+abbrev pub HaveArities : List Level → Type 0
+HaveArities levels = AllByRecursion (λ level. 1 ≤ level.arity) levels
+
+pub product_some : (levels : List Level) → HaveArities levels → 1 ≤ product (arities levels)
+product_some [] some = omega arith
+product_some (level ∷ levels) some = one-le-mul some.0 (product_some levels some.1)
+
+pub count_some : (depth : ℕ) (levels : List Level) → HaveArities levels → 1 ≤ product (take depth (arities levels))
+count_some zero levels some = omega arith
+count_some (suc depth) [] some = omega arith
+count_some (suc depth) (level ∷ levels) some = one-le-mul some.0 (count_some depth levels some.1)
+
+pub width_some : (depth : ℕ) (levels : List Level) → HaveArities levels → 1 ≤ product (drop depth (arities levels))
+width_some zero levels some = product_some levels some
+width_some (suc depth) [] some = omega arith
+width_some (suc depth) (level ∷ levels) some = width_some depth levels some.1
+
+pub product_split : (n : ℕ) (xs : List ℕ) → product (take n xs) * product (drop n xs) ≡ product xs
+product_split zero xs = one-mul (product xs)
+product_split (suc n) [] = refl
+product_split (suc n) (x ∷ xs) = mul_assoc x (product (take n xs)) (product (drop n xs)) ∙ ap (λ p. x * p) (product_split n xs)
+
+pub product_push : (xs : List ℕ) (x : ℕ) → product (xs ++ x ∷ []) ≡ product xs * x
+product_push [] x = mul-one x ∙ sym (one-mul x)
+product_push (y ∷ ys) x = ap (λ p. y * p) (product_push ys x) ∙ sym (mul_assoc y (product ys) x)
+
+-- no depth has more objects than there are PUs
+pub count_within : (depth : ℕ) (levels : List Level) → HaveArities levels → product (take depth (arities levels)) ≤ product (arities levels)
+count_within depth levels some =
+    let p = product (take depth (arities levels)) in
+    omega (arith, product_split depth (arities levels), mul-le-mul_left p (width_some depth levels some), mul-one p)
+
+-- the next depth
+pub count_more : (depth : ℕ) (levels : List Level) → depth < length levels → product (take (depth + 1) (arities levels)) ≡ product (take depth (arities levels)) * get_or (arities levels) depth 0
+count_more depth levels within =
+    ap product (take_more (arities levels) depth 0 (omega (arith, length-map levels (λ level. level.arity)))) ∙ product_push (take depth (arities levels)) (get_or (arities levels) depth 0)
+
+-- one more level among the first so many
+pub count_step : (levels : List Level) (depth place : ℕ) (level : Level) → depth ≤ length levels → place < length (take depth levels) → level ≡ get_or (take depth levels) place level → product (take (place + 1) (arities levels)) ≡ product (take place (arities levels)) * level.arity
+count_step levels depth place level within below here =
+    let long : length (take depth levels) ≡ depth = length-take-le depth levels within in
+    let before : place < depth = omega arith in
+    let inside : place < length levels = omega arith in
+    count_more place levels inside
+    ∙ ap (λ arity. product (take place (arities levels)) * arity)
+    (get_or-map (λ (l : Level). l.arity) levels place level 0 inside ∙ ap (λ (l : Level). l.arity) (sym (get_or-take depth levels place level before) ∙ sym here))
