@@ -1,3 +1,6 @@
 pub mod Products
 pub mod Numbering
 pub mod SetSteps
+pub mod Faults
+pub mod Coverings
+pub mod Positions

@@ -1,10 +1,13 @@
 -- Products of arities: how many objects a depth has, and how many PUs each covers.
-use Rattle.std.proofs.Common.{◌≡◌, ℕ, zero, suc, ◌+◌, ◌*◌, ◌/◌, ◌%◌, ◌<◌, ◌≤◌, List, [], ◌∷◌, ◌++◌, length, map, take, drop, get_or, refl, sym, ap, ◌∙◌, arith}
-use Rattle.std.proofs.Math.Nat.{mul_comm, mul_assoc, one-mul, mul-one, one-le-mul, mul-le-mul_left, mul-le-mul_right}
+use Rattle.std.proofs.Common.{◌≡◌, ℕ, zero, suc, ◌+◌, ◌*◌, ◌/◌, ◌%◌, ◌<◌, ◌≤◌, List, [], ◌∷◌, ◌++◌, length, map, take, drop, get_or, Option, Some, None, refl, sym, ap, ◌∙◌, arith}
+use Rattle.std.proofs.Math.Nat.{mul_comm, mul_assoc, one-mul, mul-one, one-le-mul, mul-le-mul_left, mul-le-mul_right, div-eq_of_eq-mul_left}
 use Rattle.std.proofs.lemmas.List.{take_more, length-map, length-take-le, get_or-map, get_or-take}
 use Rattle.std.specs.List.{AllByRecursion}
 use Rattle.synth_text.specs.declared.description.Level.{Level}
-use Rattle.synth_text.specs.Rules.{arities, product}
+use Rattle.synth_text.specs.declared.description.Memory.{Memory}
+use Rattle.synth_text.specs.declared.description.Description.{Description}
+use Rattle.synth_text.specs.Rules.{arities, product, node_count}
+use Rattle.synth_text.specs.Sound.{IsSound, IsSoundLevel}
 
 -- each level has an arity
 abbrev pub HaveArities : List Level → Type 0
@@ -53,3 +56,33 @@ count_step levels depth place level within below here =
     count_more place levels inside
     ∙ ap (λ arity. product (take place (arities levels)) * arity)
     (get_or-map (λ (l : Level). l.arity) levels place level 0 inside ∙ ap (λ (l : Level). l.arity) (sym (get_or-take depth levels place level before) ∙ sym here))
+
+-- ---- what a description keeps
+
+have_arities_of : (levels : List Level) → AllByRecursion IsSoundLevel levels → HaveArities levels
+have_arities_of [] sound = tt
+have_arities_of (level ∷ levels) sound = (sound.0.arity.0, have_arities_of levels sound.1)
+
+pub have_arities : (described : Description) → IsSound described → HaveArities described.levels
+have_arities described sound = have_arities_of described.levels sound.levels
+
+pub few_objects : (described : Description) (depth : ℕ) → IsSound described → product (take depth (arities described.levels)) ≤ 4096
+few_objects described depth sound = omega (arith, count_within depth described.levels (have_arities described sound), sound.pus)
+
+pub some_objects : (described : Description) (depth : ℕ) → IsSound described → 1 ≤ product (take depth (arities described.levels))
+some_objects described depth sound = count_some depth described.levels (have_arities described sound)
+
+pub few_nodes : (described : Description) → IsSound described → node_count described.levels described.memory ≤ 4096
+few_nodes described sound = nodes_of described.memory
+  where
+    nodes_of : (memory : Option Memory) → node_count described.levels memory ≤ 4096
+    nodes_of None = omega arith
+    nodes_of (Some memory) = few_objects described memory.above sound
+
+-- the PUs are divided among the objects of a depth without a rest
+pub divided : (depth : ℕ) (levels : List Level) → HaveArities levels → product (arities levels) / product (take depth (arities levels)) ≡ product (drop depth (arities levels))
+divided depth levels some =
+    div-eq_of_eq-mul_left (count_some depth levels some) (sym (product_split depth (arities levels)) ∙ mul_comm (product (take depth (arities levels))) (product (drop depth (arities levels))))
+
+pub whole_counts : (depth : ℕ) (levels : List Level) → HaveArities levels → product (take depth (arities levels)) * (product (arities levels) / product (take depth (arities levels))) ≡ product (arities levels)
+whole_counts depth levels some = ap (λ width. product (take depth (arities levels)) * width) (divided depth levels some) ∙ product_split depth (arities levels)

@@ -12,6 +12,7 @@ use std::alloc::Global;
 use synth_text::Description;
 
 /// The physical numbers of the nodes of memory, or the first broken rule.
+#[tactic(auto, unfolding(crate::specs::Building::node_numbers))]
 pub fn node_numbers(alloc: Global, description: &Description) -> Result<Vec<u32>, BuildFault>
     requires { IsSound description.now }
     ensures numbers { IfOk result (λ numbers. numbers.items ≡ node_numbers description.now) }
@@ -28,6 +29,7 @@ pub fn node_numbers(alloc: Global, description: &Description) -> Result<Vec<u32>
 }
 
 /// The physical numbers of the PUs, or the first broken rule.
+#[tactic(auto, unfolding(crate::specs::Building::pu_numbers))]
 pub fn pu_numbers(alloc: Global, description: &Description) -> Result<Vec<u32>, BuildFault>
     requires { IsSound description.now }
     ensures numbers { IfOk result (λ numbers. numbers.items ≡ pu_numbers description.now) }
