@@ -47,15 +47,19 @@ pub count_more : (depth : ℕ) (levels : List Level) → depth < length levels �
 count_more depth levels within =
     ap product (take_more (arities levels) depth 0 (omega (arith, length-map levels (λ level. level.arity)))) ∙ product_push (take depth (arities levels)) (get_or (arities levels) depth 0)
 
+-- one more level
+pub count_next : (levels : List Level) (place : ℕ) (level : Level) → place < length levels → level ≡ get_or levels place level → product (take (place + 1) (arities levels)) ≡ product (take place (arities levels)) * level.arity
+count_next levels place level within here =
+    count_more place levels within
+    ∙ ap (λ arity. product (take place (arities levels)) * arity)
+    (get_or-map (λ (l : Level). l.arity) levels place level 0 within ∙ ap (λ (l : Level). l.arity) (sym here))
+
 -- one more level among the first so many
 pub count_step : (levels : List Level) (depth place : ℕ) (level : Level) → depth ≤ length levels → place < length (take depth levels) → level ≡ get_or (take depth levels) place level → product (take (place + 1) (arities levels)) ≡ product (take place (arities levels)) * level.arity
 count_step levels depth place level within below here =
     let long : length (take depth levels) ≡ depth = length-take-le depth levels within in
     let before : place < depth = omega arith in
-    let inside : place < length levels = omega arith in
-    count_more place levels inside
-    ∙ ap (λ arity. product (take place (arities levels)) * arity)
-    (get_or-map (λ (l : Level). l.arity) levels place level 0 inside ∙ ap (λ (l : Level). l.arity) (sym (get_or-take depth levels place level before) ∙ sym here))
+    count_next levels place level (omega arith) (here ∙ get_or-take depth levels place level before)
 
 -- ---- what a description keeps
 
