@@ -4,3 +4,4 @@ pub mod SetSteps
 pub mod Faults
 pub mod Coverings
 pub mod Positions
+pub mod Lookups

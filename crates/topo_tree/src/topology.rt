@@ -189,7 +189,8 @@ impl Topology {
 
     // How many children each object of a depth has.
     fn arity(&self, depth: u32) -> u32
-        ensures { result ≡ arity_at self.now depth }
+        ensures arity { result ≡ arity_at self.now depth }
+        ensures built { IsBuilt self.now }
     {
         match self.description.levels.as_slice().get(depth as usize) {
             Some(level) => level.arity,

@@ -1,6 +1,6 @@
-use Rattle.std.proofs.Common.{◌≡◌, ◌≤◌, None, sym, ap, ◌∙◌, refl, arith}
+use Rattle.std.proofs.Common.{◌≡◌, ◌≤◌, None, take, sym, ap, ◌∙◌, refl, arith}
 use Rattle.synth_text.specs.declared.description.Indexes.TheVariants as indexes
-use Rattle.synth_text.specs.Rules.{node_count}
+use Rattle.synth_text.specs.Rules.{arities, product, node_count}
 use Rattle.topo_tree.specs.Numbers.{numbers_of, indexes_fault}
 use Rattle.topo_tree.specs.Building.{node_indexes, node_numbers}
 use Rattle.topo_tree.proofs.Products.{few_objects}
@@ -8,7 +8,9 @@ use Rattle.topo_tree.proofs.Faults.{no_fault}
 use Rattle.topo_tree.proofs.building.node_numbers.Goals as goal
 
 pub physical_numbers-requires-clause-few : goal.physical_numbers-requires-clause-few
-physical_numbers-requires-clause-few c = omega (arith, few_objects c.args.description.now c.in-Some.memory.above c.requires, c.count_down_to-count.ensures.count)
+physical_numbers-requires-clause-few c =
+    let counted = c.count_down_to-count.ensures.count ∙ ap (λ levels. product (take c.in-Some.memory.above (arities levels))) c.as_slice.ensures in
+    omega (arith, few_objects c.args.description.now c.in-Some.memory.above c.requires, counted)
 
 pub returns-in-None-clause-numbers : goal.returns-in-None-clause-numbers
 unfolding node_numbers numbers_of
