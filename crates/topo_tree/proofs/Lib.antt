@@ -5,3 +5,4 @@ pub mod Faults
 pub mod Coverings
 pub mod Positions
 pub mod Lookups
+pub mod Depths

@@ -1,7 +1,7 @@
 -- Products of arities: how many objects a depth has, and how many PUs each covers.
 use Rattle.std.proofs.Common.{◌≡◌, ℕ, zero, suc, ◌+◌, ◌*◌, ◌/◌, ◌%◌, ◌<◌, ◌≤◌, List, [], ◌∷◌, ◌++◌, length, map, take, drop, get_or, Option, Some, None, refl, sym, ap, ◌∙◌, arith}
 use Rattle.std.proofs.Math.Nat.{mul_comm, mul_assoc, one-mul, mul-one, one-le-mul, mul-le-mul_left, mul-le-mul_right, div-eq_of_eq-mul_left}
-use Rattle.std.proofs.lemmas.List.{take_more, length-map, length-take-le, get_or-map, get_or-take}
+use Rattle.std.proofs.lemmas.List.{take_more, take_all, length-map, length-take-le, get_or-map, get_or-take}
 use Rattle.std.specs.List.{AllByRecursion}
 use Rattle.synth_text.specs.declared.description.Level.{Level}
 use Rattle.synth_text.specs.declared.description.Memory.{Memory}
@@ -90,3 +90,7 @@ divided depth levels some =
 
 pub whole_counts : (depth : ℕ) (levels : List Level) → HaveArities levels → product (take depth (arities levels)) * (product (arities levels) / product (take depth (arities levels))) ≡ product (arities levels)
 whole_counts depth levels some = ap (λ width. product (take depth (arities levels)) * width) (divided depth levels some) ∙ product_split depth (arities levels)
+
+-- the last depth has the PUs
+pub last_count : (levels : List Level) → product (take (length levels) (arities levels)) ≡ product (arities levels)
+last_count levels = ap product (take_all (length levels) (arities levels) (omega (arith, length-map levels (λ (level : Level). level.arity))))

@@ -130,11 +130,16 @@ impl Topology {
         ensures { result ≡ parent_of self.now object.layer object.index }
     {
         match object.layer {
-            Layer::Depth(0) => None,
-            Layer::Depth(depth) => Some(Object {
-                layer: Layer::Depth(depth - 1),
-                index: object.index / self.arity(depth - 1),
-            }),
+            Layer::Depth(depth) => {
+                if depth == 0 {
+                    None
+                } else {
+                    Some(Object {
+                        layer: Layer::Depth(depth - 1),
+                        index: object.index / self.arity(depth - 1),
+                    })
+                }
+            }
             Layer::Memory => Some(Object {
                 layer: Layer::Depth(self.depth_of(Layer::Memory)),
                 index: object.index,
