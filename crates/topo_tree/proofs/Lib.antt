@@ -6,3 +6,5 @@ pub mod Coverings
 pub mod Positions
 pub mod Lookups
 pub mod Depths
+pub mod Trees
+pub mod Shown

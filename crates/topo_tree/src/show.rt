@@ -1,9 +1,14 @@
 // The two texts of a topology.
 ghost use Rattle.std.specs.Prelude.{◌≡◌, ◌<◌, ◌+◌, ◌++◌, ◌∷◌, [], None, length, slice_index_or, IfOk, OnOk};
 ghost use Rattle.synth_text.specs.Canonical.{canonical};
+ghost use Rattle.synth_text.specs.Kinds.{short_name_of};
 ghost use Rattle.synth_text.specs.Rules.{pu_count};
-ghost use Rattle.topo_tree.specs.Objects.{depth_count, count_at};
-ghost use Rattle.topo_tree.specs.Lines.{sizes, group_number, object_line, own_lines, topology_text};
+ghost use Rattle.synth_text.specs.declared.kind.Kind.TheVariants as kinds;
+ghost use Rattle.topo_tree.specs.declared.layer.Layer.TheVariants as layers;
+ghost use Rattle.topo_tree.specs.Objects.{depth_count, count_at, count_of};
+ghost use Rattle.topo_tree.specs.Building.{IsBuilt};
+ghost use Rattle.topo_tree.specs.Coverage.{physical_of};
+ghost use Rattle.topo_tree.specs.Lines.{sizes, group_number, node_detail, line, object_line, own_lines, topology_text};
 ghost use Rattle.topo_tree.specs.Beginnings.{lines_at};
 
 use crate::layer::{Layer, Object};
@@ -40,6 +45,8 @@ impl Topology {
 
     // The layer of the PUs.
     fn pu_layer(&self) -> Layer
+        ensures layer { result ≡ layers.Depth (length self.now.levels) }
+        ensures built { IsBuilt self.now }
     {
         Layer::Depth(self.depths() - 1)
     }
@@ -60,6 +67,7 @@ impl Topology {
     }
 
     // Appends the line of an object, and of the NUMANode that it carries.
+    #[tactic(auto, unfolding(crate::specs::Lines::own_lines))]
     fn push_own_lines(&self, out: &mut Vec<u8>, depth: u32, index: u32) -> Result<(), AllocError>
         requires depth { depth < depth_count self.now }
         requires index { index < count_at self.now depth }
@@ -101,6 +109,9 @@ impl Topology {
         index: u32,
         size: Option<u64>,
     ) -> Result<(), AllocError>
+        requires { index < count_of self.now layers.Memory }
+        ensures { OnOk result (out.new.items ≡ out.old.items
+            ++ line depth (short_name_of kinds.NumaNode) index (node_detail (physical_of self.now layers.Memory index) size)) }
     {
         let object = Object {
             layer: Layer::Memory,

@@ -2,8 +2,9 @@ use Rattle.std.proofs.Common.{◌≡◌, length, get_or, sym, ap, ◌∙◌, sub
 use Rattle.std.proofs.lemmas.List.{get_or_default}
 use Rattle.std.proofs.lemmas.Result.{err_from_is_err_and}
 use Rattle.synth_text.specs.Rules.{arities, product}
-use Rattle.topo_tree.specs.Building.{build_fault, IsFaultUnlessMemory}
+use Rattle.topo_tree.specs.Building.{pu_numbers}
 use Rattle.topo_tree.specs.Numbers.{is_bad}
+use Rattle.topo_tree.specs.TableLists.{depth_sets, leaf_table}
 use Rattle.topo_tree.proofs.Products.{HaveArities, have_arities}
 use Rattle.topo_tree.proofs.Lookups.{length-pu_numbers, pus_good, pus_low, first_refused, next_refused, none_refused}
 use Rattle.topo_tree.proofs.topology.Topology.build.Goals as goal
@@ -47,3 +48,16 @@ leaf_table-requires-clause-good c = λ place within.
 
 pub returns-clause-accepted : goal.returns-clause-accepted
 returns-clause-accepted c = none_refused c.args.description c.in_ok-nodes.ensures.good c.in_ok-numbers.ensures.good
+
+pub invariant_of-result : goal.invariant_of-result
+invariant_of-result c =
+    let described = c.args.description in
+    record {
+      built = record { sound = c.requires; numbered = none_refused described c.in_ok-nodes.ensures.good c.in_ok-numbers.ensures.good };
+      sets =
+        c.in_ok-sets.ensures ∙ ap (λ numbers. depth_sets numbers c.as_slice.result.now) (c.deref.ensures.value ∙ c.in_ok-numbers.ensures.numbers)
+        ∙ ap (depth_sets (pu_numbers described)) c.as_slice.ensures;
+      numbers = c.in_ok-numbers.ensures.numbers;
+      nodes = c.in_ok-nodes.ensures.numbers;
+      leaves = c.in_ok-leaves.ensures ∙ ap leaf_table (c.deref-2.ensures.value ∙ c.in_ok-numbers.ensures.numbers);
+    }

@@ -3,13 +3,13 @@ use Rattle.std.specs.List.{slice_get}
 use Rattle.synth_text.specs.Kinds.{same_kind}
 use Rattle.topo_tree.specs.Objects.{depth_count, kind_at}
 use Rattle.topo_tree.specs.Naming.{depths_of}
-use Rattle.topo_tree.proofs.Depths.{passing_from, passing_out, numbered_later}
+use Rattle.topo_tree.proofs.Depths.{passing_from, passing_out, numbered_first, numbered_later}
 use Rattle.topo_tree.proofs.topology.Topology.numbered_depth.Goals as goal
 use Rattle.topo_tree.proofs.topology.Topology.numbered_depth.Goals.{then-is_same+else-above-number, else-is_same}
 
 pub loop-depth-init : goal.loop-depth-init
 unfolding depths_of
-loop-depth-init c = record { few = omega arith; rest = refl }
+loop-depth-init c = record { few = omega arith; rest = numbered_first (λ d. same_kind (kind_at c.args.self.now d) c.args.kind) (depth_count c.args.self.now) c.args.number }
 
 pub loop-depth-preserved : goal.loop-depth-preserved
 loop-depth-preserved c =
