@@ -1,5 +1,5 @@
 -- Which PUs objects cover, and the tables of their sets.
-use Rattle.std.proofs.Common.{◌≡◌, ℕ, zero, suc, ◌+◌, ◌-◌, ◌*◌, ◌/◌, ◌<◌, ◌≤◌, List, [], ◌∷◌, ◌++◌, length, map, take, drop, get_or, slice_range, refl, sym, ap, ◌∙◌, arith}
+use Rattle.std.proofs.Common.{◌≡◌, ℕ, ◌+◌, ◌*◌, ◌/◌, ◌<◌, List, [], ◌∷◌, ◌++◌, length, map, take, slice_range, sym, ap, ◌∙◌, arith}
 use Rattle.std.proofs.Math.Nat.{mul_comm, mul_assoc, div-eq_of_eq-mul_left}
 use Rattle.std.proofs.lemmas.List.{map_push}
 use Rattle.std.proofs.lemmas.List.FromFn.{map-range_with_len_more}
@@ -9,7 +9,6 @@ use Rattle.synth_text.specs.declared.description.Level.{Level}
 use Rattle.synth_text.specs.Rules.{arities, product}
 use Rattle.topo_tree.proofs.Products.{HaveArities, whole_counts}
 use Rattle.topo_tree.specs.Coverage.{first_covered, set_covered}
-use Rattle.topo_tree.specs.TableLists.{sets_covered}
 
 pub first_covered_whole : (pus count index : ℕ) → 0 < count → count * (pus / count) ≡ pus → first_covered pus count index ≡ index * (pus / count)
 first_covered_whole pus count index some whole =

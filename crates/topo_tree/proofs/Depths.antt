@@ -1,5 +1,5 @@
 -- Depths of a kind, by their order.
-use Rattle.std.proofs.Common.{◌≡◌, ℕ, zero, suc, ◌+◌, ◌-◌, ◌<◌, ◌≤◌, Bool, true, false, cond, List, [], ◌∷◌, length, take, get_or, Option, Some, None, count_by, refl, sym, ap, ◌∙◌, arith}
+use Rattle.std.proofs.Common.{◌≡◌, ℕ, suc, ◌+◌, ◌-◌, ◌<◌, Bool, true, false, List, ◌∷◌, refl, ap, ◌∙◌, arith}
 use Rattle.std.specs.List.{range_with_len, filter, slice_get}
 use Rattle.cpu_set.specs.SetLaws.{filter_in, filter_out}
 

@@ -1,15 +1,14 @@
 -- The first bad number of a list, and the faults of indexes.
-use Rattle.std.proofs.Common.{◌≡◌, ◌≢◌, ℕ, zero, suc, ◌+◌, ◌-◌, ◌*◌, ◌^◌, ◌<◌, ◌≤◌, min, Bool, true, false, ◌||◌, ◌==◌, cond, nat_le, List, [], ◌∷◌, ◌++◌, length, map, take, get_or, slice_index, Option, Some, None, refl, sym, ap, ◌∙◌, subst, inl, inr, arith, eq-eqb, Decides}
+use Rattle.std.proofs.Common.{◌≡◌, ◌≢◌, ℕ, zero, suc, ◌+◌, ◌-◌, ◌^◌, ◌<◌, ◌≤◌, min, Bool, true, false, ◌||◌, cond, nat_le, List, length, map, take, slice_index, Option, Some, None, refl, sym, ap, ◌∙◌, subst, inl, inr, arith, eq-eqb, Decides}
 use Rattle.std.specs.Option.{option_map}
 use Rattle.std.specs.List.{range_with_len, find, Contains}
-use Rattle.std.proofs.lemmas.Bool.{cases_lt, false≢true, ne_eqb}
+use Rattle.std.proofs.lemmas.Bool.{cases_lt, ne_eqb}
 use Rattle.std.proofs.lemmas.Bool.Decides.{nat_tests, same_from_decides}
-use Rattle.std.proofs.lemmas.List.FromFn.{take-map-range_with_len, get_or-map-range_with_len, length-map-range_with_len, map-range_with_len_more}
+use Rattle.std.proofs.lemmas.List.FromFn.{take-map-range_with_len, get_or-map-range_with_len, length-map-range_with_len}
 use Rattle.cpu_set.specs.Sets.{has, numbers_where}
 use Rattle.cpu_set.specs.SetLaws.{has-numbers_below, Decides-has}
 use Rattle.synth_text.specs.declared.description.Indexes.{Indexes}
 use Rattle.synth_text.specs.declared.description.Indexes.TheVariants as indexes
-use Rattle.topo_tree.specs.declared.fault.BuildFault.{BuildFault}
 use Rattle.topo_tree.specs.declared.fault.BuildFault.TheVariants as faults
 use Rattle.topo_tree.specs.Numbers.{number_of, numbers_of, index_count, is_bad, number_fault, first_fault, indexes_fault}
 
@@ -20,7 +19,7 @@ find_first p zero start place low high passes none = absurd (omega arith)
 find_first p (suc count) start place low high passes none =
     elim (cases_lt start place) [
       | inl later ↦ ap (λ b. cond b (Some start) (find p (range_with_len (start + 1) count))) (none start (omega arith) later)
-        ∙ find_first p count (start + 1) place (omega arith) (omega arith) passes (λ k from to. none k (omega arith) to)
+          ∙ find_first p count (start + 1) place (omega arith) (omega arith) passes (λ k from to. none k (omega arith) to)
       | inr here ↦ let same : start ≡ place = omega arith in
           ap (λ b. cond b (Some start) (find p (range_with_len (start + 1) count))) (ap p same ∙ passes) ∙ ap (λ k. Some k) same
     ]

@@ -1,8 +1,8 @@
 -- What the tables of a topology have at a place.
-use Rattle.std.proofs.Common.{◌≡◌, ◌≢◌, ℕ, zero, suc, ◌+◌, ◌-◌, ◌*◌, ◌<◌, ◌≤◌, Bool, true, false, ◌==◌, cond, min, ◌^◌, List, [], ◌∷◌, length, map, take, get_or, slice_index, Option, Some, None, IfSome, unwrap_or, refl, sym, ap, ◌∙◌, subst, inl, inr, arith}
+use Rattle.std.proofs.Common.{◌≡◌, ℕ, zero, suc, ◌+◌, ◌-◌, ◌*◌, ◌<◌, ◌≤◌, false, ◌==◌, cond, min, ◌^◌, List, [], ◌∷◌, length, map, take, get_or, slice_index, Option, Some, None, IfSome, unwrap_or, refl, sym, ap, ◌∙◌, subst, inl, inr, arith}
 use Rattle.std.proofs.Math.Nat.{mul-le-mul_right}
 use Rattle.std.specs.Option.{option_map}
-use Rattle.std.specs.List.{range_with_len, position, AllByRecursion}
+use Rattle.std.specs.List.{position, AllByRecursion}
 use Rattle.std.proofs.lemmas.Bool.{cases_lt, cases_Bool, eqb-true}
 use Rattle.std.proofs.lemmas.List.{length-map, get_or-map, get_or_past}
 use Rattle.std.proofs.lemmas.List.FromFn.{length-map-range_with_len, get_or-map-range_with_len}
@@ -17,10 +17,10 @@ use Rattle.topo_tree.specs.declared.layer.Layer.{Layer}
 use Rattle.topo_tree.specs.declared.layer.Layer.TheVariants as layers
 use Rattle.topo_tree.specs.declared.fault.BuildFault.{BuildFault}
 use Rattle.topo_tree.specs.declared.fault.BuildFault.TheVariants as faults
-use Rattle.topo_tree.specs.Objects.{depth_count, arity_at, count_at, count_of, carrier_of, IsLayer}
-use Rattle.topo_tree.specs.Numbers.{number_of, numbers_of, index_count, is_bad, first_fault, indexes_fault}
+use Rattle.topo_tree.specs.Objects.{arity_at, count_at, count_of, IsLayer}
+use Rattle.topo_tree.specs.Numbers.{numbers_of, index_count, is_bad, first_fault, indexes_fault}
 use Rattle.topo_tree.specs.Building.{pu_indexes, node_indexes, pu_numbers, node_numbers, or_next, build_fault, IsBuilt, IsFaultUnlessMemory}
-use Rattle.topo_tree.specs.Coverage.{set_covered, set_at, layer_depth, set_of}
+use Rattle.topo_tree.specs.Coverage.{set_covered, layer_depth}
 use Rattle.topo_tree.specs.TableLists.{sets_covered, depth_sets, leaf_table}
 use Rattle.topo_tree.specs.Tables.{IsTabled}
 use Rattle.topo_tree.proofs.Products.{have_arities, few_objects, count_more}
@@ -101,11 +101,11 @@ pub children_few : (described : Description) (depth index : ℕ) → IsSound des
 children_few described depth index sound below =
     elim (cases_lt depth (length described.levels)) [
       | inl within ↦
-        let more = mul-le-mul_right (arity_at described depth) (let lower : index ≤ count_at described depth = omega arith in lower) in
-        omega (arith, more, count_more depth described.levels within, few_objects described (depth + 1) sound)
+          let more = mul-le-mul_right (arity_at described depth) (let lower : index ≤ count_at described depth = omega arith in lower) in
+          omega (arith, more, count_more depth described.levels within, few_objects described (depth + 1) sound)
       | inr past ↦
-        let none : arity_at described depth ≡ 0 = get_or_past (arities described.levels) depth 0 (subst (λ n. n ≤ depth) (sym (length-map described.levels (λ level. level.arity))) past) in
-        omega (arith, ap (λ arity. index * arity) none)
+          let none : arity_at described depth ≡ 0 = get_or_past (arities described.levels) depth 0 (subst (λ n. n ≤ depth) (sym (length-map described.levels (λ level. level.arity))) past) in
+          omega (arith, ap (λ arity. index * arity) none)
     ]
 
 -- ---- what is known of the numbers
@@ -120,8 +120,8 @@ counted given count none =
     elim (cases_Bool (index_count given count == count)) [
       | inl same ↦ eqb-true (index_count given count) count same
       | inr other ↦
-        let refused = sym (ap (λ b. cond b (first_fault (numbers_of given count)) (Some (faults.IndexCount (min (index_count given count) (2 ^ 32 - 1)) count))) other) ∙ none in
-        absurd (cc (refused))
+          let refused = sym (ap (λ b. cond b (first_fault (numbers_of given count)) (Some (faults.IndexCount (min (index_count given count) (2 ^ 32 - 1)) count))) other) ∙ none in
+          absurd (cc (refused))
     ]
 
 pub pus_good : (described : Description) → indexes_fault (pu_indexes described) (pu_count described) ≡ None → (k : ℕ) → k < length (pu_numbers described) → is_bad (pu_numbers described) k ≡ false

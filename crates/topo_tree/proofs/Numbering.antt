@@ -1,6 +1,6 @@
 -- Steps of the loops that find physical numbers.
-use Rattle.std.proofs.Common.{◌≡◌, ℕ, zero, suc, ◌+◌, ◌-◌, ◌*◌, ◌/◌, ◌%◌, ◌^◌, ◌<◌, ◌≤◌, min, List, [], ◌∷◌, ◌++◌, length, map, take, drop, get_or, refl, sym, ap, ◌∙◌, subst, inl, inr, arith}
-use Rattle.std.proofs.Math.Nat.{mul_comm, mul_assoc, mul-one, one-mul, one-le-mul, mul-le-mul_left, mul-le-mul_right}
+use Rattle.std.proofs.Common.{◌≡◌, ℕ, ◌+◌, ◌*◌, ◌/◌, ◌%◌, ◌<◌, ◌≤◌, min, List, [], ◌∷◌, length, take, drop, get_or, sym, ap, ◌∙◌, subst, inl, inr, arith}
+use Rattle.std.proofs.Math.Nat.{mul_comm, mul_assoc, mul-one, one-le-mul, mul-le-mul_left}
 use Rattle.std.proofs.lemmas.Nat.{mod_below}
 use Rattle.std.proofs.lemmas.Bool.{cases_lt}
 use Rattle.std.proofs.lemmas.List.{map_more, drop_more}
@@ -56,10 +56,10 @@ capped_more product factor limit some =
     elim (cases_lt product limit) [
       | inl low ↦ ap (λ p. min (p * factor) limit) (omega arith)
       | inr high ↦
-        let capped : min product limit ≡ limit = omega arith in
-        let one = mul-le-mul_left limit some in
-        let other = mul-le-mul_left product some in
-        ap (λ p. min (p * factor) limit) capped ∙ omega (arith, one, other, mul-one limit, mul-one product)
+          let capped : min product limit ≡ limit = omega arith in
+          let one = mul-le-mul_left limit some in
+          let other = mul-le-mul_left product some in
+          ap (λ p. min (p * factor) limit) capped ∙ omega (arith, one, other, mul-one limit, mul-one product)
     ]
 
 pub loop_product_more : (loops : List Loop) (place : ℕ) (d : Loop) → place < length loops → loop_product (take (place + 1) loops) ≡ loop_product (take place loops) * (get_or loops place d).count

@@ -1,6 +1,6 @@
 -- Positions of physical numbers, and the table of them.
-use Rattle.std.proofs.Common.{◌≡◌, ◌≢◌, ℕ, zero, suc, ◌+◌, ◌<◌, ◌≤◌, Bool, true, false, not, ◌||◌, ◌==◌, cond, nat_le, nat_lt, List, [], ◌∷◌, ◌++◌, length, map, take, get_or, slice_set, slice_index, Option, Some, None, refl, sym, ap, ◌∙◌, subst, inl, inr, arith}
-use Rattle.std.specs.List.{range_with_len, position, prefix_len}
+use Rattle.std.proofs.Common.{◌≡◌, ◌≢◌, ℕ, suc, ◌+◌, ◌<◌, ◌≤◌, Bool, true, false, not, ◌||◌, ◌==◌, cond, nat_le, List, [], ◌∷◌, ◌++◌, length, take, get_or, slice_set, slice_index, Option, Some, None, refl, sym, ap, ◌∙◌, inl, inr, arith}
+use Rattle.std.specs.List.{position, prefix_len}
 use Rattle.std.proofs.lemmas.Bool.{cases_eq, cases_Bool, false≢true, eq-eqb, ne_eqb, leb-false, lt-ltb, le-ltb}
 use Rattle.std.proofs.lemmas.List.{ext_get_or, append-nil, length-set, length-take-le, length_push, get_or-set_same, get_or-set_other, take_more}
 use Rattle.std.proofs.lemmas.List.FromFn.{length-map-range_with_len, get_or-map-range_with_len}
@@ -37,14 +37,14 @@ others_some k [] ys some = absurd (false≢true some)
 others_some k (x ∷ xs) ys some =
     elim (cases_Bool (x == k)) [
       | inl here ↦
-        let both : others k (x ∷ (xs ++ ys)) ≡ 0 = ap (λ b. cond (not b) (1 + others k (xs ++ ys)) 0) here in
-        let one : others k (x ∷ xs) ≡ 0 = ap (λ b. cond (not b) (1 + others k xs) 0) here in
-        (both ∙ sym one, omega (arith, one))
+          let both : others k (x ∷ (xs ++ ys)) ≡ 0 = ap (λ b. cond (not b) (1 + others k (xs ++ ys)) 0) here in
+          let one : others k (x ∷ xs) ≡ 0 = ap (λ b. cond (not b) (1 + others k xs) 0) here in
+          (both ∙ sym one, omega (arith, one))
       | inr other ↦
-        let rest = others_some k xs ys (sym (ap (λ b. b || has xs k) other) ∙ some) in
-        let both : others k (x ∷ (xs ++ ys)) ≡ 1 + others k (xs ++ ys) = ap (λ b. cond (not b) (1 + others k (xs ++ ys)) 0) other in
-        let one : others k (x ∷ xs) ≡ 1 + others k xs = ap (λ b. cond (not b) (1 + others k xs) 0) other in
-        (omega (arith, both, one, rest.0), omega (arith, one, rest.1))
+          let rest = others_some k xs ys (sym (ap (λ b. b || has xs k) other) ∙ some) in
+          let both : others k (x ∷ (xs ++ ys)) ≡ 1 + others k (xs ++ ys) = ap (λ b. cond (not b) (1 + others k (xs ++ ys)) 0) other in
+          let one : others k (x ∷ xs) ≡ 1 + others k xs = ap (λ b. cond (not b) (1 + others k xs) 0) other in
+          (omega (arith, both, one, rest.0), omega (arith, one, rest.1))
     ]
 
 -- ---- the position of a number
@@ -71,11 +71,11 @@ position_push_other : (k n : ℕ) (xs : List ℕ) → n ≢ k → place_of k (xs
 position_push_other k n xs differ =
     elim (cases_Bool (has xs k)) [
       | inl some ↦
-        let same = others_some k xs (n ∷ []) some in
-        place_of-before k (xs ++ n ∷ []) (omega (arith, same.0, same.1, length_push xs n)) ∙ ap (λ m. Some m) same.0 ∙ sym (place_of-before k xs same.1)
+          let same = others_some k xs (n ∷ []) some in
+          place_of-before k (xs ++ n ∷ []) (omega (arith, same.0, same.1, length_push xs n)) ∙ ap (λ m. Some m) same.0 ∙ sym (place_of-before k xs same.1)
       | inr none ↦
-        let last : others k (n ∷ []) ≡ 1 = ap (λ b. cond (not b) 1 0) (ne_eqb n k differ) in
-        place_of-past k (xs ++ n ∷ []) (omega (arith, others_all k xs (n ∷ []) none, last, length_push xs n)) ∙ sym (position-none k xs none)
+          let last : others k (n ∷ []) ≡ 1 = ap (λ b. cond (not b) 1 0) (ne_eqb n k differ) in
+          place_of-past k (xs ++ n ∷ []) (omega (arith, others_all k xs (n ∷ []) none, last, length_push xs n)) ∙ sym (position-none k xs none)
     ]
 
 -- ---- the table
@@ -93,17 +93,17 @@ leaf_more : (before : List ℕ) (n place : ℕ) → length before ≡ place → 
 leaf_more before n place long low new =
     ext_get_or None (slice_set (leaf_table before) n (Some place)) (leaf_table (before ++ n ∷ [])) (length-set (leaf_table before) n (Some place) ∙ length-leaf_table before ∙ sym (length-leaf_table (before ++ n ∷ [])))
     (λ k within.
-      let below : k < 4096 = omega (arith, within, length-set (leaf_table before) n (Some place), length-leaf_table before) in
-      elim (cases_eq n k) [
-        | inl same ↦
+    let below : k < 4096 = omega (arith, within, length-set (leaf_table before) n (Some place), length-leaf_table before) in
+    elim (cases_eq n k) [
+      | inl same ↦
           ap (λ m. get_or (slice_set (leaf_table before) n (Some place)) m None) (sym same)
           ∙ get_or-set_same (leaf_table before) n (Some place) None (omega (arith, length-leaf_table before))
           ∙ ap (λ m. Some m) (sym long) ∙ sym (position_push_here n before new)
           ∙ ap (λ m. place_of m (before ++ n ∷ [])) same ∙ sym (leaf_table-at (before ++ n ∷ []) k None below)
-        | inr differ ↦
+      | inr differ ↦
           get_or-set_other (leaf_table before) n k (Some place) None (λ e. differ (sym e))
           ∙ leaf_table-at before k None below ∙ sym (position_push_other k n before differ) ∙ sym (leaf_table-at (before ++ n ∷ []) k None below)
-      ])
+    ])
 
 pub leaf_step : (numbers : List ℕ) (place : ℕ) → place < length numbers → is_bad numbers place ≡ false → slice_set (leaf_table (take place numbers)) (slice_index numbers place) (Some place) ≡ leaf_table (take (place + 1) numbers)
 leaf_step numbers place within good =

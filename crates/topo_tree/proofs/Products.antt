@@ -1,6 +1,6 @@
 -- Products of arities: how many objects a depth has, and how many PUs each covers.
-use Rattle.std.proofs.Common.{◌≡◌, ℕ, zero, suc, ◌+◌, ◌*◌, ◌/◌, ◌%◌, ◌<◌, ◌≤◌, List, [], ◌∷◌, ◌++◌, length, map, take, drop, get_or, Option, Some, None, refl, sym, ap, ◌∙◌, arith}
-use Rattle.std.proofs.Math.Nat.{mul_comm, mul_assoc, one-mul, mul-one, one-le-mul, mul-le-mul_left, mul-le-mul_right, div-eq_of_eq-mul_left}
+use Rattle.std.proofs.Common.{◌≡◌, ℕ, zero, suc, ◌+◌, ◌*◌, ◌/◌, ◌<◌, ◌≤◌, List, [], ◌∷◌, ◌++◌, length, take, drop, get_or, Option, Some, None, refl, sym, ap, ◌∙◌, arith}
+use Rattle.std.proofs.Math.Nat.{mul_comm, mul_assoc, one-mul, mul-one, one-le-mul, mul-le-mul_left, div-eq_of_eq-mul_left}
 use Rattle.std.proofs.lemmas.List.{take_more, take_all, length-map, length-take-le, get_or-map, get_or-take}
 use Rattle.std.specs.List.{AllByRecursion}
 use Rattle.synth_text.specs.declared.description.Level.{Level}

@@ -1,12 +1,11 @@
 -- Steps of printing.
-use Rattle.std.proofs.Common.{◌≡◌, ◌≢◌, ℕ, ◌+◌, ◌-◌, ◌*◌, ◌/◌, ◌%◌, ◌<◌, ◌≤◌, Bool, true, false, ◌==◌, if◌then◌else◌, List, [], ◌∷◌, ◌++◌, length, take, drop, refl, sym, ap, ◌∙◌, arith, append_assoc}
+use Rattle.std.proofs.Common.{◌≡◌, ◌≢◌, ℕ, ◌+◌, ◌/◌, ◌%◌, ◌==◌, if◌then◌else◌, List, [], ◌++◌, take, sym, ap, ◌∙◌, append_assoc}
 use Rattle.std.proofs.lemmas.Bool.{eq-eqb, ne_eqb}
-use Rattle.std.proofs.lemmas.List.{append-nil}
 use Rattle.std.specs.List.{range_with_len, flat_map}
 use Rattle.synth_text.specs.declared.description.Description.{Description}
 use Rattle.synth_text.specs.Rules.{arities, product}
 use Rattle.topo_tree.specs.Lines.{own_lines}
-use Rattle.topo_tree.specs.Beginnings.{width_at, lines_from, lines_at}
+use Rattle.topo_tree.specs.Beginnings.{width_at, lines_from}
 use Rattle.topo_tree.proofs.Products.{HaveArities, divided}
 use Rattle.topo_tree.proofs.Trees.{flat_map-range_more}
 

@@ -1,6 +1,6 @@
 -- The printed tree, by the positions of the PUs.
-use Rattle.std.proofs.Common.{◌≡◌, ◌≢◌, ℕ, zero, suc, ◌+◌, ◌-◌, ◌*◌, ◌/◌, ◌%◌, ◌<◌, ◌≤◌, Bool, true, false, ◌==◌, cond, if◌then◌else◌, List, [], ◌∷◌, ◌++◌, length, map, take, drop, refl, sym, ap, ◌∙◌, arith, append_assoc}
-use Rattle.std.proofs.Math.Nat.{mul_comm, mul_assoc, mul-one, one-le-mul}
+use Rattle.std.proofs.Common.{◌≡◌, ℕ, zero, suc, ◌+◌, ◌-◌, ◌*◌, ◌/◌, ◌%◌, ◌<◌, ◌≤◌, false, ◌==◌, if◌then◌else◌, List, [], ◌∷◌, ◌++◌, length, drop, refl, sym, ap, ◌∙◌, arith, append_assoc}
+use Rattle.std.proofs.Math.Nat.{mul_assoc, one-le-mul}
 use Rattle.std.specs.List.{range_with_len, flat_map, AllByRecursion}
 use Rattle.std.proofs.lemmas.Bool.{eq-eqb, ne_eqb}
 use Rattle.std.proofs.lemmas.List.{append-nil, drop-drop, length-map}
@@ -100,9 +100,9 @@ tree-by_position described [] depth index at some =
     let left : (index * 1) % 1 ≡ 0 = omega arith in
     let whole : (index * 1) / 1 ≡ index = omega arith in
     let here : lines_from described (index * 1) depth ≡ own_lines described depth index =
-      lines_from-width described (index * 1) depth 1 (ap product at)
-      ∙ ap (λ b. if b then own_lines described depth (index * 1 / 1) else []) (eq-eqb ((index * 1) % 1) 0 left)
-      ∙ ap (own_lines described depth) whole in
+    lines_from-width described (index * 1) depth 1 (ap product at)
+    ∙ ap (λ b. if b then own_lines described depth (index * 1 / 1) else []) (eq-eqb ((index * 1) % 1) 0 left)
+    ∙ ap (own_lines described depth) whole in
     sym (append-nil (lines_from described (index * 1) depth ++ []) ∙ append-nil (lines_from described (index * 1) depth) ∙ here)
 tree-by_position described (arity ∷ below) depth index at some =
     let inner = lines_below described (depth + 1) (length below + 1) in

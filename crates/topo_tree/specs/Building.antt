@@ -8,9 +8,7 @@ use Rattle.synth_text.specs.Rules.{node_count, pu_count}
 use Rattle.synth_text.specs.Sound.{IsSound}
 use Rattle.topo_tree.specs.declared.fault.BuildFault.{BuildFault}
 use Rattle.topo_tree.specs.declared.fault.BuildFault.TheVariants as faults
-use Rattle.topo_tree.specs.declared.layer.Layer.{Layer}
-use Rattle.topo_tree.specs.declared.layer.Layer.TheVariants as layers
-use Rattle.topo_tree.specs.Numbers.{number_of, numbers_of, indexes_fault}
+use Rattle.topo_tree.specs.Numbers.{numbers_of, indexes_fault}
 
 -- the indexes of the PUs, which are those of the last level
 abbrev pub pu_indexes : Description → Indexes

@@ -1,5 +1,5 @@
 -- The sets of objects: which PUs they cover, and the numbers of these.
-use Rattle.std.specs.Prelude.{ℕ, ◌+◌, ◌-◌, ◌*◌, ◌/◌, ◌==◌, List, length, slice_index, slice_range, Option, unwrap_or, position, if◌then◌else◌}
+use Rattle.std.specs.Prelude.{ℕ, ◌+◌, ◌*◌, ◌/◌, ◌==◌, List, length, slice_index, slice_range, Option, unwrap_or, position, if◌then◌else◌}
 use Rattle.cpu_set.specs.Sets.{has, numbers_where}
 use Rattle.synth_text.specs.declared.description.Description.{Description}
 use Rattle.topo_tree.specs.declared.layer.Layer.{Layer}

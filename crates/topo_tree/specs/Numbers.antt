@@ -1,5 +1,5 @@
 -- Physical numbers of objects, as `indexes` gives them, and what is wrong with them.
-use Rattle.std.specs.Prelude.{ℕ, ◌+◌, ◌-◌, ◌*◌, ◌/◌, ◌%◌, ◌^◌, ◌==◌, ◌||◌, Bool, nat_le, min, List, [], ◌∷◌, length, map, take, slice_index, Option, Some, None, option_map, find, if◌then◌else◌}
+use Rattle.std.specs.Prelude.{ℕ, ◌+◌, ◌-◌, ◌*◌, ◌/◌, ◌%◌, ◌^◌, ◌==◌, ◌||◌, Bool, nat_le, min, List, [], ◌∷◌, length, map, take, slice_index, Option, Some, option_map, find, if◌then◌else◌}
 use Rattle.std.specs.List.{range_with_len}
 use Rattle.cpu_set.specs.Sets.{has}
 use Rattle.synth_text.specs.declared.description.Loop.{Loop}

@@ -1,9 +1,6 @@
 -- The tables that a topology keeps, so that each question is a look-up.
-use Rattle.std.specs.Prelude.{◌≡◌, ℕ, ◌==◌, List, map, Option, position}
-use Rattle.std.specs.List.{range_with_len}
-use Rattle.synth_text.specs.declared.description.Description.{Description}
+use Rattle.std.specs.Prelude.{◌≡◌, map}
 use Rattle.topo_tree.specs.declared.topology.Topology.TheInside.{Inside}
-use Rattle.topo_tree.specs.Objects.{depth_count, count_at}
 use Rattle.topo_tree.specs.Building.{pu_numbers, node_numbers, IsBuilt}
 use Rattle.topo_tree.specs.TableLists.{depth_sets, leaf_table}
 

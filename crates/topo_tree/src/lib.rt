@@ -11,8 +11,8 @@ mod lines;
 mod naming;
 mod numbers;
 mod sets;
-mod sizes;
 mod show;
+mod sizes;
 mod topology;
 
 pub use fault::BuildFault;

@@ -6,8 +6,11 @@ use byte_text::push_decimal;
 use std::alloc::AllocError;
 
 const KIB: u64 = 1 << 10;
+
 const MIB: u64 = 1 << 20;
+
 const GIB: u64 = 1 << 30;
+
 const TIB: u64 = 1 << 40;
 
 /// Appends a size as a whole number of the greatest unit that divides it.

@@ -1,4 +1,4 @@
-use Rattle.std.proofs.Common.{◌≡◌, ◌≤◌, None, take, sym, ap, ◌∙◌, refl, arith}
+use Rattle.std.proofs.Common.{take, sym, ap, ◌∙◌, refl, arith}
 use Rattle.synth_text.specs.declared.description.Indexes.TheVariants as indexes
 use Rattle.synth_text.specs.Rules.{arities, product, node_count}
 use Rattle.topo_tree.specs.Numbers.{numbers_of, indexes_fault}

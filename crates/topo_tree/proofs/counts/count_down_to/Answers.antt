@@ -1,4 +1,4 @@
-use Rattle.std.proofs.Common.{length, take, arith, sym, ap, ◌∙◌, ◌*◌, ◌+◌}
+use Rattle.std.proofs.Common.{arith, sym, ap, ◌∙◌, ◌*◌, ◌+◌}
 use Rattle.topo_tree.proofs.Products.{count_step, count_within}
 use Rattle.topo_tree.proofs.counts.count_down_to.Goals as goal
 

@@ -1,5 +1,4 @@
 use Rattle.std.proofs.Common.{length, Some, slice_index, slice_set, take, ap, ◌∙◌, arith}
-use Rattle.topo_tree.specs.TableLists.{leaf_table}
 use Rattle.topo_tree.proofs.Positions.{good_low, length-leaf_table, leaf_step}
 use Rattle.topo_tree.proofs.leaves.leaf_table.Goals as goal
 

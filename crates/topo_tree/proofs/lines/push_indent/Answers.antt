@@ -1,4 +1,4 @@
-use Rattle.std.proofs.Common.{◌≡◌, ℕ, ◌+◌, ◌*◌, List, [], ◌∷◌, ◌++◌, replicate, arith, sym, ap, ◌∙◌, append_assoc}
+use Rattle.std.proofs.Common.{◌≡◌, ℕ, ◌+◌, ◌*◌, List, [], ◌∷◌, ◌++◌, replicate, arith, ap, ◌∙◌, append_assoc}
 use Rattle.std.proofs.lemmas.List.{replicate_more}
 use Rattle.topo_tree.proofs.lines.push_indent.Goals as goal
 

@@ -1,4 +1,4 @@
-use Rattle.std.proofs.Common.{◌-◌, ◌^◌, ◌*◌, min, take, slice_index_or, arith, sym, ap, ◌∙◌}
+use Rattle.std.proofs.Common.{◌-◌, ◌^◌, ◌*◌, min, take, slice_index_or, sym, ap, ◌∙◌}
 use Rattle.topo_tree.specs.Numbers.{loop_product}
 use Rattle.topo_tree.proofs.Numbering.{capped_more, loop_product_more, sound_at, no_loop}
 use Rattle.topo_tree.proofs.numbers.capped_product.Goals as goal

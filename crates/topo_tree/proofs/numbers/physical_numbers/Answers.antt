@@ -1,11 +1,11 @@
-use Rattle.std.proofs.Common.{◌≡◌, ℕ, ◌+◌, ◌-◌, ◌^◌, ◌<◌, ◌≤◌, min, List, [], ◌∷◌, ◌++◌, map, Some, sym, ap, ◌∙◌, arith}
+use Rattle.std.proofs.Common.{◌≡◌, [], ◌∷◌, ◌++◌, map, Some, sym, ap, ◌∙◌, arith}
 use Rattle.std.proofs.lemmas.List.FromFn.{map-range_with_len_more}
 use Rattle.std.specs.List.{range_with_len}
 use Rattle.cpu_set.specs.Sets.{has, numbers_where, union}
 use Rattle.topo_tree.specs.declared.fault.BuildFault.TheVariants as faults
-use Rattle.topo_tree.specs.Numbers.{number_of, numbers_of, indexes_fault, index_count}
+use Rattle.topo_tree.specs.Numbers.{number_of, numbers_of, index_count}
 use Rattle.topo_tree.proofs.SetSteps.{empty_set, set_more}
-use Rattle.topo_tree.proofs.Faults.{fault_of_count, uncapped, widened, range_fault, twice_fault, good_more, no_fault, seen_before}
+use Rattle.topo_tree.proofs.Faults.{fault_of_count, uncapped, range_fault, twice_fault, good_more, no_fault, seen_before}
 use Rattle.topo_tree.proofs.numbers.physical_numbers.Goals as goal
 
 pub returns-then-found-count-clause-fault : goal.returns-then-found-count-clause-fault
@@ -51,17 +51,17 @@ loop-object-preserved c =
     let before = seen_before c.has.result c.loop-object.seen c.loop-object.numbers.items number c.has.ensures.found so_far.seen (omega arith) in
     record {
       numbers =
-        c.in_ok-push.ensures.items ∙ ap (λ numbers. numbers ++ number ∷ []) so_far.numbers
-        ∙ ap (λ n. map (number_of given) (range_with_len 0 object) ++ n ∷ []) c.number_of-number.ensures
-        ∙ sym (map-range_with_len_more (number_of given) 0 object object (omega arith));
+          c.in_ok-push.ensures.items ∙ ap (λ numbers. numbers ++ number ∷ []) so_far.numbers
+          ∙ ap (λ n. map (number_of given) (range_with_len 0 object) ++ n ∷ []) c.number_of-number.ensures
+          ∙ sym (map-range_with_len_more (number_of given) 0 object object (omega arith));
       seen =
-        c.with.ensures ∙ ap (λ seen. union seen (number ∷ [])) so_far.seen ∙ set_more c.loop-object.numbers.items number
-        ∙ ap (λ numbers. numbers_where (has numbers)) (sym c.in_ok-push.ensures.items);
+          c.with.ensures ∙ ap (λ seen. union seen (number ∷ [])) so_far.seen ∙ set_more c.loop-object.numbers.items number
+          ∙ ap (λ numbers. numbers_where (has numbers)) (sym c.in_ok-push.ensures.items);
       good =
-        good_more given c.args.count object c.loop-object-test.true so_far.good
-        (omega (arith, c.if-number-ge4096.false, c.number_of-number.ensures))
-        (ap (λ n. has (map (number_of given) (range_with_len 0 object)) n) (sym c.number_of-number.ensures)
-        ∙ ap (λ numbers. has numbers number) (sym so_far.numbers) ∙ before ∙ c.if-has.false);
+          good_more given c.args.count object c.loop-object-test.true so_far.good
+          (omega (arith, c.if-number-ge4096.false, c.number_of-number.ensures))
+          (ap (λ n. has (map (number_of given) (range_with_len 0 object)) n) (sym c.number_of-number.ensures)
+          ∙ ap (λ numbers. has numbers number) (sym so_far.numbers) ∙ before ∙ c.if-has.false);
     }
 
 pub returns-clause-numbers : goal.returns-clause-numbers

@@ -32,8 +32,8 @@ loop-level-preserved c =
     record {
       count = next;
       sets =
-        mapped_more (λ depth. depth.items) (λ depth. sets_covered c.args.numbers.now (product (take depth (arities levels)))) c.loop-level.sets.items _ _ (place + 1)
-        c.in_ok-push-2.ensures.items c.loop-level.invariant.sets (c.in_ok-sets_covered-2.ensures ∙ ap (sets_covered c.args.numbers.now) next);
+          mapped_more (λ depth. depth.items) (λ depth. sets_covered c.args.numbers.now (product (take depth (arities levels)))) c.loop-level.sets.items _ _ (place + 1)
+          c.in_ok-push-2.ensures.items c.loop-level.invariant.sets (c.in_ok-sets_covered-2.ensures ∙ ap (sets_covered c.args.numbers.now) next);
     }
 
 pub returns : goal.returns

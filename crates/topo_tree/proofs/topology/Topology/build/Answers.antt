@@ -1,4 +1,4 @@
-use Rattle.std.proofs.Common.{◌≡◌, length, get_or, sym, ap, ◌∙◌, subst, arith}
+use Rattle.std.proofs.Common.{length, get_or, sym, ap, ◌∙◌, subst, arith}
 use Rattle.std.proofs.lemmas.List.{get_or_default}
 use Rattle.std.proofs.lemmas.Result.{err_from_is_err_and}
 use Rattle.synth_text.specs.Rules.{arities, product}
@@ -55,8 +55,8 @@ invariant_of-result c =
     record {
       built = record { sound = c.requires; numbered = none_refused described c.in_ok-nodes.ensures.good c.in_ok-numbers.ensures.good };
       sets =
-        c.in_ok-sets.ensures ∙ ap (λ numbers. depth_sets numbers c.as_slice.result.now) (c.deref.ensures.value ∙ c.in_ok-numbers.ensures.numbers)
-        ∙ ap (depth_sets (pu_numbers described)) c.as_slice.ensures;
+          c.in_ok-sets.ensures ∙ ap (λ numbers. depth_sets numbers c.as_slice.result.now) (c.deref.ensures.value ∙ c.in_ok-numbers.ensures.numbers)
+          ∙ ap (depth_sets (pu_numbers described)) c.as_slice.ensures;
       numbers = c.in_ok-numbers.ensures.numbers;
       nodes = c.in_ok-nodes.ensures.numbers;
       leaves = c.in_ok-leaves.ensures ∙ ap leaf_table (c.deref-2.ensures.value ∙ c.in_ok-numbers.ensures.numbers);

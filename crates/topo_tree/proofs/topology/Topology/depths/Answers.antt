@@ -1,4 +1,4 @@
-use Rattle.std.proofs.Common.{length, ap, arith}
+use Rattle.std.proofs.Common.{arith}
 use Rattle.topo_tree.specs.Building.{pu_numbers}
 use Rattle.topo_tree.proofs.Lookups.{tables, table_length}
 use Rattle.topo_tree.proofs.topology.Topology.depths.Goals as goal

@@ -1,7 +1,5 @@
-use Rattle.std.proofs.Common.{length, None, get_or, sym, ap, ◌∙◌, arith}
-use Rattle.std.proofs.lemmas.List.{get_or_read}
+use Rattle.std.proofs.Common.{length, get_or, sym, ap, ◌∙◌, arith}
 use Rattle.topo_tree.specs.Building.{pu_numbers}
-use Rattle.topo_tree.specs.TableLists.{leaf_table}
 use Rattle.topo_tree.proofs.Positions.{length-leaf_table, leaf_table-at}
 use Rattle.topo_tree.proofs.Lookups.{tables, no_leaf}
 use Rattle.topo_tree.proofs.topology.Topology.leaf_of.Goals as goal

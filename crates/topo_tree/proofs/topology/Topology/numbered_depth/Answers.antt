@@ -1,4 +1,4 @@
-use Rattle.std.proofs.Common.{◌≡◌, ℕ, ◌+◌, ◌-◌, ◌<◌, true, false, refl, sym, ap, ◌∙◌, arith}
+use Rattle.std.proofs.Common.{ℕ, ◌+◌, ◌-◌, ◌<◌, sym, ap, ◌∙◌, arith}
 use Rattle.std.specs.List.{slice_get}
 use Rattle.synth_text.specs.Kinds.{same_kind}
 use Rattle.topo_tree.specs.Objects.{depth_count, kind_at}
@@ -23,19 +23,19 @@ loop-depth-preserved c =
     let tested = ap (λ k. same_kind k kind) (sym c.kind.ensures) ∙ sym c.is_same.ensures in
     elim c.if-is_same.branch [
       | then-is_same+else-above-number w ↦
-        let more : above < number = omega (arith, c.loop-depth.invariant.few, w.if-above-number.false) in
-        record {
-          few = omega (arith, w.above-is);
-          rest =
-            ap (λ n. slice_get (passing_from test (depth + 1) (depth_count now)) (number - n)) w.above-is
-            ∙ sym (numbered_later test depth (depth_count now) number above within (tested ∙ w.if-is_same.true) more)
-            ∙ c.loop-depth.invariant.rest;
-        }
+          let more : above < number = omega (arith, c.loop-depth.invariant.few, w.if-above-number.false) in
+          record {
+            few = omega (arith, w.above-is);
+            rest =
+                ap (λ n. slice_get (passing_from test (depth + 1) (depth_count now)) (number - n)) w.above-is
+                ∙ sym (numbered_later test depth (depth_count now) number above within (tested ∙ w.if-is_same.true) more)
+                ∙ c.loop-depth.invariant.rest;
+          }
       | else-is_same w ↦ record {
         few = omega (arith, w.above-is, c.loop-depth.invariant.few);
         rest =
-          ap (λ n. slice_get (passing_from test (depth + 1) (depth_count now)) (number - n)) w.above-is
-          ∙ ap (λ depths. slice_get depths (number - above)) (sym (passing_out test depth (depth_count now) within (tested ∙ w.if-is_same.false)))
-          ∙ c.loop-depth.invariant.rest;
+            ap (λ n. slice_get (passing_from test (depth + 1) (depth_count now)) (number - n)) w.above-is
+            ∙ ap (λ depths. slice_get depths (number - above)) (sym (passing_out test depth (depth_count now) within (tested ∙ w.if-is_same.false)))
+            ∙ c.loop-depth.invariant.rest;
       }
     ]

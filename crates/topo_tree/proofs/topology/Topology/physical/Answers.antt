@@ -1,9 +1,9 @@
-use Rattle.std.proofs.Common.{◌≡◌, ◌<◌, ◌==◌, cond, length, take, slice_index, sym, ap, ◌∙◌, subst, arith}
+use Rattle.std.proofs.Common.{◌≡◌, ◌<◌, cond, length, take, slice_index, sym, ap, ◌∙◌, subst, arith}
 use Rattle.std.proofs.lemmas.Bool.{eq-eqb}
 use Rattle.std.proofs.lemmas.List.{get_or_read}
-use Rattle.synth_text.specs.Rules.{arities, product, pu_count}
+use Rattle.synth_text.specs.Rules.{arities, product}
 use Rattle.topo_tree.specs.Objects.{count_of}
-use Rattle.topo_tree.specs.Building.{pu_numbers, node_numbers}
+use Rattle.topo_tree.specs.Building.{pu_numbers}
 use Rattle.topo_tree.specs.Coverage.{physical_of}
 use Rattle.topo_tree.proofs.Products.{last_count}
 use Rattle.topo_tree.proofs.Lookups.{tables, length-pu_numbers, length-node_numbers}
@@ -35,7 +35,7 @@ returns-in-Depth c =
     let below = subst (λ layer. index < count_of now layer) c.in-Depth.is c.requires.index in
     let last : depth ≡ length now.levels = c.if-depth-as_slice.true ∙ ap length c.as_slice.ensures ∙ ap (λ d. length d.levels) c.self.view_is in
     let within : index < length c.self.inside.numbers.items =
-      omega (arith, below, ap (λ d. product (take d (arities now.levels))) last, last_count now.levels, ap length here.numbers, length-pu_numbers now) in
+    omega (arith, below, ap (λ d. product (take d (arities now.levels))) last, last_count now.levels, ap length here.numbers, length-pu_numbers now) in
     get_or_read c.self.inside.numbers.items index c.index.result.now within c.index.ensures 0
     ∙ ap (λ numbers. slice_index numbers index) here.numbers
     ∙ sym (ap (λ b. cond b (slice_index (pu_numbers now) index) index) (eq-eqb depth (length now.levels) last))

@@ -1,8 +1,7 @@
-use Rattle.std.proofs.Common.{◌≡◌, ◌+◌, ◌<◌, length, take, get_or, sym, ap, ◌∙◌, subst, arith}
+use Rattle.std.proofs.Common.{◌+◌, ◌<◌, length, take, get_or, ap, ◌∙◌, arith}
 use Rattle.synth_text.specs.Rules.{arities, product}
 use Rattle.topo_tree.specs.Building.{pu_numbers}
-use Rattle.topo_tree.specs.Coverage.{layer_depth, set_covered, set_of}
-use Rattle.topo_tree.specs.TableLists.{sets_covered}
+use Rattle.topo_tree.specs.Coverage.{set_covered}
 use Rattle.topo_tree.proofs.Lookups.{tables, table_length, table_at, length-sets_covered, sets_covered-at, place_of_object}
 use Rattle.topo_tree.proofs.topology.Topology.set.Goals as goal
 

@@ -1,20 +1,22 @@
-use Rattle.std.proofs.Common.{rules, ◌≡◌, ◌<◌, ◌+◌, ◌++◌, ◌∷◌, [], None, length, slice_index_or, IfOk, OnOk, ℕ, ◌-◌, ◌*◌, ◌≤◌, ◌/◌, ◌%◌, Bool, true, false, nat_eq, nat_lt, List, slice_set, bit_and, bit_or, Fits, w8, w32, w64, Bor, MutBor}
-use Rattle.synth_text.specs.Canonical.{canonical}
-use Rattle.synth_text.specs.Kinds.{short_name_of}
-use Rattle.synth_text.specs.Rules.{pu_count}
-use Rattle.synth_text.specs.declared.kind.Kind.TheVariants as kinds
-use Rattle.topo_tree.specs.declared.layer.Layer.TheVariants as layers
-use Rattle.topo_tree.specs.Objects.{depth_count, count_at, count_of}
-use Rattle.topo_tree.specs.Building.{IsBuilt}
-use Rattle.topo_tree.specs.Coverage.{physical_of}
-use Rattle.topo_tree.specs.Lines.{sizes, group_number, node_detail, line, object_line, own_lines, topology_text}
+use Rattle.std.proofs.Common.{◌≡◌, ◌++◌, sym, ap, ◌∙◌, arith}
+use Rattle.std.specs.List.{range_with_len, flat_map}
+use Rattle.synth_text.specs.Rules.{arities, product}
+use Rattle.topo_tree.specs.Objects.{count_of}
 use Rattle.topo_tree.specs.Beginnings.{lines_at}
+use Rattle.topo_tree.proofs.Products.{have_arities, last_count}
+use Rattle.topo_tree.proofs.Trees.{flat_map-range_more, text-by_position}
 use Rattle.topo_tree.proofs.topology.Topology.show.Goals as goal
 
--- src/show.rt:40:9
 pub loop-position-preserved : goal.loop-position-preserved
-loop-position-preserved c = ?
+loop-position-preserved c =
+    let now = c.args.self.now in
+    c.in_ok-push_lines_at.ensures ∙ ap (λ out. out ++ lines_at now c.loop-position.position) c.loop-position.invariant
+    ∙ sym (flat_map-range_more (lines_at now) c.loop-position.position)
 
--- src/show.rt:36:5
 pub returns : goal.returns
-returns c = ?
+returns c =
+    let now = c.args.self.now in
+    let pus : c.count-position-end.result ≡ product (arities now.levels) = c.count-position-end.ensures ∙ ap (count_of now) c.pu_layer.ensures.layer ∙ last_count now.levels in
+    let all : c.loop-position.position ≡ product (arities now.levels) = omega (arith, pus) in
+    c.loop-position.invariant ∙ ap (λ count. flat_map (lines_at now) (range_with_len 0 count)) all
+    ∙ sym (text-by_position now (have_arities now c.pu_layer.ensures.built.sound))
