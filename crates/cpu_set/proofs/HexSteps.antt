@@ -1,10 +1,9 @@
 -- Reading a text of hexadecimal words, word by word from the left.
-use Rattle.std.proofs.Common.{◌≡◌, ◌≢◌, ℕ, zero, suc, ◌+◌, ◌-◌, ◌*◌, ◌/◌, ◌%◌, ◌^◌, ◌<◌, ◌≤◌, Bool, true, false, cond, ◌&&◌, ◌||◌, ◌==◌, nat_lt, nat_le, List, [], ◌∷◌, length, Option, Some, None, lit<, refl, sym, ap, ◌∙◌, add_assoc, arith, ◌⊎◌, inl, inr}
-use Rattle.std.specs.Bool.{Decides}
+use Rattle.std.proofs.Common.{◌≡◌, ℕ, suc, ◌+◌, ◌/◌, ◌%◌, ◌^◌, ◌<◌, ◌≤◌, Bool, true, false, cond, ◌&&◌, ◌||◌, ◌==◌, nat_le, List, [], ◌∷◌, length, Option, Some, None, lit<, refl, sym, ap, ◌∙◌, add_assoc, arith, ◌⊎◌, inl, inr}
 use Rattle.std.specs.Borrow.{Bor}
 use Rattle.std.specs.Int.{bit_at}
 use Rattle.std.specs.List.{count_by}
-use Rattle.std.specs.Str.Parse.{IsNumeral, AllDigits, digits_value}
+use Rattle.std.specs.Str.Parse.{AllDigits, digits_value}
 use Rattle.std.proofs.Math.Nat.{pow-le-pow_right}
 use Rattle.std.proofs.lemmas.Bool.{cases_lt, cases_eq, eq-eqb, ne_eqb, le-leb, lt-leb, and_from, and_parts, and_right}
 use Rattle.std.proofs.lemmas.Int.Digits.{digits_value-lt}
@@ -12,12 +11,11 @@ use Rattle.std.proofs.lemmas.Nat.Bits.{bit_at-zero}
 use Rattle.byte_text.specs.declared.numerals.Numeral.{Numeral}
 use Rattle.byte_text.specs.declared.numerals.Numeral.TheVariants.{Number, TooLarge, NotNumeral}
 use Rattle.byte_text.specs.Numerals.{Reads}
-use Rattle.cpu_set.specs.declared.fault.SetFault.{SetFault}
 use Rattle.cpu_set.specs.Sets.{has, numbers_where, IsSet}
 use Rattle.cpu_set.specs.SetLaws.{has-numbers_below, numbers_below-same, IsSet-numbers_where, numbers_where-has}
 use Rattle.cpu_set.specs.Parts.{parts_left}
 use Rattle.cpu_set.specs.Readings.{parts_of, leftmost, without_prefix, word_value, is_word, is_numeral, hex_rule, word_at, is_in_hex}
-use Rattle.cpu_set.proofs.PartLemmas.{spanned, spanned-parts_of, length-parts_of, leftmost-good, leftmost-bad, Decides-is_numeral}
+use Rattle.cpu_set.proofs.PartLemmas.{spanned, spanned-parts_of, length-parts_of, leftmost-good, Decides-is_numeral}
 use Rattle.cpu_set.proofs.SetSteps.{or_false, same_le}
 
 nothing_added : (had here bit : Bool) → bit ≡ false → had ≡ (had || (here && bit))
@@ -34,7 +32,8 @@ pub is_word-number : (word digits : List ℕ) (n : ℕ) → digits ≡ without_p
 is_word-number word digits n is short reads = (
   and_from (is_numeral 16 (without_prefix word)) (nat_le (length (without_prefix word)) 8)
       (rw (← is) ((Decides-is_numeral 16 digits).1 reads.0)) (rw (← is) (le-leb (length digits) 8 short)),
-  sym reads.1 ∙ ap (digits_value 16) is)
+  sym reads.1 ∙ ap (digits_value 16) is,
+)
 
 pub no_number : (word digits : List ℕ) (r : Numeral) → digits ≡ without_prefix word → length digits ≤ 8 → Reads 16 4294967295 digits r → (r ≡ TooLarge) ⊎ (r ≡ NotNumeral) → is_word word ≡ true → ⊥
 no_number word digits r is short reads (inl large) good =
@@ -67,10 +66,11 @@ pub record HexSoFar (text : List ℕ) (rest : Option (Bor (List ℕ))) (at left 
   pub members : (number : ℕ) → number < 4096 → has set number ≡ (nat_le left (number / 32) && is_in_hex text number)
 
 no_word : (parts : List (List ℕ)) (left number : ℕ) → left ≡ length parts → false ≡ (nat_le left (number / 32) && (bit_at (word_at parts (number / 32)) (number % 32) == 1))
-no_word parts left number count = elim (cases_lt (number / 32) left)
-  [ inl before ↦ ap (λ t. t && (bit_at (word_at parts (number / 32)) (number % 32) == 1)) (sym (lt-leb left (number / 32) before))
+no_word parts left number count = elim (cases_lt (number / 32) left) [
+  | inl before ↦ ap (λ t. t && (bit_at (word_at parts (number / 32)) (number % 32) == 1)) (sym (lt-leb left (number / 32) before))
   | inr past ↦ sym (ap (λ word. nat_le left (number / 32) && (bit_at word (number % 32) == 1)) (word_at-past parts (number / 32) (omega arith))
-      ∙ ap (λ value. nat_le left (number / 32) && (value == 1)) (bit_at-zero (number % 32)) ∙ and_right (nat_le left (number / 32)) false refl) ]
+      ∙ ap (λ value. nat_le left (number / 32) && (value == 1)) (bit_at-zero (number % 32)) ∙ and_right (nat_le left (number / 32)) false refl)
+]
 
 pub hex_none : (text : Bor (List ℕ)) (left : ℕ) → left ≡ count_by (λ byte. byte == 44) text.now + 1 → HexSoFar text.now (Some text) 0 left []
 hex_none text left count =
@@ -81,7 +81,7 @@ hex_none text left count =
       fault = refl;
       words = λ place below. refl;
       is_set = record { ascending = λ k within. absurd (omega arith); below = λ k d within. absurd (omega arith) };
-      members = λ number below. no_word (parts_of text.now) left number all
+      members = λ number below. no_word (parts_of text.now) left number all;
     }
 
 -- the part at hand
@@ -90,14 +90,6 @@ module _ (text : List ℕ) (rest : Bor (List ℕ)) (at left : ℕ) (set : List �
   pub hex_left : left ≡ length (parts_left behind) + 1
   hex_left = so_far.count ∙ ap length first ∙ (let suc_is : suc (length (parts_left behind)) ≡ length (parts_left behind) + 1 = omega arith in suc_is)
 
-  pub hex_span : at + length word + 1 ≤ length text + 1
-  hex_span = omega (arith, so_far.place, ap spanned first)
-
-  pub hex_fault_here : (next : ℕ) (fault : SetFault) → next + 1 ≡ left → hex_rule at next word ≡ Some fault → leftmost hex_rule 0 (parts_of text) ≡ Some fault
-  hex_fault_here next fault is bad =
-      sym so_far.fault ∙ ap (leftmost hex_rule at) first
-      ∙ leftmost-bad hex_rule at word (parts_left behind) fault (ap (λ n. hex_rule at n word) (let same : length (parts_left behind) ≡ next = omega (arith, hex_left) in same) ∙ bad)
-
   word_here : (next : ℕ) → next + 1 ≡ left → word_at (parts_of text) next ≡ word_value word
   word_here next is =
       sym (so_far.words next (omega arith)) ∙ ap (λ parts. word_at parts next) first
@@ -105,8 +97,8 @@ module _ (text : List ℕ) (rest : Bor (List ℕ)) (at left : ℕ) (set : List �
 
   members_more : (next value : ℕ) → next + 1 ≡ left → value ≡ word_value word → (number : ℕ) → number < 4096
       → (has set number || (number / 32 == next && bit_at value (number % 32) == 1)) ≡ (nat_le next (number / 32) && is_in_hex text number)
-  members_more next value is value_is number below = elim (cases_eq (number / 32) next)
-    [ inl here ↦
+  members_more next value is value_is number below = elim (cases_eq (number / 32) next) [
+    | inl here ↦
         ap (λ t. t || (number / 32 == next && bit_at value (number % 32) == 1)) (so_far.members number below)
         ∙ ap (λ t. (t && is_in_hex text number) || (number / 32 == next && bit_at value (number % 32) == 1)) (lt-leb left (number / 32) (omega arith))
         ∙ ap (λ t. t && bit_at value (number % 32) == 1) (eq-eqb (number / 32) next here)
@@ -115,7 +107,8 @@ module _ (text : List ℕ) (rest : Bor (List ℕ)) (at left : ℕ) (set : List �
     | inr other ↦
         ap (λ t. has set number || (t && bit_at value (number % 32) == 1)) (ne_eqb (number / 32) next other)
         ∙ sym (or_false (has set number)) ∙ so_far.members number below
-        ∙ ap (λ t. t && is_in_hex text number) (same_le left (number / 32) next (number / 32) (λ h. omega arith) (λ h. omega arith)) ]
+        ∙ ap (λ t. t && is_in_hex text number) (same_le left (number / 32) next (number / 32) (λ h. omega arith) (λ h. omega arith))
+  ]
 
   step : (next : ℕ) (new : List ℕ) → next + 1 ≡ left → hex_rule at next word ≡ None → IsSet new
       → ((number : ℕ) → number < 4096 → has new number ≡ (nat_le next (number / 32) && is_in_hex text number))
@@ -128,7 +121,7 @@ module _ (text : List ℕ) (rest : Bor (List ℕ)) (at left : ℕ) (set : List �
         ∙ ap (leftmost hex_rule at) (sym first) ∙ so_far.fault;
     words = λ place below. sym (word_at-later word (parts_left behind) place (omega (arith, hex_left))) ∙ ap (λ parts. word_at parts place) (sym first) ∙ so_far.words place (omega arith);
     is_set = new_set;
-    members = new_members
+    members = new_members;
   }
 
   pub hex_added : (next value : ℕ) (new : List ℕ) → next + 1 ≡ left → hex_rule at next word ≡ None → value ≡ word_value word
@@ -137,15 +130,15 @@ module _ (text : List ℕ) (rest : Bor (List ℕ)) (at left : ℕ) (set : List �
   hex_added next value new is good value_is new_is =
       step next new is good (rw new_is (IsSet-numbers_where (λ number. has set number || (number / 32 == next && bit_at value (number % 32) == 1))))
       (λ number below. ap (λ s. has s number) new_is
-        ∙ has-numbers_below 4096 (λ n. has set n || (n / 32 == next && bit_at value (n % 32) == 1)) number below
-        ∙ members_more next value is value_is number below)
+      ∙ has-numbers_below 4096 (λ n. has set n || (n / 32 == next && bit_at value (n % 32) == 1)) number below
+      ∙ members_more next value is value_is number below)
 
   pub hex_skipped : (next value : ℕ) → next + 1 ≡ left → hex_rule at next word ≡ None → value ≡ word_value word → value ≡ 0
       → HexSoFar text behind (at + (length word + 1)) next set
   hex_skipped next value is good value_is zero_is =
       step next set is good so_far.is_set
       (λ number below. nothing_added (has set number) (number / 32 == next) (bit_at value (number % 32) == 1) (ap (λ v. bit_at v (number % 32) == 1) zero_is ∙ ap (λ bit. bit == 1) (bit_at-zero (number % 32)))
-        ∙ members_more next value is value_is number below)
+      ∙ members_more next value is value_is number below)
 
 pub hex_all : (text : List ℕ) (at left : ℕ) (set : List ℕ) → HexSoFar text None at left set → set ≡ numbers_where (is_in_hex text)
 hex_all text at left set so_far =

@@ -1,9 +1,16 @@
 pub mod Ends
+pub mod HexRoundTrip
 pub mod HexSteps
+pub mod HexText
+pub mod ListRoundTrip
 pub mod ListSteps
+pub mod ListText
 pub mod MemberLaws
 pub mod NumeralOrder
 pub mod PartLemmas
+pub mod ReadLaws
+pub mod RunLaws
 pub mod Searches
 pub mod SetSteps
+pub mod TasksetText
 pub mod Weights

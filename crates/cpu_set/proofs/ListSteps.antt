@@ -1,16 +1,16 @@
 -- Reading a list, item by item from the left.
-use Rattle.std.proofs.Common.{◌≡◌, ◌≢◌, ℕ, zero, suc, ◌+◌, ◌-◌, ◌<◌, ◌≤◌, Bool, true, false, cond, not, ◌&&◌, ◌||◌, ◌==◌, nat_lt, nat_le, List, [], ◌∷◌, ◌++◌, length, take, drop, Option, Some, None, refl, sym, ap, ◌∙◌, add_assoc, arith, ◌⊎◌, inl, inr}
-use Rattle.std.specs.Bool.{Decides, if◌then◌else◌}
+use Rattle.std.proofs.Common.{◌≡◌, ℕ, ◌+◌, ◌<◌, ◌≤◌, Bool, true, false, cond, not, ◌&&◌, ◌||◌, ◌==◌, nat_le, List, [], ◌∷◌, ◌++◌, length, take, drop, Option, Some, None, refl, sym, ap, ◌∙◌, add_assoc, arith, ◌⊎◌, inl, inr}
+use Rattle.std.specs.Bool.{if◌then◌else◌}
 use Rattle.std.specs.Borrow.{Bor}
 use Rattle.std.specs.List.{All, Contains, list_any, before_first, after_first, position_or_len}
-use Rattle.std.specs.Str.Parse.{IsNumeral, AllDigits, digits_value}
+use Rattle.std.specs.Str.Parse.{IsNumeral, digits_value}
 use Rattle.std.proofs.lemmas.Bool.{cond-true, cond-false, false_from_ne_true, and_from, and_left, and_right, le-leb, lt-leb, or_left, or_right, eqb-true, false≢true}
 use Rattle.std.proofs.lemmas.List.{take_at, drop_at, take_all, length-append, length_push, get_or_append_left, get_or_at, append_assoc}
 use Rattle.std.proofs.lemmas.List.Folds.{list_any_none}
 use Rattle.std.proofs.lemmas.List.Sums.{position_or_len_is}
 use Rattle.byte_text.specs.Cuts.{IsCutAt}
 use Rattle.byte_text.specs.declared.numerals.Numeral.{Numeral}
-use Rattle.byte_text.specs.declared.numerals.Numeral.TheVariants.{Number, TooLarge as Over, NotNumeral}
+use Rattle.byte_text.specs.declared.numerals.Numeral.TheVariants.{Number, TooLarge as Over}
 use Rattle.byte_text.specs.Numerals.{Reads}
 use Rattle.cpu_set.specs.declared.fault.SetFault.{SetFault}
 use Rattle.cpu_set.specs.declared.fault.SetFault.TheVariants.{Form, TooLarge, Infinite}
@@ -18,8 +18,8 @@ use Rattle.cpu_set.specs.Readings.{is_numeral, is_range, range_fault, has_dash, 
 use Rattle.cpu_set.specs.Parts.{parts_left}
 use Rattle.cpu_set.specs.Sets.{has, numbers_where, IsSet}
 use Rattle.cpu_set.specs.SetLaws.{has-numbers_below, numbers_below-same, IsSet-numbers_where, numbers_where-has}
-use Rattle.cpu_set.proofs.PartLemmas.{Decides-is_numeral, none_is, spanned, spanned-parts_of, leftmost-good, leftmost-bad}
-use Rattle.cpu_set.proofs.SetSteps.{and_true, or_false}
+use Rattle.cpu_set.proofs.PartLemmas.{Decides-is_numeral, none_is, spanned, spanned-parts_of, leftmost-good}
+use Rattle.cpu_set.proofs.SetSteps.{and_true, or_false, or_assoc}
 
 -- ---- numerals of an item
 
@@ -112,7 +112,7 @@ whole_dash item lacks = list_any_none (λ byte. byte == 45) item (none_is 45 ite
 pub whole_ends : (item : List ℕ) → ¬ (Contains item 45) → Ends item item item
 whole_ends item lacks = record {
   low_is = before_none (λ byte. byte == 45) item (none_is 45 item lacks);
-  high_is = ap (λ t. cond t (after_first (λ byte. byte == 45) item) item) (whole_dash item lacks)
+  high_is = ap (λ t. cond t (after_first (λ byte. byte == 45) item) item) (whole_dash item lacks);
 }
 
 cut_dash : (item low high : List ℕ) → IsCutAt 45 item low high → has_dash item ≡ true
@@ -121,7 +121,7 @@ cut_dash item low high cut = ap has_dash cut.parts ∙ any_is (λ byte. byte == 
 pub cut_ends : (item low high : List ℕ) → IsCutAt 45 item low high → Ends item low high
 cut_ends item low high cut = record {
   low_is = ap low_end cut.parts ∙ before_is (λ byte. byte == 45) low 45 high (none_is 45 low cut.first) refl;
-  high_is = ap (λ t. cond t (after_first (λ byte. byte == 45) item) item) (cut_dash item low high cut) ∙ ap (after_first (λ byte. byte == 45)) cut.parts ∙ after_is (λ byte. byte == 45) low 45 high (none_is 45 low cut.first) refl
+  high_is = ap (λ t. cond t (after_first (λ byte. byte == 45) item) item) (cut_dash item low high cut) ∙ ap (after_first (λ byte. byte == 45)) cut.parts ∙ after_is (λ byte. byte == 45) low 45 high (none_is 45 low cut.first) refl;
 }
 
 -- ---- the rule of an item
@@ -163,7 +163,7 @@ rule_open at item low high cut none =
 
 -- ---- the items so far
 
-items_some : (text : List ℕ) → (length text == 0) ≡ false → parts_of text ≡ items_of text
+pub items_some : (text : List ℕ) → (length text == 0) ≡ false → parts_of text ≡ items_of text
 items_some [] empty = absurd (false≢true (sym empty))
 items_some (byte ∷ bytes) some = refl
 
@@ -189,21 +189,11 @@ list_start text some = record {
   place = omega (arith, spanned-parts_of text.now);
   fault = ap (leftmost list_rule 0) (items_some text.now some);
   is_set = empty_set;
-  members = λ number below. ap (list_any (covers number)) (items_some text.now some)
+  members = λ number below. ap (list_any (covers number)) (items_some text.now some);
 }
-
-or_assoc : (a b c : Bool) → ((a || b) || c) ≡ (a || (b || c))
-or_assoc true b c = refl
-or_assoc false b c = refl
 
 module _ (text : List ℕ) (rest : Bor (List ℕ)) (at : ℕ) (set : List ℕ) (item : List ℕ) (behind : Option (Bor (List ℕ)))
     (so_far : ListSoFar text (Some rest) at set) (first : parts_of rest.now ≡ item ∷ parts_left behind) where
-  pub list_span : at + length item + 1 ≤ length text + 1
-  list_span = omega (arith, so_far.place, ap spanned first)
-
-  pub list_fault_here : (fault : SetFault) → list_rule at 0 item ≡ Some fault → list_fault text ≡ Some fault
-  list_fault_here fault bad = sym so_far.fault ∙ ap (leftmost list_rule at) first ∙ leftmost-bad list_rule at item (parts_left behind) fault bad
-
   pub list_more : (low high : ℕ) (new : List ℕ) → list_rule at 0 item ≡ None → low ≡ low_value item → high ≡ high_value item
       → new ≡ numbers_where (λ number. has set number || (nat_le low number && nat_le number high)) → ListSoFar text behind (at + (length item + 1)) new
   list_more low high new good low_is high_is new_is = record {
@@ -218,11 +208,11 @@ module _ (text : List ℕ) (rest : Bor (List ℕ)) (at : ℕ) (set : List ℕ) (
         ∙ ap (λ n. has set number || ((nat_le n number && nat_le number high) || list_any (covers number) (parts_left behind))) low_is
         ∙ ap (λ n. has set number || ((nat_le (low_value item) number && nat_le number n) || list_any (covers number) (parts_left behind))) high_is
         ∙ ap (λ parts. has set number || list_any (covers number) parts) (sym first)
-        ∙ so_far.members number below
+        ∙ so_far.members number below;
   }
 
 pub list_all_read : (text : List ℕ) (at : ℕ) (set : List ℕ) → ListSoFar text None at set → ReadsList text set
 list_all_read text at set so_far = record {
   good = sym so_far.fault;
-  numbers = sym (numbers_where-has set so_far.is_set) ∙ numbers_below-same 4096 (has set) (is_in_list text) (λ number below. or_false (has set number) ∙ so_far.members number below)
+  numbers = sym (numbers_where-has set so_far.is_set) ∙ numbers_below-same 4096 (has set) (is_in_list text) (λ number below. or_false (has set number) ∙ so_far.members number below);
 }

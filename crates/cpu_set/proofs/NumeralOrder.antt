@@ -1,12 +1,11 @@
 -- Decimal numerals of any length, compared.
-use Rattle.std.proofs.Common.{◌≡◌, ◌≢◌, ℕ, zero, suc, ◌+◌, ◌-◌, ◌*◌, ◌^◌, ◌<◌, ◌≤◌, Bool, true, false, ◌==◌, nat_lt, List, [], ◌∷◌, length, map, get_or, lit<, refl, sym, ap, ◌∙◌, arith, ◌⊎◌, inl, inr, ◌↔◌}
+use Rattle.std.proofs.Common.{◌≡◌, ◌≢◌, ℕ, zero, suc, ◌+◌, ◌*◌, ◌^◌, ◌<◌, ◌≤◌, Bool, false, nat_lt, List, [], ◌∷◌, length, map, get_or, lit<, sym, ap, ◌∙◌, arith, inl, inr}
 use Rattle.std.specs.Bool.{Decides}
 use Rattle.std.specs.Char.{digit_value}
 use Rattle.std.specs.Int.Digits.{number_from_digits, number_from_digits_after, AllBelowBase}
 use Rattle.std.specs.Str.Parse.{AllDigits, digits_value}
 use Rattle.std.proofs.Math.Nat.{pow-suc, mul-le-mul_left, pow-le-pow_right}
-use Rattle.std.proofs.Math.Numerals.{add-one}
-use Rattle.std.proofs.lemmas.Bool.{cases_lt, false≢true, lt-ltb, le-ltb, ltb-true}
+use Rattle.std.proofs.lemmas.Bool.{cases_lt, false≢true, lt-ltb, ltb-true}
 use Rattle.std.proofs.lemmas.Int.Digits.{number_lt, digits_value_is, all_below_base_from_digits}
 use Rattle.std.proofs.lemmas.List.{length-map, get_or-map, ext_get_or}
 use Rattle.std.proofs.lemmas.Str.{digit_value_digit}
@@ -64,15 +63,16 @@ module _ (one other : List ℕ) (digits : AllDigits 10 one) (other_digits : AllD
       (length-map one digit_value ∙ long ∙ sym (length-map other digit_value)) (omega (arith, length-map one digit_value))
       (λ k below. get_or-map digit_value one k 0 0 (omega arith) ∙ ap digit_value (same k below) ∙ sym (get_or-map digit_value other k 0 0 (omega arith)))
       (rw (get_or-map digit_value other i 0 0 (omega arith), get_or-map digit_value one i 0 0 within)
-          (code_order (get_or other i 0) (get_or one i 0) (digit_at 10 other i other_digits (omega arith)) (digit_at 10 one i digits within) less)))
+      (code_order (get_or other i 0) (get_or one i 0) (digit_at 10 other i other_digits (omega arith)) (digit_at 10 one i digits within) less)))
 
 pub above_at : (one other : List ℕ) (i : ℕ) → AllDigits 10 one → AllDigits 10 other → length one ≡ length other → i < length one → ((k : ℕ) → k < i → get_or one k 0 ≡ get_or other k 0) → get_or one i 0 ≢ get_or other i 0
     → Decides (nat_lt (get_or other i 0) (get_or one i 0)) (digits_value 10 other < digits_value 10 one)
-above_at one other i digits other_digits long within same differs = elim (cases_lt (get_or other i 0) (get_or one i 0))
-  [ inl less ↦ (λ yes_less. decided one other digits other_digits long i within same less, λ more. lt-ltb (get_or other i 0) (get_or one i 0) less)
+above_at one other i digits other_digits long within same differs = elim (cases_lt (get_or other i 0) (get_or one i 0)) [
+  | inl less ↦ (λ yes_less. decided one other digits other_digits long i within same less, λ more. lt-ltb (get_or other i 0) (get_or one i 0) less)
   | inr at_most ↦
       let under = decided other one other_digits digits (sym long) i (omega arith) (λ k below. sym (same k below)) (omega arith) in
-      (λ yes_less. absurd (omega (arith, ltb-true (get_or other i 0) (get_or one i 0) yes_less)), λ more. absurd (omega arith)) ]
+      (λ yes_less. absurd (omega (arith, ltb-true (get_or other i 0) (get_or one i 0) yes_less)), λ more. absurd (omega arith))
+]
 
 pub above_nowhere : (one other : List ℕ) (place : ℕ) → length one ≡ length other → length one ≤ place → ((k : ℕ) → k < place → get_or one k 0 ≡ get_or other k 0) → Decides false (digits_value 10 other < digits_value 10 one)
 above_nowhere one other place long all same =
@@ -94,11 +94,12 @@ text_longer (c ∷ cs) other digits other_digits first more = rw (value_is other
 
 pub above_by_length : (one other : List ℕ) → AllDigits 10 one → AllDigits 10 other → (0 < length one → get_or one 0 0 ≢ 48) → (0 < length other → get_or other 0 0 ≢ 48) → length one ≢ length other
     → Decides (nat_lt (length other) (length one)) (digits_value 10 other < digits_value 10 one)
-above_by_length one other digits other_digits first other_first differs = elim (cases_lt (length other) (length one))
-  [ inl shorter ↦ (λ yes_less. text_longer one other digits other_digits first shorter, λ more. lt-ltb (length other) (length one) shorter)
+above_by_length one other digits other_digits first other_first differs = elim (cases_lt (length other) (length one)) [
+  | inl shorter ↦ (λ yes_less. text_longer one other digits other_digits first shorter, λ more. lt-ltb (length other) (length one) shorter)
   | inr at_most ↦
       let under = text_longer other one other_digits digits other_first (omega arith) in
-      (λ yes_less. absurd (omega (arith, ltb-true (length other) (length one) yes_less)), λ more. absurd (omega arith)) ]
+      (λ yes_less. absurd (omega (arith, ltb-true (length other) (length one) yes_less)), λ more. absurd (omega arith))
+]
 
 pub above_same_values : (answer : Bool) (one other first second : ℕ) → one ≡ first → other ≡ second → Decides answer (other < one) → Decides answer (second < first)
 above_same_values answer one other first second one_is other_is decides = (λ h. omega (arith, decides.0 h), λ less. decides.1 (omega arith))

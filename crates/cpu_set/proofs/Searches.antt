@@ -1,7 +1,7 @@
 -- The lowest number from a start on, and the highest number, found word by word.
-use Rattle.std.proofs.Common.{◌≡◌, ◌≢◌, ℕ, zero, suc, ◌+◌, ◌-◌, ◌*◌, ◌/◌, ◌%◌, ◌^◌, ◌<◌, ◌≤◌, Bool, true, false, cond, not, ◌&&◌, ◌==◌, nat_le, List, [], ◌∷◌, length, get_or, lit<, refl, sym, ap, ◌∙◌, arith, ◌⊎◌, inl, inr, bit_and, w32}
+use Rattle.std.proofs.Common.{◌≡◌, ◌≢◌, ℕ, ◌+◌, ◌-◌, ◌*◌, ◌/◌, ◌%◌, ◌^◌, ◌<◌, ◌≤◌, Bool, true, false, not, ◌&&◌, ◌==◌, nat_le, List, [], ◌∷◌, get_or, refl, sym, ap, ◌∙◌, arith, inl, inr, bit_and, w32}
 use Rattle.std.specs.Int.{bit_at, trailing_zeros, leading_zeros}
-use Rattle.std.proofs.lemmas.Bool.{cases_lt, and_left, and_parts, not-true, le-leb, leb-true, false≢true}
+use Rattle.std.proofs.lemmas.Bool.{cases_lt, and_parts, not-true, le-leb, leb-true, false≢true}
 use Rattle.std.specs.Int.{bit_not}
 use Rattle.std.specs.List.{All, Contains}
 use Rattle.std.proofs.lemmas.List.Elements.{All-get_or, All-from_get_or, All-contains, Contains-get_or}
@@ -10,14 +10,10 @@ use Rattle.std.proofs.lemmas.Nat.Bits.{ones_shl, bit_at-zero}
 use Rattle.cpu_set.specs.Sets.{has, IsSet}
 use Rattle.cpu_set.specs.SetLaws.{has-past, Decides-has}
 use Rattle.cpu_set.specs.Bits.{is_bit_of, AreWords, set_of_words}
-use Rattle.cpu_set.specs.WordLaws.{is_bit_of-at}
+use Rattle.cpu_set.specs.WordLaws.{is_bit_of-at, test_from_bit}
 use Rattle.cpu_set.specs.Texts.{numbers_from, highest}
-use Rattle.cpu_set.proofs.Ends.{LowestBit, LowestBit-trailing_zeros, HighestBit, HighestBit-leading_zeros, numbers_from-found, numbers_from-none, highest-found, highest-none}
+use Rattle.cpu_set.proofs.Ends.{LowestBit-trailing_zeros, HighestBit-leading_zeros, numbers_from-found, numbers_from-none, highest-found, highest-none}
 use Rattle.cpu_set.proofs.SetSteps.{IsSet-view, has-view, narrow_word, test-and, test-and_not, and_not, bit_from}
-
-test_of : (passes : Bool) → (cond passes 1 0 == 1) ≡ passes
-test_of true = refl
-test_of false = refl
 
 dropped : (a b : Bool) → (a && b) ≡ false → b ≡ true → a ≡ false
 dropped true b none yes_b = absurd (false≢true (sym none ∙ yes_b))
@@ -45,7 +41,7 @@ module _ (words members : List ℕ) (view : set_of_words words ≡ members) (ok 
       ap (λ n. bit_at n bit == 1) is ∙ test-and (get_or words (from / 32) 0) (4294967295 * 2 ^ (from % 32) % 4294967296) bit
       ∙ ap (λ n. bit_at (get_or words (from / 32) 0) bit == 1 && bit_at n bit == 1) mask
       ∙ ap (λ value. bit_at (get_or words (from / 32) 0) bit == 1 && value == 1) (bit_from (from % 32) bit below)
-      ∙ ap (λ t. bit_at (get_or words (from / 32) 0) bit == 1 && t) (test_of (nat_le (from % 32) bit))
+      ∙ ap (λ t. bit_at (get_or words (from / 32) 0) bit == 1 && t) (test_from_bit (nat_le (from % 32) bit))
 
   masked_none : (masked : ℕ) → masked ≡ bit_and (get_or words (from / 32) 0) (4294967295 * 2 ^ (from % 32) % 4294967296)
       → (n : ℕ) → from ≤ n → n / 32 ≡ from / 32 → (bit_at masked (n % 32) == 1) ≡ false → is_bit_of words n ≡ false
@@ -66,12 +62,12 @@ module _ (words members : List ℕ) (view : set_of_words words ≡ members) (ok 
         has_it = has-view words members view (32 * place + bit) (omega (arith, lowest.within)) ∙ is_bit_of-at words place bit lowest.within ∙ parts.0;
         from_on = omega arith;
         limit = omega (arith, lowest.within);
-        none = λ n h l. has-view words members view n (omega (arith, lowest.within)) ∙ masked_none masked is n h (omega (arith, lowest.within)) (lowest.below (n % 32) (omega (arith, lowest.within)))
+        none = λ n h l. has-view words members view n (omega (arith, lowest.within)) ∙ masked_none masked is n h (omega (arith, lowest.within)) (lowest.below (n % 32) (omega (arith, lowest.within)));
       }
 
   pub none_first : (masked : ℕ) → masked ≡ bit_and (get_or words (from / 32) 0) (4294967295 * 2 ^ (from % 32) % 4294967296) → masked ≡ 0 → NoneUpTo words from (from / 32 + 1)
   none_first masked is nothing = record {
-    none = λ n h l limit. masked_none masked is n h (omega arith) (ap (λ word. bit_at word (n % 32) == 1) nothing ∙ ap (λ value. value == 1) (bit_at-zero (n % 32)))
+    none = λ n h l limit. masked_none masked is n h (omega arith) (ap (λ word. bit_at word (n % 32) == 1) nothing ∙ ap (λ value. value == 1) (bit_at-zero (n % 32)));
   }
 
   pub found_later : (place : ℕ) → from < 32 * place → place < 128 → NoneUpTo words from place → get_or words place 0 ≢ 0 → Found members from (32 * place + trailing_zeros w32 (get_or words place 0))
@@ -82,22 +78,25 @@ module _ (words members : List ℕ) (view : set_of_words words ≡ members) (ok 
         has_it = has-view words members view (32 * place + bit) (omega (arith, lowest.within)) ∙ is_bit_of-at words place bit lowest.within ∙ lowest.is_set;
         from_on = omega arith;
         limit = omega (arith, lowest.within);
-        none = λ n h l. has-view words members view n (omega (arith, lowest.within)) ∙ elim (cases_lt n (32 * place))
-          [ inl before ↦ none.none n h before (omega arith)
-          | inr here ↦ ap (λ q. bit_at (get_or words q 0) (n % 32) == 1) (let same : n / 32 ≡ place = omega (arith, lowest.within) in same) ∙ lowest.below (n % 32) (omega (arith, lowest.within)) ]
+        none = λ n h l. has-view words members view n (omega (arith, lowest.within)) ∙ elim (cases_lt n (32 * place)) [
+          | inl before ↦ none.none n h before (omega arith)
+          | inr here ↦ ap (λ q. bit_at (get_or words q 0) (n % 32) == 1) (let same : n / 32 ≡ place = omega (arith, lowest.within) in same) ∙ lowest.below (n % 32) (omega (arith, lowest.within))
+        ];
       }
 
   pub none_later : (place : ℕ) → NoneUpTo words from place → get_or words place 0 ≡ 0 → NoneUpTo words from (place + 1)
   none_later place none nothing = record {
-    none = λ n h l limit. elim (cases_lt n (32 * place))
-      [ inl before ↦ none.none n h before limit
-      | inr here ↦ ap (λ q. bit_at (get_or words q 0) (n % 32) == 1) (let same : n / 32 ≡ place = omega arith in same) ∙ ap (λ word. bit_at word (n % 32) == 1) nothing ∙ ap (λ value. value == 1) (bit_at-zero (n % 32)) ]
+    none = λ n h l limit. elim (cases_lt n (32 * place)) [
+      | inl before ↦ none.none n h before limit
+      | inr here ↦ ap (λ q. bit_at (get_or words q 0) (n % 32) == 1) (let same : n / 32 ≡ place = omega arith in same) ∙ ap (λ word. bit_at word (n % 32) == 1) nothing ∙ ap (λ value. value == 1) (bit_at-zero (n % 32))
+    ];
   }
 
   pub none_at_all : (place : ℕ) → 128 ≤ place → NoneUpTo words from place → numbers_from from members ≡ []
-  none_at_all place all none = numbers_from-none from members (λ n h. elim (cases_lt n 4096)
-    [ inl below ↦ has-view words members view n below ∙ none.none n h (omega arith) below
-    | inr past ↦ has-past members n (IsSet-view words members view) past ])
+  none_at_all place all none = numbers_from-none from members (λ n h. elim (cases_lt n 4096) [
+    | inl below ↦ has-view words members view n below ∙ none.none n h (omega arith) below
+    | inr past ↦ has-past members n (IsSet-view words members view) past
+  ])
 
 pub none_past : (members : List ℕ) (from : ℕ) → IsSet members → 4096 ≤ from → numbers_from from members ≡ []
 none_past members from ok past = numbers_from-none from members (λ n h. has-past members n ok (omega arith))
@@ -115,23 +114,27 @@ module _ (words members : List ℕ) (view : set_of_words words ≡ members) (ok 
       let bit = 31 - leading_zeros w32 (get_or words place 0) in
       sym (highest-found (32 * place + bit) members (IsSet-view words members view)
       (has-view words members view (32 * place + bit) (omega (arith, top.within)) ∙ is_bit_of-at words place bit top.within ∙ top.is_set)
-      (λ n above. elim (cases_lt n 4096)
-        [ inr past ↦ has-past members n (IsSet-view words members view) past
-        | inl limit ↦ has-view words members view n limit ∙ elim (cases_lt n (32 * next))
-          [ inl here ↦ ap (λ q. bit_at (get_or words q 0) (n % 32) == 1) (let same : n / 32 ≡ place = omega arith in same) ∙ top.above (n % 32) (omega arith)
-          | inr later ↦ none.none n later limit ] ]))
+      (λ n above. elim (cases_lt n 4096) [
+        | inr past ↦ has-past members n (IsSet-view words members view) past
+        | inl limit ↦ has-view words members view n limit ∙ elim (cases_lt n (32 * next)) [
+          | inl here ↦ ap (λ q. bit_at (get_or words q 0) (n % 32) == 1) (let same : n / 32 ≡ place = omega arith in same) ∙ top.above (n % 32) (omega arith)
+          | inr later ↦ none.none n later limit
+        ]
+      ]))
 
   pub none_from_word : (place next : ℕ) → next ≡ place + 1 → NoneFrom words next → get_or words place 0 ≡ 0 → NoneFrom words place
   none_from_word place next follows none nothing = record {
-    none = λ n h limit. elim (cases_lt n (32 * next))
-      [ inl here ↦ ap (λ q. bit_at (get_or words q 0) (n % 32) == 1) (let same : n / 32 ≡ place = omega arith in same) ∙ ap (λ word. bit_at word (n % 32) == 1) nothing ∙ ap (λ value. value == 1) (bit_at-zero (n % 32))
-      | inr later ↦ none.none n later limit ]
+    none = λ n h limit. elim (cases_lt n (32 * next)) [
+      | inl here ↦ ap (λ q. bit_at (get_or words q 0) (n % 32) == 1) (let same : n / 32 ≡ place = omega arith in same) ∙ ap (λ word. bit_at word (n % 32) == 1) nothing ∙ ap (λ value. value == 1) (bit_at-zero (n % 32))
+      | inr later ↦ none.none n later limit
+    ];
   }
 
   pub highest_nowhere : (place : ℕ) → place ≤ 0 → NoneFrom words place → 0 ≡ highest members
-  highest_nowhere place end none = sym (highest-none members (λ n. elim (cases_lt n 4096)
-    [ inl limit ↦ has-view words members view n limit ∙ none.none n (omega arith) limit
-    | inr past ↦ has-past members n (IsSet-view words members view) past ]))
+  highest_nowhere place end none = sym (highest-none members (λ n. elim (cases_lt n 4096) [
+    | inl limit ↦ has-view words members view n limit ∙ none.none n (omega arith) limit
+    | inr past ↦ has-past members n (IsSet-view words members view) past
+  ]))
 
 pub none_from_end : (words : List ℕ) → NoneFrom words 128
 none_from_end words = record { none = λ n h limit. absurd (omega arith) }
@@ -147,9 +150,10 @@ inside_none ones others = record { none = λ k h. absurd (omega arith) }
 
 pub inside_more : (ones others : List ℕ) (place : ℕ) → InsideUpTo ones others place → and_not (get_or ones place 0) (get_or others place 0) ≡ 0 → InsideUpTo ones others (place + 1)
 inside_more ones others place so_far here = record {
-  none = λ k h. elim (cases_lt k place)
-    [ inl before ↦ so_far.none k before
-    | inr last ↦ ap (λ p. and_not (get_or ones p 0) (get_or others p 0)) (let same : k ≡ place = omega arith in same) ∙ here ]
+  none = λ k h. elim (cases_lt k place) [
+    | inl before ↦ so_far.none k before
+    | inr last ↦ ap (λ p. and_not (get_or ones p 0) (get_or others p 0)) (let same : k ≡ place = omega arith in same) ∙ here
+  ];
 }
 
 kept_out : (a b : Bool) → (a && not b) ≡ false → a ≡ true → b ≡ true
@@ -165,7 +169,7 @@ module _ (ones others one_set other_set : List ℕ) (one_view : set_of_words one
       let limit : n < 4096 = All-get_or (λ m. m < 4096) one_set i 0 within ok.below in
       let here : has one_set n ≡ true = (Decides-has one_set n).1 (Contains-get_or one_set i 0 within) in
       let bits = sym (test-and_not (get_or ones (n / 32) 0) (get_or others (n / 32) 0) (n % 32) (narrow_word others (n / 32) are_others (omega arith)) (omega arith))
-          ∙ ap (λ word. bit_at word (n % 32) == 1) (inside.none (n / 32) (omega arith)) ∙ ap (λ value. value == 1) (bit_at-zero (n % 32)) in
+      ∙ ap (λ word. bit_at word (n % 32) == 1) (inside.none (n / 32) (omega arith)) ∙ ap (λ value. value == 1) (bit_at-zero (n % 32)) in
       (Decides-has other_set n).0 (has-view others other_set other_view n limit ∙ kept_out (is_bit_of ones n) (is_bit_of others n) bits (sym (has-view ones one_set one_view n limit) ∙ here)))
 
   pub not_inside : (place : ℕ) → place < 128 → and_not (get_or ones place 0) (get_or others place 0) ≢ 0 → ¬ (All (Contains other_set) one_set)
@@ -175,7 +179,7 @@ module _ (ones others one_set other_set : List ℕ) (one_view : set_of_words one
       let n = 32 * place + bit in
       let limit : n < 4096 = omega (arith, lowest.within) in
       let parts = and_parts (bit_at (get_or ones place 0) bit == 1) (not (bit_at (get_or others place 0) bit == 1))
-          (sym (test-and_not (get_or ones place 0) (get_or others place 0) bit (narrow_word others place are_others below) lowest.within) ∙ lowest.is_set) in
+      (sym (test-and_not (get_or ones place 0) (get_or others place 0) bit (narrow_word others place are_others below) lowest.within) ∙ lowest.is_set) in
       let here : has one_set n ≡ true = has-view ones one_set one_view n limit ∙ is_bit_of-at ones place bit lowest.within ∙ parts.0 in
       let there : has other_set n ≡ false = has-view others other_set other_view n limit ∙ is_bit_of-at others place bit lowest.within ∙ not-true (bit_at (get_or others place 0) bit == 1) parts.1 in
       false≢true (sym there ∙ (Decides-has other_set n).1 (All-contains (Contains other_set) one_set n all ((Decides-has one_set n).0 here)))

@@ -3,18 +3,18 @@ use Rattle.std.proofs.Common.{◌≡◌, ◌≢◌, ℕ, zero, suc, ◌+◌, ◌
 use Rattle.std.specs.Int.{bit_not}
 use Rattle.std.specs.Prelude.{bit_xor}
 use Rattle.std.specs.Int.{bit_at}
-use Rattle.std.specs.List.{All, Contains}
+use Rattle.std.specs.List.{Contains}
 use Rattle.std.proofs.lemmas.Bool.{cases_lt, cases_eq, eq-eqb, ne_eqb, le-ltb, lt-ltb, le-leb, lt-leb, and_right, cond-true, cond-false}
 use Rattle.std.proofs.lemmas.Bool.Decides.{nat_tests, Decides-at}
-use Rattle.std.proofs.lemmas.List.{length-replicate, get_or-replicate, get_or-set_same, get_or-set_other, length-set}
+use Rattle.std.proofs.lemmas.List.{length-replicate, get_or-set_same, get_or-set_other, length-set}
 use Rattle.std.proofs.lemmas.List.Elements.{All-replicate, All-get_or, All-from_get_or}
 use Rattle.std.proofs.lemmas.Nat.Bits.{bit_at-zero, bit_at_or, ones_shr, ones_shl, bit_at_ones, bit_at_ones_above, bit_at_mask_inside, bit_at_mask_below, bit_at_and, bit_at_xor, bit_at_not, bit_at-lt, bit_at-pow_same, bit_at-pow_other, shr_and_one}
 use Rattle.std.specs.Bool.{Decides}
 use Rattle.std.proofs.lemmas.Nat.{shl_whole, or_lt, xor_lt, and_le_l}
 use Rattle.cpu_set.specs.Sets.{has, numbers_below, numbers_where, IsSet, union, minus, meet, xor}
-use Rattle.cpu_set.specs.SetLaws.{has-numbers_below, numbers_below-same, IsSet-numbers_where, numbers_where-has, numbers_below-has, same_set, Decides-has, has-past}
+use Rattle.cpu_set.specs.SetLaws.{has-numbers_below, numbers_below-same, IsSet-numbers_where, numbers_where-has, numbers_below-has, Decides-has, has-past}
 use Rattle.cpu_set.specs.Bits.{is_bit_of, AreWords, set_of_words, word_of}
-use Rattle.cpu_set.specs.WordLaws.{word_of-set_of_words, is_bit-word_of}
+use Rattle.cpu_set.specs.WordLaws.{word_of-set_of_words}
 
 zero_at : (places place : ℕ) → get_or {A = ℕ} (replicate places 0) place 0 ≡ 0
 zero_at zero place = refl
@@ -63,6 +63,10 @@ pub and_true : (a : Bool) → (a && true) ≡ a
 and_true true = refl
 and_true false = refl
 
+pub or_assoc : (a b c : Bool) → ((a || b) || c) ≡ (a || (b || c))
+or_assoc true b c = refl
+or_assoc false b c = refl
+
 pub or_false : (a : Bool) → a ≡ (a || false)
 or_false true = refl
 or_false false = refl
@@ -72,15 +76,16 @@ test-or one other bit = ap (λ value. value == 1) (bit_at_or one other bit) ∙ 
 
 test-set_or : (words : List ℕ) (place word at bit : ℕ) → place < length words
     → (bit_at (get_or (set words place (bit_or (get_or words place 0) word)) at 0) bit == 1) ≡ (bit_at (get_or words at 0) bit == 1 || (at == place && bit_at word bit == 1))
-test-set_or words place word at bit within = elim (cases_eq at place)
-  [ inl same ↦ ap (λ p. bit_at (get_or (set words place (bit_or (get_or words place 0) word)) p 0) bit == 1) same
+test-set_or words place word at bit within = elim (cases_eq at place) [
+  | inl same ↦ ap (λ p. bit_at (get_or (set words place (bit_or (get_or words place 0) word)) p 0) bit == 1) same
       ∙ ap (λ w. bit_at w bit == 1) (get_or-set_same words place (bit_or (get_or words place 0) word) 0 within)
       ∙ test-or (get_or words place 0) word bit
       ∙ ap (λ t. bit_at (get_or words place 0) bit == 1 || (t && bit_at word bit == 1)) (sym (eq-eqb place place refl))
       ∙ ap (λ p. bit_at (get_or words p 0) bit == 1 || (p == place && bit_at word bit == 1)) (sym same)
   | inr other ↦ ap (λ w. bit_at w bit == 1) (get_or-set_other words place at (bit_or (get_or words place 0) word) 0 other)
       ∙ or_false (bit_at (get_or words at 0) bit == 1)
-      ∙ ap (λ t. bit_at (get_or words at 0) bit == 1 || (t && bit_at word bit == 1)) (sym (ne_eqb at place other)) ]
+      ∙ ap (λ t. bit_at (get_or words at 0) bit == 1 || (t && bit_at word bit == 1)) (sym (ne_eqb at place other))
+]
 
 pub set_of_words-or : (words members : List ℕ) (place word : ℕ) → set_of_words words ≡ members → AreWords words → place < 128
     → set_of_words (set words place (bit_or (get_or words place 0) word)) ≡ numbers_where (λ number. has members number || (number / 32 == place && bit_at word (number % 32) == 1))
@@ -91,9 +96,10 @@ set_of_words-or words members place word view ok below = numbers_below-same 4096
 -- ---- a number added
 
 test-pow : (place bit : ℕ) → (bit_at (2 ^ place) bit == 1) ≡ (bit == place)
-test-pow place bit = elim (cases_eq bit place)
-  [ inl same ↦ ap (λ b. bit_at (2 ^ place) b == 1) same ∙ ap (λ value. value == 1) (bit_at-pow_same place) ∙ sym (eq-eqb bit place same)
-  | inr other ↦ ap (λ value. value == 1) (bit_at-pow_other place bit other) ∙ sym (ne_eqb bit place other) ]
+test-pow place bit = elim (cases_eq bit place) [
+  | inl same ↦ ap (λ b. bit_at (2 ^ place) b == 1) same ∙ ap (λ value. value == 1) (bit_at-pow_same place) ∙ sym (eq-eqb bit place same)
+  | inr other ↦ ap (λ value. value == 1) (bit_at-pow_other place bit other) ∙ sym (ne_eqb bit place other)
+]
 
 same_number : (number other : ℕ) → (number / 32 == other / 32 && number % 32 == other % 32) ≡ (other == number || false)
 same_number number other = grind (arith, nat_tests)
@@ -128,14 +134,16 @@ min_of_tests high low false true high_is low_is = ap (λ n. min n low == 1) high
 min_of_tests high low false false high_is low_is = ap (λ n. min n low == 1) high_is ∙ ap (λ n. min 0 n == 1) low_is
 
 bit_up_to : (last bit : ℕ) → last < 32 → bit_at (2 ^ (32 - (31 - last)) - 1) bit ≡ cond (nat_le bit last) 1 0
-bit_up_to last bit within = elim (cases_lt last bit)
-  [ inl past ↦ bit_at_ones_above (32 - (31 - last)) bit (omega arith) ∙ sym (cond-false (nat_le bit last) 1 0 (lt-leb bit last past))
-  | inr inside ↦ bit_at_ones (32 - (31 - last)) bit (omega arith) ∙ sym (cond-true (nat_le bit last) 1 0 (le-leb bit last inside)) ]
+bit_up_to last bit within = elim (cases_lt last bit) [
+  | inl past ↦ bit_at_ones_above (32 - (31 - last)) bit (omega arith) ∙ sym (cond-false (nat_le bit last) 1 0 (lt-leb bit last past))
+  | inr inside ↦ bit_at_ones (32 - (31 - last)) bit (omega arith) ∙ sym (cond-true (nat_le bit last) 1 0 (le-leb bit last inside))
+]
 
 pub bit_from : (first bit : ℕ) → bit < 32 → bit_at (2 ^ 32 - 2 ^ first) bit ≡ cond (nat_le first bit) 1 0
-bit_from first bit below = elim (cases_lt bit first)
-  [ inl before ↦ bit_at_mask_below first 32 bit before ∙ sym (cond-false (nat_le first bit) 1 0 (lt-leb first bit before))
-  | inr inside ↦ bit_at_mask_inside first 32 bit inside below ∙ sym (cond-true (nat_le first bit) 1 0 (le-leb first bit inside)) ]
+bit_from first bit below = elim (cases_lt bit first) [
+  | inl before ↦ bit_at_mask_below first 32 bit before ∙ sym (cond-false (nat_le first bit) 1 0 (lt-leb first bit before))
+  | inr inside ↦ bit_at_mask_inside first 32 bit inside below ∙ sym (cond-true (nat_le first bit) 1 0 (le-leb first bit inside))
+]
 
 pub test-ones_between : (first last bit : ℕ) → first ≤ last → last < 32 → bit < 32
     → (bit_at (bit_and (4294967295 / 2 ^ (31 - last)) (4294967295 * 2 ^ first % 4294967296)) bit == 1) ≡ (nat_le first bit && nat_le bit last)
@@ -150,9 +158,10 @@ test-ones_between first last bit ends within below =
 -- ---- a run of numbers added
 
 pub same_le : (a b c d : ℕ) → (a ≤ b → c ≤ d) → (c ≤ d → a ≤ b) → nat_le a b ≡ nat_le c d
-same_le a b c d there back = elim (cases_lt b a)
-  [ inl less ↦ lt-leb a b less ∙ sym (elim (cases_lt d c) [ inl also ↦ lt-leb c d also | inr not_less ↦ absurd (omega (arith, back not_less)) ])
-  | inr within ↦ le-leb a b within ∙ sym (le-leb c d (there within)) ]
+same_le a b c d there back = elim (cases_lt b a) [
+  | inl less ↦ lt-leb a b less ∙ sym (elim (cases_lt d c) [ inl also ↦ lt-leb c d also | inr not_less ↦ absurd (omega (arith, back not_less)) ])
+  | inr within ↦ le-leb a b within ∙ sym (le-leb c d (there within))
+]
 
 -- the first and the last bit that a run has in a word
 abbrev pub FirstBit : ℕ → ℕ → ℕ → Type 0
@@ -194,20 +203,21 @@ has_below_place members low high place number = has members number || (in_range 
 
 run_step : (members : List ℕ) (low high place first last number : ℕ) → low / 32 ≤ place → place ≤ high / 32 → FirstBit low place first → LastBit high place last
     → (has_below_place members low high place number || (number / 32 == place && (nat_le first (number % 32) && nat_le (number % 32) last))) ≡ has_below_place members low high (place + 1) number
-run_step members low high place first last number from to first_is last_is = elim (cases_eq (number / 32) place)
-  [ inl here ↦
+run_step members low high place first last number from to first_is last_is = elim (cases_eq (number / 32) place) [
+  | inl here ↦
       let not_done = le-ltb (number / 32) place (omega arith) in
       let done = lt-ltb (number / 32) (place + 1) (omega arith) in
       ap (λ t. (has members number || (in_range low high number && t)) || (number / 32 == place && (nat_le first (number % 32) && nat_le (number % 32) last))) not_done
       ∙ ap (λ t. (has members number || (in_range low high number && false)) || (t && (nat_le first (number % 32) && nat_le (number % 32) last))) (eq-eqb (number / 32) place here)
       ∙ join_here (has members number) (in_range low high number) (nat_le first (number % 32)) (nat_le (number % 32) last)
-          (ap (λ t. t && nat_le (number % 32) last) (first_bit low place first number from here first_is) ∙ ap (λ t. nat_le low number && t) (last_bit high place last number to here last_is))
+      (ap (λ t. t && nat_le (number % 32) last) (first_bit low place first number from here first_is) ∙ ap (λ t. nat_le low number && t) (last_bit high place last number to here last_is))
       ∙ ap (λ t. has members number || (in_range low high number && t)) (sym done)
   | inr other ↦
       let same : nat_lt (number / 32) place ≡ nat_lt (number / 32) (place + 1) = same_le (suc (number / 32)) place (suc (number / 32)) (place + 1) (λ h. omega arith) (λ h. omega arith) in
       ap (λ t. has_below_place members low high place number || (t && (nat_le first (number % 32) && nat_le (number % 32) last))) (ne_eqb (number / 32) place other)
       ∙ join_other (has members number) (in_range low high number) (nat_lt (number / 32) place) (nat_le first (number % 32) && nat_le (number % 32) last)
-      ∙ ap (λ t. has members number || (in_range low high number && t)) same ]
+      ∙ ap (λ t. has members number || (in_range low high number && t)) same
+]
 
 -- what the loop of `add_range` keeps, where it began with the members
 pub record RangeAdded (members now : List ℕ) (low high place : ℕ) : Type 0 where
@@ -224,7 +234,7 @@ all_done had above below done (inr all) = ap (λ t. had || ((above && below) && 
 pub range_none : (members : List ℕ) (low high : ℕ) → RangeAdded members members low high (low / 32)
 range_none members low high = record {
   has_so_far = λ number below. none_yet (has members number) (nat_le low number) (nat_le number high) (nat_lt (number / 32) (low / 32)) (either low number);
-  is_set = λ h. absurd (omega arith)
+  is_set = λ h. absurd (omega arith);
 }
 
 pub range_more : (members now new : List ℕ) (low high place first last word : ℕ) → RangeAdded members now low high place
@@ -239,7 +249,7 @@ range_more members now new low high place first last word so_far from to first_i
       ∙ ap (λ t. t || (number / 32 == place && bit_at word (number % 32) == 1)) (so_far.has_so_far number below)
       ∙ ap (λ t. has_below_place members low high place number || (number / 32 == place && t)) (bits (number % 32) (omega arith))
       ∙ run_step members low high place first last number from to first_is last_is;
-  is_set = λ h. rw is (IsSet-numbers_where (λ n. has now n || (n / 32 == place && bit_at word (n % 32) == 1)))
+  is_set = λ h. rw is (IsSet-numbers_where (λ n. has now n || (n / 32 == place && bit_at word (n % 32) == 1)));
 }
 
 ended : (number high place : ℕ) → high / 32 + 1 ≤ place → (nat_le number high ≡ false) ⊎ (nat_lt (number / 32) place ≡ true)
@@ -267,13 +277,14 @@ pub combined_more : (combine : ℕ → ℕ → ℕ) (ones others now : List ℕ)
     → CombinedBelow combine ones others (set now place (combine (get_or now place 0) (get_or others place 0))) (place + 1)
 combined_more combine ones others now place so_far below = record {
   count = length-set now place _ ∙ so_far.count;
-  done = λ k h. elim (cases_eq k place)
-    [ inl here ↦ ap (λ p. get_or (set now place (combine (get_or now place 0) (get_or others place 0))) p 0) here
+  done = λ k h. elim (cases_eq k place) [
+    | inl here ↦ ap (λ p. get_or (set now place (combine (get_or now place 0) (get_or others place 0))) p 0) here
         ∙ get_or-set_same now place _ 0 (omega (arith, so_far.count))
         ∙ ap (λ w. combine w (get_or others place 0)) (so_far.rest place (omega arith))
         ∙ ap (λ p. combine (get_or ones p 0) (get_or others p 0)) (sym here)
-    | inr other ↦ get_or-set_other now place k _ 0 other ∙ so_far.done k (omega arith) ];
-  rest = λ k h. get_or-set_other now place k _ 0 (λ same. omega arith) ∙ so_far.rest k (omega arith)
+    | inr other ↦ get_or-set_other now place k _ 0 other ∙ so_far.done k (omega arith)
+  ];
+  rest = λ k h. get_or-set_other now place k _ 0 (λ same. omega arith) ∙ so_far.rest k (omega arith);
 }
 
 -- the combined words stand for the numbers that the test of their bits keeps
@@ -291,7 +302,7 @@ pub combined_words : (combine : ℕ → ℕ → ℕ) → ((one other : ℕ) → 
 combined_words combine narrow ones others now place are_ones are_others all combined = record {
   count = combined.count;
   narrow = All-from_get_or (λ word. word < 2 ^ 32) now 0 (λ k h. rw (combined.done k (omega (arith, combined.count)))
-      (narrow (get_or ones k 0) (get_or others k 0) (narrow_word ones k are_ones (omega (arith, combined.count))) (narrow_word others k are_others (omega (arith, combined.count)))))
+      (narrow (get_or ones k 0) (get_or others k 0) (narrow_word ones k are_ones (omega (arith, combined.count))) (narrow_word others k are_others (omega (arith, combined.count)))));
 }
 
 -- the four ways

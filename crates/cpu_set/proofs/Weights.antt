@@ -1,22 +1,17 @@
 -- How many numbers the words of a set have.
 use Rattle.std.proofs.Common.{◌≡◌, ℕ, zero, suc, ◌+◌, ◌*◌, ◌/◌, ◌%◌, ◌^◌, ◌<◌, ◌≤◌, Bool, true, false, cond, ◌==◌, List, [], ◌∷◌, ◌++◌, length, get_or, refl, sym, ap, ◌∙◌, arith}
 use Rattle.std.proofs.Math.Nat.{pow-suc}
-use Rattle.std.proofs.Math.Numerals.{add-one}
 use Rattle.std.specs.Int.{bit_at}
-use Rattle.std.specs.Int.Count.{ones, ones_step, ones-le}
+use Rattle.std.specs.Int.Count.{ones, ones_step}
 use Rattle.std.specs.List.{filter, range_with_len}
-use Rattle.std.proofs.lemmas.Bool.Decides.{nat_tests}
 use Rattle.std.proofs.lemmas.List.{length-append}
 use Rattle.std.proofs.lemmas.List.Elements.{filter-append}
 use Rattle.std.proofs.lemmas.List.FromFn.{length-range_with_len}
 use Rattle.std.proofs.lemmas.Nat.Bits.{bit_at_lowest, bit_at-suc}
-use Rattle.cpu_set.specs.Sets.{numbers_below, numbers_where}
+use Rattle.cpu_set.specs.Sets.{numbers_below}
 use Rattle.cpu_set.specs.Bits.{is_bit_of, AreWords, set_of_words}
-use Rattle.cpu_set.specs.WordLaws.{is_bit_of-at}
+use Rattle.cpu_set.specs.WordLaws.{is_bit_of-at, bit_from_test}
 use Rattle.cpu_set.proofs.SetSteps.{narrow_word}
-
-parity : (bit : ℕ) → bit < 2 → cond (bit == 1) 1 0 ≡ bit
-parity bit low = grind (arith, nat_tests)
 
 at_most_one : (passes : Bool) → cond passes 1 0 ≤ 1
 at_most_one true = omega arith
@@ -48,11 +43,11 @@ count_bits zero start word test narrow agree = let none : word ≡ 0 = omega ari
 count_bits (suc places) start word test narrow agree =
     let here : test start ≡ (word % 2 == 1) = ap test (let same : start ≡ start + 0 = omega arith in same) ∙ agree 0 (omega arith) ∙ ap (λ value. value == 1) (bit_at_lowest word) in
     let later = count_bits places (start + 1) (word / 2) test (omega (arith, pow-suc 2 places)) (λ bit below.
-        ap test (let same : (start + 1) + bit ≡ start + suc bit = omega arith in same) ∙ agree (suc bit) (omega arith) ∙ ap (λ value. value == 1) (bit_at-suc word bit)) in
+    ap test (let same : (start + 1) + bit ≡ start + suc bit = omega arith in same) ∙ agree (suc bit) (omega arith) ∙ ap (λ value. value == 1) (bit_at-suc word bit)) in
     length-kept test start (range_with_len (start + 1) places)
     ∙ ap (λ t. cond t 1 0 + length (filter test (range_with_len (start + 1) places))) here
     ∙ ap (λ n. cond (word % 2 == 1) 1 0 + n) later
-    ∙ ap (λ n. n + ones (word / 2)) (parity (word % 2) (omega arith)) ∙ sym (ones_step word)
+    ∙ ap (λ n. n + ones (word / 2)) (bit_from_test (word % 2) (omega arith)) ∙ sym (ones_step word)
 
 -- how many numbers the first so many words have
 unfoldable pub count_below : List ℕ → ℕ → ℕ
@@ -68,7 +63,7 @@ count_below-more words place ok below =
     ap length (numbers_below-split (32 * place) 32 (32 * (place + 1)) (is_bit_of words) (omega arith))
     ∙ length-append (numbers_below (32 * place) (is_bit_of words)) _
     ∙ ap (λ n. length (numbers_below (32 * place) (is_bit_of words)) + n)
-      (count_bits 32 (32 * place) (get_or words place 0) (is_bit_of words) (narrow_word words place ok below) (λ bit low. is_bit_of-at words place bit low))
+    (count_bits 32 (32 * place) (get_or words place 0) (is_bit_of words) (narrow_word words place ok below) (λ bit low. is_bit_of-at words place bit low))
 
 pub count_below-all : (words members : List ℕ) (place : ℕ) → set_of_words words ≡ members → place ≡ 128 → count_below words place ≡ length members
 unfolding count_below

@@ -1,9 +1,8 @@
 -- What the laws of this crate say, each shown by the function that cites it.
-use Rattle.std.specs.Prelude.{ℕ, ◌≡◌, ◌<◌, Bool, true, false, ◌⊎◌, ◌↔◌, List, Contains, IsTrue}
+use Rattle.std.specs.Prelude.{ℕ, ◌≡◌, ◌+◌, ◌-◌, ◌<◌, ◌≤◌, Bool, ◌⊎◌, ◌↔◌, List, All, Contains, IsTrue, length}
+use Rattle.std.specs.List.{AllAdjacentBelow, flat_map, range_with_len}
 use Rattle.cpu_set.specs.declared.fault.SetFault.{SetFault}
-use Rattle.cpu_set.specs.Sets.{IsSet, has, numbers_where, union, minus, meet, xor}
-use Rattle.cpu_set.specs.Texts.{hex_text, list_text}
-use Rattle.cpu_set.specs.Readings.{ReadsHex, HexRefused, ReadsList, ListRefused}
+use Rattle.cpu_set.specs.Sets.{IsSet, numbers_where, union, minus, meet, xor}
 
 -- a set has exactly the numbers below 4,096 that pass its test
 pub record HasJust (test : ℕ → Bool) : Type 0 where
@@ -12,14 +11,22 @@ pub record HasJust (test : ℕ → Bool) : Type 0 where
 
 -- two sets with the same numbers are equal
 abbrev pub SameByMembers : List ℕ → List ℕ → Type 0
-SameByMembers one other = IsSet one → IsSet other → ((number : ℕ) → Contains one number ↔ Contains other number) → one ≡ other
+SameByMembers one other =
+    IsSet one → IsSet other → ((number : ℕ) → Contains one number ↔ Contains other number) → one ≡ other
 
 -- the four operations, by membership
 pub record CombinesSets (one other : List ℕ) : Type 0 where
   pub union : (number : ℕ) → Contains (union one other) number ↔ (Contains one number ⊎ Contains other number)
   pub minus : (number : ℕ) → Contains (minus one other) number ↔ (Contains one number × ¬ (Contains other number))
   pub meet : (number : ℕ) → Contains (meet one other) number ↔ (Contains one number × Contains other number)
-  pub xor : (number : ℕ) → Contains (xor one other) number ↔ ((Contains one number × ¬ (Contains other number)) ⊎ (Contains other number × ¬ (Contains one number)))
+  pub xor : (number : ℕ) → Contains (xor one other) number
+      ↔ ((Contains one number × ¬ (Contains other number)) ⊎ (Contains other number × ¬ (Contains one number)))
+
+-- the runs make up the numbers; none is empty, and none goes on in the next
+pub record AreMaximalRuns (numbers : List ℕ) (runs : List (ℕ × ℕ)) : Type 0 where
+  pub whole : flat_map (λ run. range_with_len run.0 (run.1 + 1 - run.0)) runs ≡ numbers
+  pub some : All (λ run. run.0 ≤ run.1) runs
+  pub apart : AllAdjacentBelow (λ run next. run.1 + 1 < next.0) runs (length runs)
 
 -- exactly one set or exactly one fault
 pub record ExactlyOne (Reads : List ℕ → Type 0) (Refused : SetFault → Type 0) : Type 0 where

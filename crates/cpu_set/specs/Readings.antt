@@ -9,14 +9,17 @@ use Rattle.cpu_set.specs.declared.fault.SetFault.{SetFault}
 use Rattle.cpu_set.specs.declared.fault.SetFault.TheVariants.{Form, TooLarge, Infinite}
 use Rattle.cpu_set.specs.Sets.{numbers_where}
 
--- The rule of a form tells the fault of one part of a text, by its offset, by how many parts stand behind it, and by its bytes.
+-- The rule of a form tells the fault of one part of a text, by its offset, by how many parts stand behind it, and by
+-- its bytes.
 abbrev pub Rule : Type 0
 Rule = ℕ → ℕ → List ℕ → Option SetFault
 
--- the fault of the leftmost part that breaks the rule, where the parts begin at that offset with a comma between each two
+-- the fault of the leftmost part that breaks the rule, where the parts begin at that offset and a comma stands between
+-- each two
 abbrev pub leftmost : Rule → ℕ → List (List ℕ) → Option SetFault
 leftmost rule at [] = None
-leftmost rule at (part ∷ parts) = option_or (rule at (length parts) part) (leftmost rule (at + length part + 1) parts)
+leftmost rule at (part ∷ parts) =
+    option_or (rule at (length parts) part) (leftmost rule (at + length part + 1) parts)
 
 abbrev pub parts_of : List ℕ → List (List ℕ)
 parts_of text = slice_split (λ byte. byte == 44) text
@@ -29,7 +32,8 @@ is_numeral radix text = nat_lt 0 (length text) && list_all (λ byte. nat_lt (dig
 
 -- a word without the `0x` or `0X` that it may begin with
 abbrev pub without_prefix : List ℕ → List ℕ
-without_prefix word = if starts_with nat_eq word (codes "0x") || starts_with nat_eq word (codes "0X") then drop 2 word else word
+without_prefix word =
+    if starts_with nat_eq word (codes "0x") || starts_with nat_eq word (codes "0X") then drop 2 word else word
 
 abbrev pub word_value : List ℕ → ℕ
 word_value word = digits_value 16 (without_prefix word)
@@ -51,7 +55,8 @@ hex_rule at behind word =
 
 -- `0xf...f` begins hwloc's text of an infinite set
 abbrev pub hex_fault : List ℕ → Option SetFault
-hex_fault text = if starts_with nat_eq text (codes "0xf...f") then Some (Infinite 0) else leftmost hex_rule 0 (parts_of text)
+hex_fault text =
+    if starts_with nat_eq text (codes "0xf...f") then Some (Infinite 0) else leftmost hex_rule 0 (parts_of text)
 
 -- the word at a place, counted from the last, and 0 where there is none
 abbrev pub word_at : List (List ℕ) → ℕ → ℕ
@@ -89,7 +94,8 @@ high_value item = digits_value 10 (high_end item)
 
 -- two numerals, the first not above the second, however long they are
 abbrev pub is_range : List ℕ → List ℕ → Bool
-is_range low high = is_numeral 10 low && (is_numeral 10 high && nat_le (digits_value 10 low) (digits_value 10 high))
+is_range low high =
+    is_numeral 10 low && (is_numeral 10 high && nat_le (digits_value 10 low) (digits_value 10 high))
 
 -- `a-`
 abbrev pub is_open : List ℕ → Bool

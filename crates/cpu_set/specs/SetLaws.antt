@@ -1,10 +1,10 @@
 -- Laws of sets: which numbers a set has, and that its numbers fix it.
-use Rattle.std.proofs.Common.{◌≡◌, ◌≢◌, ℕ, zero, suc, ◌+◌, ◌<◌, ◌≤◌, Bool, true, false, cond, not, ◌&&◌, ◌||◌, ◌==◌, nat_lt, nat_le, eqb, List, [], ◌∷◌, length, get_or, refl, sym, ap, ◌∙◌, arith, rules, ◌⊎◌, inl, inr}
+use Rattle.std.proofs.Common.{◌≡◌, ◌≢◌, ℕ, zero, suc, ◌+◌, ◌<◌, ◌≤◌, Bool, true, false, ◌&&◌, ◌==◌, List, [], ◌∷◌, length, get_or, refl, sym, ap, ◌∙◌, arith, ◌⊎◌, inl, inr}
 use Rattle.std.proofs.Math.Numerals.{add-one}
 use Rattle.std.specs.Bool.{Decides}
-use Rattle.std.specs.List.{All, Contains, filter, list_any, range_with_len, AllByRecursion}
+use Rattle.std.specs.List.{All, Contains, filter, range_with_len, AllByRecursion}
 use Rattle.std.specs.List.Sorted.{IsStrictlyIncreasing}
-use Rattle.std.proofs.lemmas.Bool.{cases_lt, cases_Bool, and_left, false≢true}
+use Rattle.std.proofs.lemmas.Bool.{cases_lt, and_left}
 use Rattle.std.proofs.lemmas.Bool.Decides.{nat_tests, Decides-eqb, Decides-by_or}
 use Rattle.std.proofs.lemmas.List.Elements.{All-filter, All-from_get_or, recursion_from_All, Decides-contains}
 use Rattle.std.proofs.lemmas.List.FromFn.{length-range_with_len, get_or-range_with_len}
@@ -17,7 +17,7 @@ module _ (test : ℕ → Bool) where
   has-filter_cons : (x n : ℕ) (xs : List ℕ) → has (filter test xs) n ≡ (has xs n && test n) → has (filter test (x ∷ xs)) n ≡ (has (x ∷ xs) n && test n)
   has-filter_cons x n xs rest = grind (arith, nat_tests)
 
-  has-filter : (xs : List ℕ) (n : ℕ) → has (filter test xs) n ≡ (has xs n && test n)
+  pub has-filter : (xs : List ℕ) (n : ℕ) → has (filter test xs) n ≡ (has xs n && test n)
   has-filter [] n = refl
   has-filter (x ∷ xs) n = has-filter_cons x n xs (has-filter xs n)
 

@@ -1,5 +1,5 @@
 -- Sets of numbers below 4,096, as ascending lists, after the bitmaps of hwloc 2 (manual, "The bitmap API").
-use Rattle.std.specs.Prelude.{ℕ, ◌<◌, Bool, not, ◌||◌, ◌&&◌, ◌==◌, List, []}
+use Rattle.std.specs.Prelude.{ℕ, ◌<◌, Bool, not, ◌||◌, ◌&&◌, ◌==◌, List}
 use Rattle.std.specs.List.{All, filter, list_any, range_with_len}
 use Rattle.std.specs.List.Sorted.{IsStrictlyIncreasing}
 
@@ -34,4 +34,5 @@ meet one other = numbers_where (λ number. has one number && has other number)
 
 -- the numbers that are in just one of the two
 abbrev pub xor : List ℕ → List ℕ → List ℕ
-xor one other = numbers_where (λ number. (has one number && not (has other number)) || (has other number && not (has one number)))
+xor one other = numbers_where (λ number.
+    (has one number && not (has other number)) || (has other number && not (has one number)))

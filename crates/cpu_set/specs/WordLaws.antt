@@ -1,24 +1,24 @@
 -- Laws of numbers by their bits, and of the words of a set.
-use Rattle.std.proofs.Common.{◌≡◌, ℕ, zero, suc, ◌+◌, ◌-◌, ◌*◌, ◌/◌, ◌%◌, ◌^◌, ◌<◌, ◌≤◌, Bool, true, false, cond, ◌==◌, List, length, map, slice_index, get_or, lit<, refl, sym, ap, ◌∙◌, arith, ◌⊎◌, inl, inr}
+use Rattle.std.proofs.Common.{◌≡◌, ℕ, zero, suc, ◌+◌, ◌-◌, ◌*◌, ◌/◌, ◌%◌, ◌^◌, ◌<◌, Bool, true, false, cond, ◌==◌, List, length, slice_index, lit<, refl, sym, ap, ◌∙◌, arith, inl, inr}
 use Rattle.std.proofs.Math.Numerals.{add-one}
 use Rattle.std.proofs.Math.Nat.{pow-suc}
 use Rattle.std.specs.Int.{bit_at}
-use Rattle.std.specs.List.{All, range_with_len, sum_by}
+use Rattle.std.specs.List.{range_with_len, sum_by}
 use Rattle.std.proofs.lemmas.Bool.{cases_lt}
 use Rattle.std.proofs.lemmas.Bool.Decides.{nat_tests}
 use Rattle.std.proofs.lemmas.List.{map-id}
 use Rattle.std.proofs.lemmas.List.Elements.{All-get_or}
 use Rattle.std.proofs.lemmas.List.FromFn.{sum_by-map-range_with_len_more, fill_by_all}
-use Rattle.std.proofs.lemmas.Nat.Bits.{bit_at_cat_low, bit_at_cat_high, bit_at-lt, bit_at_above, bit_at_lowest, same_from_bits_below}
-use Rattle.cpu_set.specs.Sets.{has, numbers_where}
+use Rattle.std.proofs.lemmas.Nat.Bits.{bit_at_cat_low, bit_at_cat_high, bit_at-lt, bit_at_lowest, same_from_bits_below}
+use Rattle.cpu_set.specs.Sets.{has}
 use Rattle.cpu_set.specs.SetLaws.{has-numbers_below}
 use Rattle.cpu_set.specs.Bits.{number_with_bits, word_of, is_bit_of, AreWords, set_of_words, first_words_of_set, words_of_set}
 
 -- a bit is 1 or 0
-bit_from_test : (bit : ℕ) → bit < 2 → cond (bit == 1) 1 0 ≡ bit
+pub bit_from_test : (bit : ℕ) → bit < 2 → cond (bit == 1) 1 0 ≡ bit
 bit_from_test bit low = grind (arith, nat_tests)
 
-test_from_bit : (passes : Bool) → (cond passes 1 0 == 1) ≡ passes
+pub test_from_bit : (passes : Bool) → (cond passes 1 0 == 1) ≡ passes
 test_from_bit true = refl
 test_from_bit false = refl
 
@@ -50,7 +50,7 @@ module _ (test : ℕ → Bool) where
   unfolding number_with_bits
   number_with_bits_none = refl
 
-  number_with_bits-below : (places : ℕ) → number_with_bits test places < 2 ^ places
+  pub number_with_bits-below : (places : ℕ) → number_with_bits test places < 2 ^ places
   number_with_bits-below zero = rw number_with_bits_none (lit< tt)
   number_with_bits-below (suc places) = rw number_with_bits-suc (below_more_bits (test places) (number_with_bits test places) places (number_with_bits-below places))
 
@@ -68,9 +68,6 @@ module _ (test : ℕ → Bool) where
 
   pub is_bit-number_with_bits : (places place : ℕ) → place < places → (bit_at (number_with_bits test places) place == 1) ≡ test place
   is_bit-number_with_bits places place below = ap (λ bit. bit == 1) (bit_at-number_with_bits places place below) ∙ test_from_bit (test place)
-
-  pub is_bit-number_with_bits_past : (places place : ℕ) → places ≤ place → (bit_at (number_with_bits test places) place == 1) ≡ false
-  is_bit-number_with_bits_past places place past = ap (λ bit. bit == 1) (bit_at_above (number_with_bits test places) places place (number_with_bits-below places) past)
 
 -- two numbers of so many bits with the same bits, seen as tests
 pub same_from_tests : (places a b : ℕ) → a < 2 ^ places → b < 2 ^ places → ((i : ℕ) → i < places → (bit_at a i == 1) ≡ (bit_at b i == 1)) → a ≡ b

@@ -2,9 +2,9 @@
 
 ghost use Rattle.std.specs.Prelude.{ℕ, Bool, List};
 ghost use Rattle.cpu_set.specs.Sets.{IsSet};
-ghost use Rattle.cpu_set.specs.Texts.{hex_text, list_text};
+ghost use Rattle.cpu_set.specs.Texts.{hex_text, list_text, runs_of};
 ghost use Rattle.cpu_set.specs.Readings.{ReadsHex, HexRefused, ReadsList, ListRefused};
-ghost use Rattle.cpu_set.specs.Laws.{HasJust, SameByMembers, CombinesSets, ExactlyOne, ReadsSets};
+ghost use Rattle.cpu_set.specs.Laws.{AreMaximalRuns, HasJust, SameByMembers, CombinesSets, ExactlyOne, ReadsSets};
 
 /// The numbers that pass a test are a set, and are its only numbers.
 pub fn sets_have_what_passes()
@@ -41,4 +41,9 @@ pub fn hex_is_read_back()
 /// The list text of a set is read as that set.
 pub fn list_is_read_back()
     ensures { (set : List ℕ) → IsSet set → ReadsList (list_text set) set }
+{}
+
+/// The runs of a set, which its list text prints, are its maximal runs of consecutive numbers.
+pub fn runs_are_maximal()
+    ensures { (set : List ℕ) → IsSet set → AreMaximalRuns set (runs_of set) }
 {}

@@ -4,7 +4,6 @@
 
 mod fault;
 mod laws;
-mod out_of_memory;
 mod parts;
 mod read_hex;
 mod read_list;
@@ -17,7 +16,7 @@ mod write_taskset;
 pub use fault::SetFault;
 pub use laws::{
     hex_is_read_back, hex_is_read_or_refused, list_is_read_back, list_is_read_or_refused,
-    sets_are_fixed_by_members, sets_combine_by_membership, sets_have_what_passes,
+    runs_are_maximal, sets_are_fixed_by_members, sets_combine_by_membership, sets_have_what_passes,
 };
 pub use set::CpuSet;
 

@@ -146,7 +146,8 @@ impl CpuSet {
     // The lowest number from `from` on.
     pub(crate) fn next(&self, from: u32) -> Option<u32>
         ensures none { IfNone result (numbers_from from self.now ≡ []) }
-        ensures found { IfSome result (λ number. numbers_from from self.now ≡ number ∷ numbers_from (number + 1) self.now) }
+        ensures found { IfSome result (λ number. numbers_from from self.now
+            ≡ number ∷ numbers_from (number + 1) self.now) }
         ensures from { IfSome result (λ number. from ≤ number) }
         ensures limit { IfSome result (λ number. number < 4096) }
         ensures set { IsSet self.now }
@@ -171,7 +172,9 @@ impl CpuSet {
 
     // The highest number, or 0 of the empty set.
     pub(crate) fn highest(&self) -> u32
-        ensures { result ≡ highest self.now }
+        ensures number { result ≡ highest self.now }
+        ensures limit { result < 4096 }
+        ensures set { IsSet self.now }
     {
         for place in (0..WORDS).rev() {
             let word = self.words[place];

@@ -1,6 +1,7 @@
 //! Sets and texts from outside the definitions.
 
 use crate::{CpuSet, SetFault};
+use std::alloc::{AllocError, Global};
 use std::test::Fail;
 
 // Each text, and what it is in the three printed texts.
@@ -86,7 +87,7 @@ fn the_leftmost_broken_rule_is_named(rt: HostRuntime) {
     for (text, fault) in hex {
         assert!(rt; CpuSet::read_hex(text).err() == Some(fault));
     }
-    let list: [(&[u8], SetFault); 13] = [
+    let list: [(&[u8], SetFault); 18] = [
         (b"3,4096", SetFault::TooLarge { at: 2 }),
         (b"4096-4097", SetFault::TooLarge { at: 0 }),
         (b"1-4096", SetFault::TooLarge { at: 2 }),
@@ -94,6 +95,11 @@ fn the_leftmost_broken_rule_is_named(rt: HostRuntime) {
         (b"5-", SetFault::Infinite { at: 0 }),
         (b"99999-", SetFault::Infinite { at: 0 }),
         (b"1,5-,x", SetFault::Infinite { at: 2 }),
+        (b"5-,4096", SetFault::Infinite { at: 0 }),
+        (b"4096,5-", SetFault::TooLarge { at: 0 }),
+        (b"4096,x", SetFault::TooLarge { at: 0 }),
+        (b"x,4096", SetFault::Form { at: 0 }),
+        (b"5-4", SetFault::Form { at: 0 }),
         (b"x,5-", SetFault::Form { at: 0 }),
         (b",", SetFault::Form { at: 0 }),
         (b"1,", SetFault::Form { at: 2 }),
@@ -107,4 +113,51 @@ fn the_leftmost_broken_rule_is_named(rt: HostRuntime) {
     for (text, fault) in list {
         assert!(rt; CpuSet::read_list(text).err() == Some(fault));
     }
+}
+
+// The text of `{4095}` with so many commas.
+fn last_number(alloc: Global, commas: usize) -> Result<Vec<u8>, AllocError> {
+    let mut text = Vec::from_slice(alloc, b"0x80000000")?;
+    for _ in 0..commas {
+        text.push(b',')?;
+    }
+    text.extend_from_slice(b"0x0")?;
+    Ok(text)
+}
+
+#[test]
+fn the_last_number_is_4095(rt: HostRuntime) -> Result<(), Fail> {
+    let set = CpuSet::read_list(b"4095").ok().ok_or("refused")?;
+    let hex = last_number(rt.alloc(), 127)?;
+    assert!(rt; set.write_hex(rt.alloc())?.as_slice() == hex.as_slice());
+    let taskset = set.write_taskset(rt.alloc())?;
+    assert_eq!(rt; taskset.len(), 1026);
+    assert!(rt;
+        taskset.as_slice().starts_with(b"0x8") && taskset.iter().skip(3).all(|digit| *digit == b'0')
+    );
+    let back = CpuSet::read_hex(&hex).ok().ok_or("refused")?;
+    assert_eq!(rt; back.write_list(rt.alloc())?.as_slice(), b"4095".as_slice());
+    let longer = last_number(rt.alloc(), 128)?;
+    assert!(rt; CpuSet::read_hex(&longer).err() == Some(SetFault::TooLarge { at: 0 }));
+    Ok(())
+}
+
+#[test]
+fn numbers_may_have_thousands_of_digits(rt: HostRuntime) -> Result<(), Fail> {
+    let mut text = Vec::from_slice(rt.alloc(), b"1,")?;
+    for _ in 0..5000 {
+        text.push(b'0')?;
+    }
+    text.push(b'7')?;
+    let set = CpuSet::read_list(&text).ok().ok_or("refused")?;
+    assert_eq!(rt; set.write_list(rt.alloc())?.as_slice(), b"1,7".as_slice());
+    for _ in 0..5000 {
+        text.push(b'9')?;
+    }
+    assert!(rt; CpuSet::read_list(&text).err() == Some(SetFault::TooLarge { at: 2 }));
+    text.push(b'-')?;
+    assert!(rt; CpuSet::read_list(&text).err() == Some(SetFault::Infinite { at: 2 }));
+    text.push(b'7')?;
+    assert!(rt; CpuSet::read_list(&text).err() == Some(SetFault::Form { at: 2 }));
+    Ok(())
 }

@@ -1,12 +1,12 @@
 //! The hexadecimal text, written.
 
-ghost use Rattle.std.specs.Prelude.{◌≡◌, ◌+◌, ◌++◌, ◌<◌, ◌/◌, ◌^◌, length, IfOk, OnOk};
+ghost use Rattle.std.specs.Prelude.{◌≡◌, ◌+◌, ◌++◌, ◌<◌, ◌≤◌, ◌/◌, ◌^◌, length, IfOk, OnOk};
 ghost use Rattle.cpu_set.specs.Bits.{word_of};
 ghost use Rattle.cpu_set.specs.Texts.{hex_text, highest, word_text, hex_digits};
 
-use crate::out_of_memory::OutOfMemory;
 use crate::set::CpuSet;
 use byte_text::hex_digit;
+use edge_io::OutOfMemory;
 use std::alloc::Global;
 
 impl CpuSet {
@@ -28,11 +28,15 @@ impl CpuSet {
 
     // How long the text is.
     fn hex_len(&self, count: usize) -> usize
-        requires { count ≡ highest self.now / 32 + 1 }
+        requires count { count ≡ highest self.now / 32 + 1 }
+        requires limit { count ≤ 128 }
         ensures { result ≡ length (hex_text self.now) }
     {
-        let mut length = count - 1;
+        let mut length = 0;
         for place in (0..count).rev() {
+            if place + 1 < count {
+                length += 1;
+            }
             length += word_len(place, self.word(place));
         }
         length
@@ -40,7 +44,8 @@ impl CpuSet {
 }
 
 fn word_len(place: usize, word: u32) -> usize
-    ensures { result ≡ length (word_text place word) }
+    ensures length { result ≡ length (word_text place word) }
+    ensures limit { result ≤ 10 }
 {
     match (word, place) {
         (0, 0) => 3,
@@ -66,7 +71,7 @@ fn push_word(text: &mut Vec<u8>, place: usize, word: u32) -> Result<(), OutOfMem
 fn push_digits(text: &mut Vec<u8>, word: u32) -> Result<(), OutOfMemory>
     ensures { OnOk result (text.new.items ≡ text.old.items ++ hex_digits 8 word) }
 {
-    for place in (0..8).rev() {
+    for place in (0..8u32).rev() {
         text.push(hex_digit(((word >> (4 * place)) & 15) as u8))?;
     }
     Ok(())

@@ -3,10 +3,10 @@
 ghost use Rattle.std.specs.Prelude.{◌≡◌, ◌+◌, ◌++◌, ◌<◌, ◌≤◌, [], ◌∷◌, length, decimal, IfOk, OnOk, IfNone, IfSome};
 ghost use Rattle.cpu_set.specs.Texts.{list_text, run_text, runs_of, numbers_from};
 
-use crate::out_of_memory::OutOfMemory;
 use crate::run::Run;
 use crate::set::CpuSet;
 use byte_text::push_decimal;
+use edge_io::OutOfMemory;
 use std::alloc::Global;
 
 impl CpuSet {
@@ -63,8 +63,10 @@ impl CpuSet {
 
 // How long the text of a run is.
 fn run_len(run: Run) -> usize
-    requires { run.last < 4096 }
-    ensures { result ≡ length (run_text (run.first, run.last)) }
+    requires order { run.first ≤ run.last }
+    requires limit { run.last < 4096 }
+    ensures length { result ≡ length (run_text (run.first, run.last)) }
+    ensures limit { result ≤ 9 }
 {
     if run.first == run.last {
         decimal_len(run.first)
@@ -75,7 +77,8 @@ fn run_len(run: Run) -> usize
 
 fn decimal_len(number: u32) -> usize
     requires { number < 4096 }
-    ensures { result ≡ length (decimal number) }
+    ensures length { result ≡ length (decimal number) }
+    ensures limit { result ≤ 4 }
 {
     match number {
         0..=9 => 1,

@@ -73,6 +73,7 @@ storage_asked header behind request more (Some block) block_is is =
     let same = some_pair (Store (storing header block)) request (header.bytes + 2) more is in
     (block, has.0, has.1, sym same.0, sym same.1)
 
+-- what is read of a line is what it asks for
 pub asked_asks : (line : Line) (behind : List ℕ) (request : Request) (more : ℕ) → asked_by line behind ≡ Some (request, more) → Asks line behind request more
 unfolding asked_by
 asked_asks (Storage header) behind request more is = storage_asked header behind request more (block_of header.bytes behind) refl is
@@ -80,6 +81,7 @@ asked_asks (Retrieval uniques keys) behind request more is =
     let same = some_pair (Get uniques keys) request 0 more is in
     (sym same.0, sym same.1)
 
+-- a command that is read begins the text: once its line is known
 read_asked : (text content behind : List ℕ) (line : Line) (command : WholeCommand) (asked : Option (Request × ℕ)) → IsCutAt 10 text content behind → Says (words_of_line content) line → asked_by line behind ≡ asked → option_and_then {U = WholeCommand} (λ (a : Request × ℕ). Some (record { request = a.0; spelling = take (length content + 1 + a.1) text })) asked ≡ Some command → (count : ℕ) × Begins text command count
 read_asked text content behind line command None cut says asked_is is = cc
 read_asked text content behind line command (Some asked) cut says asked_is is =
@@ -100,11 +102,13 @@ read_asked text content behind line command (Some asked) cut says asked_is is =
           }),
     )
 
+-- once the content of the line is known
 read_said : (text content behind : List ℕ) (command : WholeCommand) (line : Option Line) → IsCutAt 10 text content behind → said_by (words_of_line content) ≡ line → option_and_then (λ (l : Line). option_and_then {U = WholeCommand} (λ (a : Request × ℕ). Some (record { request = a.0; spelling = take (length content + 1 + a.1) text })) (asked_by l behind)) line ≡ Some command → (count : ℕ) × Begins text command count
 read_said text content behind command None cut said is = cc
 read_said text content behind command (Some line) cut said is =
     read_asked text content behind line command (asked_by line behind) cut (said_says (words_of_line content) line said) refl is
 
+-- from the whole text
 read_cut : (text : List ℕ) (command : WholeCommand) (cut : Option (List ℕ × List ℕ)) → cut_first 10 text ≡ cut → option_and_then (λ (p : List ℕ × List ℕ). option_and_then (λ (l : Line). option_and_then {U = WholeCommand} (λ (a : Request × ℕ). Some (record { request = a.0; spelling = take (length p.0 + 1 + a.1) text })) (asked_by l p.1)) (said_by (words_of_line p.0))) cut ≡ Some command → (count : ℕ) × Begins text command count
 read_cut text command None cut is = cc
 read_cut text command (Some parts) cut is =
@@ -121,6 +125,7 @@ first_begins text command is =
 pub first_no_command : (text : List ℕ) → first_command text ≡ None → NoCommand text
 first_no_command text is = λ command count begins. let other = begins_first text command count begins in cc
 
+-- no command is read where none begins the text
 no_command_read : (text : List ℕ) (read : Option WholeCommand) → first_command text ≡ read → NoCommand text → read ≡ None
 no_command_read text None is no_command = refl
 no_command_read text (Some command) is no_command = absurd (no_command command (length command.spelling) (first_begins text command is))

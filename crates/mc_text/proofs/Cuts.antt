@@ -10,9 +10,11 @@ use Rattle.mc_text.proofs.Pairs.{some_pair}
 head_differs : (byte first : ℕ) (more : List ℕ) → ¬ (Contains (first ∷ more) byte) → first ≡ byte → ⊥
 head_differs byte first more lacks same = lacks (0, omega arith, same)
 
+-- and what its rest lacks
 tail_lacks : (byte first : ℕ) (more : List ℕ) → ¬ (Contains (first ∷ more) byte) → ¬ (Contains more byte)
 tail_lacks byte first more lacks = λ has. lacks (suc has.0, omega (arith, has.1), has.2)
 
+-- the parts of a text are found
 cut_first_parts : (byte : ℕ) (before behind : List ℕ) → ¬ (Contains before byte) → cut_first byte (before ++ (byte ∷ behind)) ≡ Some (before, behind)
 unfolding cut_first
 cut_first_parts byte [] behind lacks = rw (eq-eqb byte byte refl) refl
@@ -30,10 +32,12 @@ cut_first_none byte [] lacks = refl
 cut_first_none byte (first ∷ more) lacks =
     rw (ne_eqb first byte (head_differs byte first more lacks), cut_first_none byte more (tail_lacks byte first more lacks)) refl
 
+-- no place of a list has the byte, if neither its head nor a place of its rest has
 lacking : (byte first : ℕ) (more : List ℕ) → (first ≡ byte → ⊥) → ¬ (Contains more byte) → (k : ℕ) → k < length (first ∷ more) → get_or (first ∷ more) k byte ≡ byte → ⊥
 lacking byte first more other lacks zero within is = other is
 lacking byte first more other lacks (suc k) within is = lacks (k, omega arith, is)
 
+-- a list lacks the byte, if its head and its rest do
 cons_lacks : (byte first : ℕ) (more : List ℕ) → (first ≡ byte → ⊥) → ¬ (Contains more byte) → ¬ (Contains (first ∷ more) byte)
 cons_lacks byte first more other lacks has =
     lacking byte first more other lacks has.0 has.1 has.2

@@ -21,12 +21,14 @@ bad_from_none bytes behind none there =
       | inr short ↦ (there, inr (λ block has. let found = block_of_is bytes behind block has short in cc))
     ]
 
+-- a block that can't be served isn't found
 none_by : (bytes : ℕ) (behind : List ℕ) (block : Option (List ℕ)) → block_of bytes behind ≡ block → IsBadBlock behind bytes → block ≡ None
 none_by bytes behind None is bad = refl
 none_by bytes behind (Some block) is bad =
     let has = block_of_has bytes behind block is in
     elim bad.1 [ inl long ↦ absurd (omega (arith, has.1)) | inr lacks ↦ absurd (lacks block has.0) ]
 
+-- the same of the reading
 pub none_from_bad : (bytes : ℕ) (behind : List ℕ) → IsBadBlock behind bytes → block_of bytes behind ≡ None
 none_from_bad bytes behind bad = none_by bytes behind (block_of bytes behind) refl bad
 
@@ -77,6 +79,7 @@ cause_by behind words line said (inr bad) =
     let same : line ≡ Storage header = cc in
     (header, same, bad.2)
 
+-- a line that says something causes the form by its block alone
 pub form_cause : (text content behind : List ℕ) (line : Line) → IsCutAt 10 text content behind → said_by (words_of_line content) ≡ Some line → IsUnbuiltForm text → (header : Header) × (line ≡ Storage header) × IsBadBlock behind header.bytes
 form_cause text content behind line cut said form =
     let same = form_line text content behind cut form in

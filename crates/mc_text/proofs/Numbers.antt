@@ -1,15 +1,16 @@
 -- Numbers with a limit.
-use Rattle.std.proofs.Common.{◌≡◌, ℕ, ◌^◌, pos, [], ◌∷◌, get_or, ◌+◌, ◌<◌, ◌≤◌, List, length, true, ◌&&◌, ltb, Option, Some, None, refl, sym, ap, arith}
+use Rattle.std.proofs.Common.{◌≡◌, ℕ, ◌+◌, ◌<◌, ◌≤◌, List, length, true, ◌&&◌, ltb, Option, Some, None, sym, ap, arith}
 use Rattle.std.specs.Str.{all_ascii_digits}
 use Rattle.std.specs.Str.Parse.{IsNumeral, digits_value}
 use Rattle.std.proofs.lemmas.Bool.Decides.{nat_tests}
-use Rattle.std.proofs.lemmas.Bool.{ltb-true, ne_eqb, le-ltb, and_left, and_right, and_parts, false_from_ne_true, cond-false}
+use Rattle.std.proofs.lemmas.Bool.{ltb-true, le-ltb, and_left, and_right, and_parts, false_from_ne_true, cond-false}
 use Rattle.std.proofs.lemmas.Str.Parse.{IsNumeralModel, numerals_by_value, tells_all_ascii_digits}
 use Rattle.byte_text.specs.Numerals.{Reads}
 use Rattle.byte_text.specs.declared.numerals.Numeral.{Numeral}
 use Rattle.byte_text.specs.declared.numerals.Numeral.TheVariants.{Number, TooLarge, NotNumeral}
-use Rattle.mc_text.specs.Field.{number_below, exptime_of}
+use Rattle.mc_text.specs.Field.{number_below}
 
+-- the test for decimal digits is right
 decimal_digits : IsNumeralModel (λ ds. all_ascii_digits ds ≡ true) (digits_value 10)
 decimal_digits = numerals_by_value (λ ds. all_ascii_digits ds ≡ true) tells_all_ascii_digits
 
@@ -50,9 +51,3 @@ number_read greatest word (Number n) reads =
     sym (number_below_is (greatest + 1) word n reads.0 reads.1 (omega (arith, reads.2)))
 number_read greatest word TooLarge reads = sym (number_below_over (greatest + 1) word (omega (arith, reads.1)))
 number_read greatest word NotNumeral reads = sym (number_below_none (greatest + 1) word reads)
-
--- an expiry time without a `-`
-pub exptime_plain : (word : List ℕ) (n : ℕ) → (get_or word 0 0 ≡ 45 → ⊥) → number_below (2 ^ 31) word ≡ Some n → exptime_of word ≡ Some (pos n)
-unfolding number_below
-exptime_plain [] n other is = cc
-exptime_plain (byte ∷ more) n other is = rw (ne_eqb byte 45 other, is) refl

@@ -5,13 +5,8 @@ use Rattle.std.proofs.lemmas.List.{length-drop, drop_at}
 use Rattle.mc_text.specs.Request.{WholeCommand}
 use Rattle.mc_text.specs.Begins.{Begins}
 use Rattle.mc_text.specs.Section.{Spelled, EachBegins, NoCommand, spellings}
-use Rattle.mc_text.specs.Reading.{cut_first, first_command, in_front, read_within, commands_of, rest_of}
+use Rattle.mc_text.specs.Reading.{first_command, in_front, read_within, commands_of, rest_of}
 use Rattle.mc_text.proofs.Beginnings.{begins_within, begins_parts, begins_first, first_begins, first_no_command, no_command_first}
-
--- no command is read of no bytes
-pub first_of_none : first_command [] ≡ None
-unfolding first_command cut_first
-first_of_none = refl
 
 -- behind a command fewer bytes stand
 drop_shorter : (text : List ℕ) (command : WholeCommand) (k : ℕ) → first_command text ≡ Some command → length text ≤ suc k → length (drop (length command.spelling) text) ≤ k
@@ -19,15 +14,12 @@ drop_shorter text command k is short =
     let within = begins_within text command (length command.spelling) (first_begins text command is) in
     omega (arith, within.0, within.1, length-drop (length command.spelling) text)
 
-empty_text : (text : List ℕ) → length text ≤ 0 → text ≡ []
-empty_text [] short = refl
-empty_text (byte ∷ text) short = absurd (omega arith)
-
 -- how a text is read once its first command is known
 read_by : (k : ℕ) (text : List ℕ) (first : Option WholeCommand) → first_command text ≡ first → read_within (suc k) text ≡ option_map_or (λ (c : WholeCommand). in_front c (read_within k (drop (length c.spelling) text))) first ([], text)
 unfolding read_within
 read_by k text first is = rw is refl
 
+-- nothing is read of a text without a first command
 read_none : (k : ℕ) (text : List ℕ) → first_command text ≡ None → read_within k text ≡ ([], text)
 unfolding read_within
 read_none zero text is = refl
@@ -47,6 +39,7 @@ read_enough (suc k) (suc m) text (Some command) is enough more =
     let later = read_enough k m behind (first_command behind) refl (drop_shorter text command k is enough) (drop_shorter text command m is more) in
     read_by k text (Some command) is ∙ ap (in_front command) later ∙ sym (read_by m text (Some command) is)
 
+-- what is read of a text is its first command, and what is read behind it
 pub read_first : (text : List ℕ) (command : WholeCommand) → first_command text ≡ Some command → read_within (length text) text ≡ in_front command (read_within (length (drop (length command.spelling) text)) (drop (length command.spelling) text))
 read_first text command is =
     let behind = drop (length command.spelling) text in
@@ -59,6 +52,7 @@ pub commands_first : (text : List ℕ) (command : WholeCommand) → first_comman
 unfolding commands_of
 commands_first text command is = ap (λ read. read.0) (read_first text command is)
 
+-- the rest is that of what stands behind the command
 pub rest_first : (text : List ℕ) (command : WholeCommand) → first_command text ≡ Some command → rest_of text ≡ rest_of (drop (length command.spelling) text)
 unfolding rest_of
 rest_first text command is = ap (λ read. read.1) (read_first text command is)
@@ -68,6 +62,7 @@ pub commands_none : (text : List ℕ) → first_command text ≡ None → comman
 unfolding commands_of
 commands_none text is = ap (λ read. read.0) (read_none (length text) text is)
 
+-- and nothing of it is read
 pub rest_none : (text : List ℕ) → first_command text ≡ None → rest_of text ≡ text
 unfolding rest_of
 rest_none text is = ap (λ read. read.1) (read_none (length text) text is)
@@ -83,6 +78,7 @@ spelled_more text command commands rest begins spelled =
       ends = spelled.ends;
     }
 
+-- what is read of a text fits it
 read_spelled : (k : ℕ) (text : List ℕ) (first : Option WholeCommand) → first_command text ≡ first → length text ≤ k → Spelled text (read_within k text).0 (read_within k text).1
 read_spelled k text None is enough =
     subst (λ (read : List WholeCommand × List ℕ). Spelled text read.0 read.1) (sym (read_none k text is))
@@ -101,6 +97,7 @@ pub section_spelled : (section : List ℕ) → Spelled section (commands_of sect
 unfolding commands_of rest_of
 section_spelled section = read_spelled (length section) section (first_command section) refl (omega arith)
 
+-- what fits a section is what is read of it: by its commands, one after another
 spelled_from : (commands : List WholeCommand) (section rest : List ℕ) → section ≡ spellings commands ++ rest → EachBegins commands rest → NoCommand rest → (commands ≡ commands_of section) × (rest ≡ rest_of section)
 spelled_from [] section rest whole each ends =
     let none = no_command_first rest ends in
@@ -131,5 +128,6 @@ commands_few (suc k) text (Some command) is enough =
     let later = commands_few k behind (first_command behind) refl (drop_shorter text command k is enough) in
     omega (arith, within.0, within.1, later, ap length (commands_first text command is), length-drop (length command.spelling) text)
 
+-- the same with the room that the text gives
 pub length-commands_of : (text : List ℕ) → length (commands_of text) ≤ length text
 length-commands_of text = commands_few (length text) text (first_command text) refl (omega arith)

@@ -1,6 +1,6 @@
-use Rattle.std.proofs.Common.{◌≡◌, ◌+◌, ◌-◌, length, Some, None, sym, ap, ◌∙◌, arith}
+use Rattle.std.proofs.Common.{◌≡◌, ◌+◌, ◌-◌, length, Some, ap, arith}
 use Rattle.cpu_set.specs.Parts.{parts_left}
-use Rattle.cpu_set.proofs.HexSteps.{HexSoFar, hex_none, hex_left, hex_span, hex_fault_here, hex_added, hex_skipped, hex_all, hex_all_good}
+use Rattle.cpu_set.proofs.HexSteps.{HexSoFar, hex_none, hex_left, hex_added, hex_skipped, hex_all, hex_all_good}
 use Rattle.cpu_set.proofs.read_hex.read_words.Goals as goal
 use Rattle.cpu_set.proofs.read_hex.read_words.Goals.{then-value-ne0, else-value-ne0}
 
@@ -11,12 +11,13 @@ pub loop-rest-preserved : goal.loop-rest-preserved
 loop-rest-preserved c =
     let so_far : HexSoFar c.args.text.now (Some c.in-Some.words) c.loop-rest.at c.loop-rest.left c.loop-rest.set = rw c.in-Some.is at c.loop-rest.invariant in
     let left : c.loop-rest.left ≡ length (parts_left c.first_part.result.1) + 1 =
-        hex_left c.args.text.now c.in-Some.words c.loop-rest.at c.loop-rest.left c.loop-rest.set c.first_part.result.0.now c.first_part.result.1 so_far c.first_part.ensures in
-    elim c.if-value-ne0.branch
-    [ then-value-ne0 w ↦ rw w.set-is (hex_added c.args.text.now c.in-Some.words c.loop-rest.at c.loop-rest.left c.loop-rest.set c.first_part.result.0.now c.first_part.result.1 so_far c.first_part.ensures
-        (c.loop-rest.left - 1) c.in_ok-value.value w.add_word.new.self (omega (arith, left)) c.in_ok-value.ensures.good c.in_ok-value.ensures.value w.add_word.ensures)
-    | else-value-ne0 w ↦ rw w.set-is (hex_skipped c.args.text.now c.in-Some.words c.loop-rest.at c.loop-rest.left c.loop-rest.set c.first_part.result.0.now c.first_part.result.1 so_far c.first_part.ensures
-        (c.loop-rest.left - 1) c.in_ok-value.value (omega (arith, left)) c.in_ok-value.ensures.good c.in_ok-value.ensures.value w.if-value-ne0.false) ]
+    hex_left c.args.text.now c.in-Some.words c.loop-rest.at c.loop-rest.left c.loop-rest.set c.first_part.result.0.now c.first_part.result.1 so_far c.first_part.ensures in
+    elim c.if-value-ne0.branch [
+      | then-value-ne0 w ↦ rw w.set-is (hex_added c.args.text.now c.in-Some.words c.loop-rest.at c.loop-rest.left c.loop-rest.set c.first_part.result.0.now c.first_part.result.1 so_far c.first_part.ensures
+          (c.loop-rest.left - 1) c.in_ok-value.value w.add_word.new.self (omega (arith, left)) c.in_ok-value.ensures.good c.in_ok-value.ensures.value w.add_word.ensures)
+      | else-value-ne0 w ↦ rw w.set-is (hex_skipped c.args.text.now c.in-Some.words c.loop-rest.at c.loop-rest.left c.loop-rest.set c.first_part.result.0.now c.first_part.result.1 so_far c.first_part.ensures
+          (c.loop-rest.left - 1) c.in_ok-value.value (omega (arith, left)) c.in_ok-value.ensures.good c.in_ok-value.ensures.value w.if-value-ne0.false)
+    ]
 
 pub returns-clause-numbers : goal.returns-clause-numbers
 returns-clause-numbers c = hex_all c.args.text.now c.loop-rest.at c.loop-rest.left c.loop-rest.set (rw c.in_default.is at c.loop-rest.invariant)

@@ -1,5 +1,5 @@
 use Rattle.std.proofs.Common.{Some, sym, ap, ◌∙◌}
-use Rattle.cpu_set.proofs.ListSteps.{Ends, whole_ends, cut_ends, rule_whole, rule_cut, rule_open}
+use Rattle.cpu_set.proofs.ListSteps.{whole_ends, cut_ends, rule_whole, rule_cut, rule_open}
 use Rattle.cpu_set.proofs.read_list.read_item.Goals as goal
 
 pub returns-in-None-clause-first : goal.returns-in-None-clause-first

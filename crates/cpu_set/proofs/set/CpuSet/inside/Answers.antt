@@ -1,4 +1,4 @@
-use Rattle.std.proofs.Common.{arith, refl}
+use Rattle.std.proofs.Common.{refl}
 use Rattle.std.proofs.lemmas.Bool.{false≢true}
 use Rattle.cpu_set.proofs.Searches.{inside_none, inside_more, inside_all, not_inside}
 use Rattle.cpu_set.proofs.set.CpuSet.inside.Goals as goal

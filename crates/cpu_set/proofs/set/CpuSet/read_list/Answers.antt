@@ -1,13 +1,14 @@
-use Rattle.std.proofs.Common.{Some, None, sym, ◌∙◌}
+use Rattle.std.proofs.Common.{Some, sym, ◌∙◌}
 use Rattle.cpu_set.proofs.ListSteps.{ListSoFar, list_empty, list_start, list_more, list_all_read}
 use Rattle.cpu_set.proofs.set.CpuSet.read_list.Goals as goal
 use Rattle.cpu_set.proofs.set.CpuSet.read_list.Goals.{then-is_empty, else-is_empty}
 
 pub loop-rest-init : goal.loop-rest-init
 loop-rest-init c =
-    rw c.empty-set.ensures (elim c.if-is_empty.branch
-    [ then-is_empty w ↦ rw w.rest-is (list_empty c.args.text.now (sym c.is_empty.ensures ∙ w.if-is_empty.true))
-    | else-is_empty w ↦ rw w.rest-is (list_start c.args.text (sym c.is_empty.ensures ∙ w.if-is_empty.false)) ])
+    rw c.empty-set.ensures (elim c.if-is_empty.branch [
+      | then-is_empty w ↦ rw w.rest-is (list_empty c.args.text.now (sym c.is_empty.ensures ∙ w.if-is_empty.true))
+      | else-is_empty w ↦ rw w.rest-is (list_start c.args.text (sym c.is_empty.ensures ∙ w.if-is_empty.false))
+    ])
 
 pub loop-rest-preserved : goal.loop-rest-preserved
 loop-rest-preserved c =

@@ -1,4 +1,4 @@
-use Rattle.std.proofs.Common.{◌∙◌, ◌+◌, ◌≡◌, sym, ap, arith}
+use Rattle.std.proofs.Common.{◌∙◌, sym, arith}
 use Rattle.cpu_set.proofs.SetSteps.{IsSet-view}
 use Rattle.cpu_set.proofs.Weights.{count_below-none, count_below-more, count_below-all, count_up_to}
 use Rattle.cpu_set.proofs.set.CpuSet.weight.Goals as goal

@@ -1,0 +1,6 @@
+pub mod Asked
+pub mod Outcome
+pub mod Run
+pub mod SetText
+pub mod Status
+pub mod Words

@@ -1,0 +1,71 @@
+-- How a call of the program ends, by what its words ask for and by its input.
+use Rattle.std.specs.Prelude.{◌≡◌, ◌≤◌, ◌<◌, ℕ, Bool, List, length, Some}
+use Rattle.std.specs.declared.option.Option.{Option}
+use Rattle.placed_runner.specs.declared.fault.SectionFault.TheVariants.{NotYet}
+use Rattle.clof_tool.specs.declared.status.Fault.TheVariants.{Set as SetOf, Section, Input}
+use Rattle.clof_tool.specs.declared.status.Status.{Status}
+use Rattle.clof_tool.specs.declared.status.Status.TheVariants as statuses
+use Rattle.clof_tool.specs.Words.{Asked, Run, Set}
+use Rattle.cpu_set.specs.declared.fault.SetFault.{SetFault}
+use Rattle.clof_tool.specs.Run.{input_limit, Prints, IsNotYet}
+use Rattle.clof_tool.specs.SetText.{PrintsSet, IsRefused}
+
+-- what is asked for depends on the input
+abbrev pub ReadsInput : Asked → Type 0
+ReadsInput Run = Unit {0}
+ReadsInput (Set list text) = ⊥
+
+-- the input of what is asked for: all that the source had left, or any text where it doesn't depend on one
+abbrev pub IsInput : Asked → Option (List ℕ) → List ℕ → Type 0
+IsInput Run left input = left ≡ Some input
+IsInput (Set list text) left input = Unit {0}
+
+-- the text that is printed
+abbrev pub IsAnswer : Asked → List ℕ → List ℕ → Type 0
+IsAnswer Run input printed = (length input ≤ input_limit) × Prints input printed
+IsAnswer (Set list text) input printed = PrintsSet list text printed
+
+-- why `run` refuses an input: it is too long, or it is no section that can be served yet
+abbrev pub RunRefuses : List ℕ → Status → Type 0
+RunRefuses input statuses.Ok = ⊥
+RunRefuses input statuses.Usage = ⊥
+RunRefuses input (statuses.Malformed fault) = (fault ≡ Section NotYet) × (length input ≤ input_limit) × IsNotYet input
+RunRefuses input (statuses.Limit fault) = (fault ≡ Input) × (input_limit < length input)
+RunRefuses input statuses.ReadFault = ⊥
+RunRefuses input (statuses.WriteFault written) = ⊥
+RunRefuses input statuses.OutOfMemory = ⊥
+
+-- why `set` refuses its text: by the leftmost rule that it breaks
+abbrev pub SetRefuses : Bool → List ℕ → Status → Type 0
+SetRefuses list text statuses.Ok = ⊥
+SetRefuses list text statuses.Usage = ⊥
+SetRefuses list text (statuses.Malformed fault) = (broken : SetFault) × (fault ≡ SetOf broken) × IsRefused list text broken
+SetRefuses list text (statuses.Limit fault) = ⊥
+SetRefuses list text statuses.ReadFault = ⊥
+SetRefuses list text (statuses.WriteFault written) = ⊥
+SetRefuses list text statuses.OutOfMemory = ⊥
+
+-- the status with which what is asked for is refused
+abbrev pub Refuses : Asked → List ℕ → Status → Type 0
+Refuses Run input status = RunRefuses input status
+Refuses (Set list text) input status = SetRefuses list text status
+
+-- the status is a refusal: something is malformed or over its limit
+abbrev pub IsRefusal : Status → Type 0
+IsRefusal statuses.Ok = ⊥
+IsRefusal statuses.Usage = ⊥
+IsRefusal (statuses.Malformed fault) = Unit {0}
+IsRefusal (statuses.Limit fault) = Unit {0}
+IsRefusal statuses.ReadFault = ⊥
+IsRefusal (statuses.WriteFault written) = ⊥
+IsRefusal statuses.OutOfMemory = ⊥
+
+-- the statuses after which something may have been written
+abbrev pub HasWritten : Status → Type 0
+HasWritten statuses.Ok = Unit {0}
+HasWritten statuses.Usage = ⊥
+HasWritten (statuses.Malformed fault) = ⊥
+HasWritten (statuses.Limit fault) = ⊥
+HasWritten statuses.ReadFault = ⊥
+HasWritten (statuses.WriteFault written) = Unit {0}
+HasWritten statuses.OutOfMemory = ⊥

@@ -1,0 +1,8 @@
+use Rattle.cpu_set.proofs.ReadLaws.{hex_exactly_one, hex_reads_sets}
+use Rattle.cpu_set.proofs.laws.hex_is_read_or_refused.Goals as goal
+
+pub returns-clause-one : goal.returns-clause-one
+returns-clause-one c = λ text. hex_exactly_one text
+
+pub returns-clause-set : goal.returns-clause-set
+returns-clause-set c = λ text. hex_reads_sets text
