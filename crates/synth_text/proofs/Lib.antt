@@ -5,3 +5,4 @@ pub mod AttributeLaws
 pub mod RuleLaws
 pub mod PartLaws
 pub mod Lists
+pub mod ItemLaws

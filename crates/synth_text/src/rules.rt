@@ -26,14 +26,10 @@ pub fn described(alloc: Global, parts: Vec<Placed>) -> Result<Description, Synth
 }
 
 // The first broken rule on the items themselves.
-#[tactic(auto, unfolding(crate::specs::Rules::broken_items))]
 fn check_items(parts: &[Placed]) -> Result<(), SynthFault>
     ensures { fault_of result ≡ broken_items parts.now }
 {
-    let levels = parts
-        .iter()
-        .filter(|item| item.part.level.is_some())
-        .count();
+    let levels = count_levels(parts);
     if levels == 0 {
         return Err(SynthFault::Empty);
     }
@@ -47,6 +43,18 @@ fn check_items(parts: &[Placed]) -> Result<(), SynthFault>
         return Err(SynthFault::TooManyLevels);
     }
     Ok(())
+}
+
+// How many levels the items give.
+#[tactic(auto, using(crate::proofs::RuleLaws::length_cons_option))]
+fn count_levels(parts: &[Placed]) -> usize
+    ensures { result ≡ length (levels_of parts.now) }
+{
+    let mut count = 0;
+    for item in parts {
+        count += usize::from(item.part.level.is_some());
+    }
+    count
 }
 
 // Where the first item begins that repeats a kind or attaches a second memory.
