@@ -6,3 +6,8 @@ pub mod RuleLaws
 pub mod PartLaws
 pub mod Lists
 pub mod ItemLaws
+pub mod Bound
+pub mod SoundParts
+pub mod KindLaws
+pub mod SoundRules
+pub mod Reads

@@ -156,3 +156,17 @@ refused_many parts some differ end many = rw (some_levels parts some, differ, en
 pub refused_none : (parts : List Placed) → length (levels_of parts) ≢ 0 → first_again [] parts ≡ None → wrong_end (from_last parts) ≡ None → length (levels_of parts) ≤ 16 → broken_items parts ≡ None
 unfolding broken_items
 refused_none parts some differ end few = rw (some_levels parts some, differ, end, le-ltb 16 (length (levels_of parts)) few) refl
+
+-- what holds where nothing is broken
+only_last : (o : Option SynthFault) → first_of (o ∷ []) ≡ None → o ≡ None
+only_last None k = refl
+only_last (Some f) k = absurd cc
+
+last_two : (a b : Option SynthFault) → first_of (a ∷ b ∷ []) ≡ None → (a ≡ None) × (b ≡ None)
+last_two (Some f) b k = absurd cc
+last_two None b k = (refl, only_last b k)
+
+pub nothing_broken : (parts : List Placed) → broken parts ≡ None → (broken_items parts ≡ None) × (is_large (description_of parts) ≡ false)
+nothing_broken parts h =
+    let two = last_two (broken_items parts) (when (is_large (description_of parts)) faults.TooManyObjects) (sym (broken-last parts) ∙ h) in
+    (two.0, when-none (is_large (description_of parts)) faults.TooManyObjects two.1)
