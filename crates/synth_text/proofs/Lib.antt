@@ -10,4 +10,4 @@ pub mod Bound
 pub mod SoundParts
 pub mod KindLaws
 pub mod SoundRules
-pub mod Reads
+pub mod Outcomes

@@ -1,5 +1,5 @@
 use Rattle.std.proofs.Common.{Ok, Err}
-use Rattle.synth_text.proofs.Reads.{answers_outcome, read_sound}
+use Rattle.synth_text.proofs.Outcomes.{answers_outcome, read_sound}
 use Rattle.synth_text.proofs.reading.read.Goals as goal
 
 pub returns-clause-sound : goal.returns-clause-sound
