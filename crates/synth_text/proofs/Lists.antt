@@ -1,7 +1,9 @@
 -- Steps along a list, and lists of texts with a byte between them.
-use Rattle.std.proofs.Common.{◌≡◌, ℕ, suc, ◌+◌, ◌<◌, List, [], ◌∷◌, ◌++◌, length, get_or, take, drop, map, refl, sym, ap, ◌∙◌, append_assoc, add-one, arith}
+use Rattle.std.proofs.Common.{◌≡◌, ℕ, suc, ◌+◌, ◌<◌, List, [], ◌∷◌, ◌++◌, length, get_or, take, drop, map, refl, sym, ap, ◌∙◌, append_assoc, add-one, min, arith, inl, inr}
 use Rattle.std.proofs.Math.Seq.{drop-cons}
+use Rattle.std.proofs.Math.ListN.{drop_of_length-le}
 use Rattle.std.proofs.lemmas.List.{take_more, map_push, append-nil}
+use Rattle.std.proofs.lemmas.Bool.{cases_lt}
 use Rattle.std.specs.List.{join_with_byte}
 use Rattle.synth_text.specs.Canonical.{joined_before, joined_behind}
 
@@ -33,3 +35,17 @@ join_around byte (first ∷ second ∷ above) text below =
     ∙ ap (λ (rest : List ℕ). first ++ byte ∷ rest) (append_assoc (join_with_byte byte (second ∷ above)) (byte ∷ []) (text ++ joined_behind byte below))
     ∙ sym (append_assoc first (byte ∷ join_with_byte byte (second ∷ above)) (byte ∷ (text ++ joined_behind byte below)))
     ∙ sym (append_assoc (first ++ byte ∷ join_with_byte byte (second ∷ above)) (byte ∷ []) (text ++ joined_behind byte below))
+
+pub joined_all : (byte : ℕ) (out : List ℕ) (above : List (List ℕ)) (text : List ℕ) (below : List (List ℕ))
+    → ((out ++ joined_before byte above) ++ text) ++ joined_behind byte below ≡ out ++ join_with_byte byte (above ++ text ∷ below)
+joined_all byte out above text below =
+    append_assoc (out ++ joined_before byte above) text (joined_behind byte below)
+    ∙ append_assoc out (joined_before byte above) (text ++ joined_behind byte below)
+    ∙ ap (λ (rest : List ℕ). out ++ rest) (sym (join_around byte above text below))
+
+pub drop_min : {X : Type 0} (n : ℕ) (xs : List X) → drop (min n (length xs)) xs ≡ drop n xs
+drop_min n xs =
+    elim (cases_lt n (length xs)) [
+      | inl less ↦ let e : min n (length xs) ≡ n = omega arith in rw e refl
+      | inr past ↦ let e : min n (length xs) ≡ length xs = omega arith in rw e (drop_of_length-le xs (omega arith) ∙ sym (drop_of_length-le xs past))
+    ]

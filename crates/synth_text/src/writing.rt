@@ -20,7 +20,6 @@ pub fn write(alloc: Global, description: &Description) -> Result<Vec<u8>, OutOfM
 }
 
 // Appends the items, with one space between them.
-#[tactic(auto, using(crate::proofs::Lists::join_around, std::proofs::lemmas::List::append_assoc))]
 fn push_items(out: &mut Vec<u8>, levels: &[Level], memory: &Option<Memory>) -> Result<(), AllocError>
     ensures { OnOk result (out.new.items ≡ out.old.items ++ join_with_byte 32 (item_texts levels.now memory.now)) }
 {
