@@ -14,9 +14,9 @@ same_start text from one other after_one after_other gap_one gap_other ends_one 
     elim (cases_order one other) [
       | inl same ↦ same
       | inr differ ↦ elim differ [
-          | inl less ↦ absurd (both_ways _ ends_one (gap_other one after_one less))
-          | inr more ↦ absurd (both_ways _ ends_other (gap_one other after_other more))
-        ]
+        | inl less ↦ absurd (both_ways _ ends_one (gap_other one after_one less))
+        | inr more ↦ absurd (both_ways _ ends_other (gap_one other after_other more))
+      ]
     ]
 
 level_no_longer : (text : List ℕ) (start one other : ℕ) → start < one → other ≤ length text → IsLevelItem text start one → IsLevelItem text start other → one < other → ⊥
@@ -33,17 +33,17 @@ same_end text true start one other long_one long_other within_one within_other h
     elim (cases_order one other) [
       | inl same ↦ same
       | inr differ ↦ elim differ [
-          | inl less ↦ absurd (memory_no_longer text start one other within_other h k less)
-          | inr more ↦ absurd (memory_no_longer text start other one within_one k h more)
-        ]
+        | inl less ↦ absurd (memory_no_longer text start one other within_other h k less)
+        | inr more ↦ absurd (memory_no_longer text start other one within_one k h more)
+      ]
     ]
 same_end text false start one other long_one long_other within_one within_other h k =
     elim (cases_order one other) [
       | inl same ↦ same
       | inr differ ↦ elim differ [
-          | inl less ↦ absurd (level_no_longer text start one other long_one within_other h k less)
-          | inr more ↦ absurd (level_no_longer text start other one long_other within_one k h more)
-        ]
+        | inl less ↦ absurd (level_no_longer text start one other long_one within_other h k less)
+        | inr more ↦ absurd (level_no_longer text start other one long_other within_one k h more)
+      ]
     ]
 
 abbrev made : ℕ → ℕ → Bool → Item
@@ -112,14 +112,14 @@ memory_end zero text start place h long none =
 memory_end (suc fuel) text start place h long none =
     elim (cases_eq (get_or text place 0) 93) [
       | inl closes ↦ record {
-          end = place + 1;
-          after = omega arith;
-          within = omega arith;
-          item = record { whole = λ k low high. none k low (omega arith); ended = inr (omega arith, let e : place + 1 - 1 ≡ place = omega arith in rw e closes) };
-        }
+        end = place + 1;
+        after = omega arith;
+        within = omega arith;
+        item = record { whole = λ k low high. none k low (omega arith); ended = inr (omega arith, let e : place + 1 - 1 ≡ place = omega arith in rw e closes) };
+      }
       | inr other ↦
           let m = memory_end fuel text start (place + 1) (omega arith) (omega arith)
-              (λ k low high. elim (cases_eq k place) [ inl here ↦ rw here other | inr apart ↦ none k low (omega arith) ])
+          (λ k low high. elim (cases_eq k place) [ inl here ↦ rw here other | inr apart ↦ none k low (omega arith) ])
           in record { end = m.end; after = omega (arith, m.after); within = m.within; item = m.item }
     ]
 
@@ -156,12 +156,12 @@ knows_next text start place begun known =
     elim (cases_eq (get_or text place 0) 40) [
       | inl opens ↦ inl (place, begun, omega arith, opens, λ k low high. absurd (omega arith))
       | inr no_open ↦ elim (cases_eq (get_or text place 0) 41) [
-          | inl closes ↦ inr (not_behind_close text start place no_open closes)
-          | inr no_close ↦ elim known [
-              | inl inside ↦ inl (still_inside text start place no_close inside)
-              | inr outside ↦ inr (λ h. outside (was_inside text start place no_open h))
-            ]
+        | inl closes ↦ inr (not_behind_close text start place no_open closes)
+        | inr no_close ↦ elim known [
+          | inl inside ↦ inl (still_inside text start place no_close inside)
+          | inr outside ↦ inr (λ h. outside (was_inside text start place no_open h))
         ]
+      ]
     ]
 
 level_end : (fuel : ℕ) (text : List ℕ) (start place : ℕ) → place + fuel ≡ length text → start ≤ place → KnowsInside text start place
@@ -173,7 +173,7 @@ level_end (suc fuel) text start place h begun known none =
       | inl ends ↦ record { end = place; after = omega arith; within = omega arith; item = record { whole = none; ended = inr ends } }
       | inr goes_on ↦
           let l = level_end fuel text start (place + 1) (omega arith) (omega arith) (knows_next text start place begun known)
-              (λ k low high e. elim (cases_eq k place) [ inl here ↦ goes_on (subst (EndsLevel text start) here e) | inr apart ↦ none k low (omega arith) e ])
+          (λ k low high e. elim (cases_eq k place) [ inl here ↦ goes_on (subst (EndsLevel text start) here e) | inr apart ↦ none k low (omega arith) e ])
           in record { end = l.end; after = omega (arith, l.after); within = l.within; item = l.item }
     ]
   where
@@ -182,9 +182,9 @@ level_end (suc fuel) text start place h begun known none =
         elim known [
           | inl inside ↦ inr (λ e. e.outside inside)
           | inr outside ↦ elim (cases_Bool (is_white (get_or text place 0) || eqb (get_or text place 0) 91)) [
-              | inl ends ↦ inl (record { byte = ends; outside = outside })
-              | inr other ↦ inr (λ e. both_ways _ other e.byte)
-            ]
+            | inl ends ↦ inl (record { byte = ends; outside = outside })
+            | inr other ↦ inr (λ e. both_ways _ other e.byte)
+          ]
         ]
 
 -- the item that begins at a byte that is no white space
@@ -207,7 +207,7 @@ item_at text start lt first =
           let outside : IsInside text start start → ⊥ = λ h. omega (arith, h.1, h.2) in
           let not_end : EndsLevel text start start → ⊥ = λ e. both_ways _ (or_none (is_white (get_or text start 0)) _ first level) e.byte in
           let l = level_end (length text - (start + 1)) text start (start + 1) (omega arith) (omega arith) (knows_next text start start (omega arith) (inr outside))
-              (λ k low high e. let here : k ≡ start = omega arith in not_end (subst (EndsLevel text start) here e))
+          (λ k low high e. let here : k ≡ start = omega arith in not_end (subst (EndsLevel text start) here e))
           in
           record {
             item = made start l.end false;
@@ -236,11 +236,11 @@ items_from (suc fuel) text from within enough =
     elim g.stops [
       | inl at_end ↦ record { items = []; are = subst (IsGap text from) at_end g.gap }
       | inr first ↦ elim (cases_eq g.end (length text)) [
-          | inl at_end ↦ record { items = []; are = subst (IsGap text from) at_end g.gap }
-          | inr before ↦
-              let i = item_at text g.end (omega (arith, g.within)) first in
-              next_items text from g i (items_from fuel text i.item.end i.is.within (omega (arith, i.is.long, i.begins, g.after)))
-        ]
+        | inl at_end ↦ record { items = []; are = subst (IsGap text from) at_end g.gap }
+        | inr before ↦
+            let i = item_at text g.end (omega (arith, g.within)) first in
+            next_items text from g i (items_from fuel text i.item.end i.is.within (omega (arith, i.is.long, i.begins, g.after)))
+      ]
     ]
 
 pub some_items : (text : List ℕ) → ItemsFrom text 0

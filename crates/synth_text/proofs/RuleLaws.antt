@@ -107,9 +107,9 @@ pub items_hold : (parts : List Placed) → broken_items parts ≡ None → Items
 unfolding broken_items
 items_hold parts h =
     let k =
-        first_of-none
-        (when (length (levels_of parts) == 0) faults.Empty) (option_map (λ at. faults.RepeatedType at) (first_again [] parts))
-        (option_map (λ at. faults.LastNotPu at) (wrong_end (from_last parts))) (when (nat_lt 16 (length (levels_of parts))) faults.TooManyLevels) h
+    first_of-none
+    (when (length (levels_of parts) == 0) faults.Empty) (option_map (λ at. faults.RepeatedType at) (first_again [] parts))
+    (option_map (λ at. faults.LastNotPu at) (wrong_end (from_last parts))) (when (nat_lt 16 (length (levels_of parts))) faults.TooManyLevels) h
     in
     let not_none = eqb-false (length (levels_of parts)) 0 (when-none _ _ k.first) in
     record {

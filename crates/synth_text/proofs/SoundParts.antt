@@ -99,6 +99,7 @@ indexes_sound text given e =
         let all = entries_all IsSoundLoop loop_of loop_sound (slice_split (λ byte. byte == 58) text) m.0 m.1 in
         let some = pieces_some (λ byte. byte == 58) text in
         rw (← m.2) (omega (arith, all.1), all.0)
+
     of_list : option_map indexes.List (entries_of index_of (slice_split (λ byte. byte == 44) text)) ≡ Some given → AreSoundIndexes given
     of_list h =
         let m = option_map_some indexes.List _ given h in

@@ -71,10 +71,12 @@ later_differ before (item ∷ items) kind had other h =
   where
     not_again : (level : Option Level) → is_kind_again before level ≡ false → AllByRecursion (λ level. level.kind ≢ kind) (levels_of items) → AllByRecursion (λ level. level.kind ≢ kind) (cons_option level (levels_of items))
     not_again None h rest = rest
-    not_again (Some level) h rest =
-        ((λ e. let seen : any_of_kind level.kind before ≡ true = ap (λ k. any_of_kind k before) e ∙ had in
-               let apart : same_kind level.kind Group ≡ false = same_kind-false level.kind Group (λ g. other (sym e ∙ g)) in
-               both_ways _ h (rw (apart, seen) refl)), rest)
+    not_again (Some level) h rest = (
+      (λ e. let seen : any_of_kind level.kind before ≡ true = ap (λ k. any_of_kind k before) e ∙ had in
+          let apart : same_kind level.kind Group ≡ false = same_kind-false level.kind Group (λ g. other (sym e ∙ g)) in
+          both_ways _ h (rw (apart, seen) refl)),
+      rest,
+    )
 
 level_differs : (before items : List Placed) (item : Placed) (level : Option Level) → level ≡ item.part.level → first_again (before ++ item ∷ []) items ≡ None
     → KindsDiffer (levels_of items) → KindsDiffer (cons_option level (levels_of items))

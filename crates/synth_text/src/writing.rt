@@ -20,7 +20,11 @@ pub fn write(alloc: Global, description: &Description) -> Result<Vec<u8>, OutOfM
 }
 
 // Appends the items, with one space between them.
-fn push_items(out: &mut Vec<u8>, levels: &[Level], memory: &Option<Memory>) -> Result<(), AllocError>
+fn push_items(
+    out: &mut Vec<u8>,
+    levels: &[Level],
+    memory: &Option<Memory>,
+) -> Result<(), AllocError>
     ensures { OnOk result (out.new.items ≡ out.old.items ++ join_with_byte 32 (item_texts levels.now memory.now)) }
 {
     match memory {
