@@ -11,3 +11,6 @@ pub mod SoundParts
 pub mod KindLaws
 pub mod SoundRules
 pub mod Outcomes
+pub mod Texts
+pub mod CanonicalReading
+pub mod CanonicalItems
