@@ -15,12 +15,12 @@ use Rattle.synth_text.specs.Descriptions.{level_items, part_of, placed_part, par
 -- ---- places in a longer text
 
 -- a byte of a text that stands behind others
-at_front : (front text : List ℕ) (k : ℕ) → get_or (front ++ text) (length front + k) 0 ≡ get_or text k 0
+pub at_front : (front text : List ℕ) (k : ℕ) → get_or (front ++ text) (length front + k) 0 ≡ get_or text k 0
 at_front [] text k = ap (λ (n : ℕ). get_or text n 0) (omega arith)
 at_front (b ∷ front) text k = let e : suc (length front) + k ≡ suc (length front + k) = omega arith in rw e (at_front front text k)
 
 -- a byte of a text that stands before others
-at_part : (text behind : List ℕ) (k : ℕ) → k < length text → get_or (text ++ behind) k 0 ≡ get_or text k 0
+pub at_part : (text behind : List ℕ) (k : ℕ) → k < length text → get_or (text ++ behind) k 0 ≡ get_or text k 0
 at_part [] behind k lt = absurd (omega arith)
 at_part (b ∷ text) behind zero lt = refl
 at_part (b ∷ text) behind (suc k) lt = at_part text behind k (omega arith)
@@ -207,18 +207,20 @@ one_space whole at text behind h space k low high =
     let e = byte_behind whole at text behind h in
     rw (here, e, space) refl
 
-pub are_items : (whole : List ℕ) (from at : ℕ) (entries : List Entry) → AllByRecursion IsEntry entries → from ≤ at → IsGap whole from at → (entries ≡ [] → at ≡ length whole) → EndsWith whole at entries
+pub are_items : (whole : List ℕ) (from at : ℕ) (entries : List Entry) → AllByRecursion IsEntry entries → from ≤ at → IsGap whole from at → EndsWith whole at entries
     → AreItems whole from (items_at at entries)
-are_items whole from at [] each after gap at_end h = let e = at_end refl in subst (IsGap whole from) e gap
-are_items whole from at (entry ∷ []) each after gap at_end h =
+are_items whole from at [] each after gap h =
+    let end : at ≡ length whole = omega (arith, ap length h.parts, length-append h.front [], h.long) in
+    subst (IsGap whole from) end gap
+are_items whole from at (entry ∷ []) each after gap h =
     let stands = first_stands whole at entry [] h in
     (after, gap, is_item whole at entry.text entry.is_memory [] stands each.0.shape (inl refl),
         λ k low high. absurd (omega (arith, whole_length whole at entry.text [] stands)))
-are_items whole from at (entry ∷ next ∷ entries) each after gap at_end h =
+are_items whole from at (entry ∷ next ∷ entries) each after gap h =
     let stands = first_stands whole at entry (next ∷ entries) h in
     (after, gap, is_item whole at entry.text entry.is_memory (behind_first (next ∷ entries)) stands each.0.shape (follows_first (next ∷ entries)),
         are_items whole (at + length entry.text) (at + length entry.text + 1) (next ∷ entries) each.1 (omega arith) (one_space whole at entry.text (behind_first (next ∷ entries)) stands refl)
-        (λ e. absurd cc) (rest_ends whole at entry next entries h))
+        (rest_ends whole at entry next entries h))
 
 first_read : (whole : List ℕ) (at : ℕ) (entry : Entry) (behind : List ℕ) (left : ℕ) → StandsAt whole at entry.text behind → IsEntry entry
     → placed_part whole (item_of at entry.text entry.is_memory) left ≡ Ok (record { at = at; part = entry.part })

@@ -14,3 +14,4 @@ pub mod Outcomes
 pub mod Texts
 pub mod CanonicalReading
 pub mod CanonicalItems
+pub mod CanonicalRules
