@@ -4,9 +4,9 @@ ghost use Rattle.std.specs.List.{join_with_byte};
 ghost use Rattle.synth_text.specs.Canonical.{loop_text, size_texts, indexes_texts, in_parentheses, level_text, memory_text, joined_before, joined_behind, item_texts, canonical, indexes_text};
 
 use crate::description::{Description, Indexes, Level, Loop, Memory};
-use crate::fault::OutOfMemory;
 use crate::kind::Kind;
 use byte_text::push_decimal;
+use edge_io::OutOfMemory;
 use std::alloc::{AllocError, Global};
 
 /// The canonical text of a description.

@@ -1,0 +1,123 @@
+// Scripts of reads and writes over sources and sinks in memory, and the adapters over std's.
+ghost use Rattle.std.specs.Prelude.{◌<◌, ◌≤◌};
+
+use crate::{
+    Failed, MemSink, MemSource, ReadAllFault, Sink, Source, StdSink, StdSource, Stopped, SureSink,
+    SureSource, read_all, write_all,
+};
+use std::alloc::Global;
+use std::process::Abort;
+use std::test::Fail;
+
+fn source(rt: &HostRuntime, bytes: &[u8], piece: usize, failing: &[u32]) -> Result<MemSource, Fail>
+    requires { 1 ≤ piece }
+{
+    Ok(MemSource::new(
+        bytes.to_vec(rt.alloc())?,
+        piece,
+        failing.to_vec(rt.alloc())?,
+    ))
+}
+
+fn reads_all<R: Abort, S: Source>(
+    rt: &R,
+    alloc: Global,
+    source: &mut S,
+    limit: usize,
+    want: Result<&[u8], ReadAllFault>,
+)
+    requires { limit < usize.MAX }
+{
+    match (read_all(alloc, source, limit), want) {
+        (Ok(bytes), Ok(want)) => assert_eq!(rt; bytes.as_slice(), want),
+        (Err(fault), Err(want)) => assert_eq!(rt; fault, want),
+        (Ok(_), Err(_)) => panic!(rt; "the bytes were read, and a fault was wanted"),
+        (Err(_), Ok(_)) => panic!(rt; "a fault came, and bytes were wanted"),
+    }
+}
+
+#[test]
+fn reads_to_the_end_or_says_why_not(rt: HostRuntime) -> Result<(), Fail> {
+    reads_all(
+        &rt,
+        rt.alloc(),
+        &mut source(&rt, b"abcdefgh", 3, &[])?,
+        8,
+        Ok(b"abcdefgh"),
+    );
+    reads_all(&rt, rt.alloc(), &mut source(&rt, b"", 3, &[])?, 0, Ok(b""));
+    reads_all(
+        &rt,
+        rt.alloc(),
+        &mut source(&rt, b"abcdefgh", 3, &[])?,
+        7,
+        Err(ReadAllFault::TooLong),
+    );
+    reads_all(
+        &rt,
+        rt.alloc(),
+        &mut source(&rt, b"abcdefgh", 3, &[2])?,
+        100,
+        Err(ReadAllFault::Fault),
+    );
+    reads_all(
+        &rt,
+        rt.alloc(),
+        &mut source(&rt, b"abcdefgh", 3, &[5])?,
+        100,
+        Ok(b"abcdefgh"),
+    );
+    reads_all(
+        &rt,
+        rt.alloc(),
+        &mut SureSource::new(b"abc".to_vec(rt.alloc())?),
+        3,
+        Ok(b"abc"),
+    );
+    Ok(())
+}
+
+#[test]
+fn a_source_gives_pieces_and_fails_as_listed(rt: HostRuntime) -> Result<(), Fail> {
+    let mut source = source(&rt, b"abcde", 2, &[1])?;
+    let mut buf = [0; 4];
+    assert_eq!(rt; source.read(&mut buf), Ok(2));
+    assert_eq!(rt; buf[..2], b"ab"[..]);
+    assert_eq!(rt; source.read(&mut buf), Err(Failed));
+    assert_eq!(rt; source.read(&mut buf[..1]), Ok(1));
+    assert_eq!(rt; source.read(&mut buf), Ok(2));
+    assert_eq!(rt; buf[..2], b"de"[..]);
+    assert_eq!(rt; source.read(&mut buf), Ok(0));
+    Ok(())
+}
+
+#[test]
+fn writes_all_or_stops_behind_a_prefix(rt: HostRuntime) -> Result<(), Fail> {
+    let mut whole = MemSink::new(rt.alloc(), 5, 2, Vec::new(rt.alloc()))?;
+    assert_eq!(rt; write_all(&mut whole, b"abcde"), Ok(()));
+    assert_eq!(rt; whole.bytes(), b"abcde".as_slice());
+    let mut full = MemSink::new(rt.alloc(), 4, 3, Vec::new(rt.alloc()))?;
+    assert_eq!(rt; write_all(&mut full, b"abcde"), Err(Stopped { written: 4 }));
+    assert_eq!(rt; full.bytes(), b"abcd".as_slice());
+    let mut failing = MemSink::new(rt.alloc(), 9, 2, [1].to_vec(rt.alloc())?)?;
+    assert_eq!(rt;
+        write_all(&mut failing, b"abcde"),
+        Err(Stopped { written: 2 })
+    );
+    assert_eq!(rt; failing.bytes(), b"ab".as_slice());
+    let mut sure = SureSink::new(rt.alloc(), 3)?;
+    assert_eq!(rt; write_all(&mut sure, b"abc"), Ok(()));
+    assert_eq!(rt; sure.write(b"d"), Ok(0));
+    assert_eq!(rt; sure.bytes(), b"abc".as_slice());
+    Ok(())
+}
+
+#[test]
+fn adapters_pass_bytes_on(rt: HostRuntime) -> Result<(), Fail> {
+    let mut source = StdSource::new(b"hello".as_slice());
+    let bytes = read_all(rt.alloc(), &mut source, 10)?;
+    let mut sink = StdSink::new(Vec::new(rt.alloc()));
+    write_all(&mut sink, &bytes)?;
+    assert_eq!(rt; bytes.as_slice(), b"hello".as_slice());
+    Ok(())
+}

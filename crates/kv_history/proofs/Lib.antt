@@ -1,0 +1,4 @@
+pub mod Keyed
+pub mod Given
+pub mod Logs
+pub mod Records

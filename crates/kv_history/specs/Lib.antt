@@ -1,0 +1,5 @@
+pub mod Contents
+pub mod Answer
+pub mod Log
+pub mod Views
+pub mod Journal

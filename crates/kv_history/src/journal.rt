@@ -1,0 +1,174 @@
+// The journal.
+ghost use Rattle.std.specs.Prelude.{◌≡◌, ◌^◌, ◌<◌, ◌≤◌, ◌↔◌, ◌++◌, ◌∷◌, [], length, map, option_map, slice_get, sum_by, vec_capacity, vec_len, not, IfOk, IsTrue, OnErr, OnOk, Some};
+ghost use Rattle.std.specs.Bool.{OnTrue};
+ghost use Rattle.std.specs.List.{list_all};
+ghost use Rattle.mc_text.specs.Request.{view};
+ghost use Rattle.mc_text.specs.Reading.{commands_of};
+ghost use Rattle.kv_history.specs.Log.{IsNext, IsOneThread, NoneVoid, VoidIsSilent, EachHasSection, EachOwnFirst, applied, applied_entry, void_entry, store_now};
+
+use crate::Store;
+use crate::record::Record;
+use edge_io::OutOfMemory;
+use mc_text::{Command, count};
+use std::alloc::Global;
+use std::marker::Model;
+
+/// What a caller is told of a command that was applied.
+#[derive(Clone, Copy, Debug, PartialEq, Eq)]
+pub struct Receipt {
+    /// The number of the command's entry.
+    pub turn: u32,
+}
+
+/// An entry of a journal.
+#[derive(Clone, Copy, Debug)]
+pub struct Entry<'a> {
+    /// The number of the caller.
+    pub caller: u32,
+    /// The bytes of the command.
+    pub spelling: &'a [u8],
+    /// Whether the command was not applied, for want of memory.
+    pub void: bool,
+}
+
+/// A store with the list of the commands that callers applied to it, and the replies. Contracts see it as its
+/// sections and its entries.
+#[derive(Drop)]
+pub struct Journal<'a> {
+    alloc: Global,
+    sections: Vec<&'a [u8]>,
+    records: Vec<Record<'a>>,
+    store: Store,
+}
+
+impl<'a> Model for Journal<'a> {
+    ghost use Rattle.kv_history.specs.Log.{Log};
+
+    ghost Value = { Log };
+
+    ghost use Rattle.kv_history.specs.Journal.{log_of, IsKept};
+
+    ghost view = { log_of };
+
+    ghost invariant = { IsKept };
+}
+
+impl<'a> Journal<'a> {
+    /// A journal without entries, with the empty store, for callers with these sections: caller 0 has the first. It
+    /// takes room for an entry for each command of every section.
+    pub fn reserve(alloc: Global, sections: &[&'a [u8]]) -> Result<Journal<'a>, OutOfMemory>
+        requires { sum_by (λ section. length section.now) sections.now < 2 ^ 32 }
+        ensures sections { IfOk result (λ journal. journal.sections ≡ map (λ section. section.now) sections.now) }
+        ensures entries { IfOk result (λ journal. journal.entries ≡ []) }
+    {
+        let room = commands_in(sections) as usize;
+        Ok(Journal {
+            alloc,
+            sections: sections.to_vec(alloc)?,
+            records: Vec::with_capacity(alloc, room)?,
+            store: Store::new(alloc),
+        })
+    }
+
+    /// Applies the next command of a caller to the store, and appends an entry with its reply; the receipt names its
+    /// place. Without memory the store stays, and the entry is void and has an empty reply.
+    pub fn apply(&mut self, caller: u32, command: Command<'a>) -> Result<Receipt, OutOfMemory>
+        requires { IsNext self.old caller (view command) }
+        ensures sections { self.new.sections ≡ self.old.sections }
+        ensures applied { OnOk result (self.new.entries ≡ self.old.entries ++ applied_entry self.old.entries caller (view command.entry) ∷ []) }
+        ensures place { IfOk result (λ receipt. receipt.turn ≡ length self.old.entries) }
+        ensures void { OnErr result (self.new.entries ≡ self.old.entries ++ void_entry caller (view command.entry) ∷ []) }
+    {
+        let mut reply = Vec::new(self.alloc);
+        let answered = self.store.answer(&command, &mut reply);
+        let turn = self.records.len() as u32;
+        let record = Record {
+            caller,
+            command,
+            reply,
+            void: answered.is_err(),
+        };
+        put(&mut self.records, record);
+        answered?;
+        Ok(Receipt { turn })
+    }
+
+    /// The number of entries. Each caller's are the first commands of its section, in its order.
+    pub fn entries(&self) -> u32
+        ensures count { result ≡ length self.now.entries }
+        ensures callers { EachHasSection self.now }
+        ensures own_first { EachOwnFirst self.now }
+    {
+        self.records.len() as u32
+    }
+
+    /// An entry, by its number.
+    pub fn entry(&self, turn: u32) -> Entry<'a>
+        requires { turn < length self.now.entries }
+        ensures caller { option_map (λ entry. entry.caller) (slice_get self.now.entries turn) ≡ Some result.caller }
+        ensures spelling { option_map (λ entry. entry.command.spelling) (slice_get self.now.entries turn) ≡ Some result.spelling.now }
+        ensures void { option_map (λ entry. entry.void) (slice_get self.now.entries turn) ≡ Some result.void }
+    {
+        let record = &self.records[turn as usize];
+        Entry {
+            caller: record.caller,
+            spelling: record.command.spelling(),
+            void: record.void,
+        }
+    }
+
+    /// The reply of an entry, by its number.
+    pub fn reply(&self, turn: u32) -> &[u8]
+        requires { turn < length self.now.entries }
+        ensures { option_map (λ entry. entry.reply) (slice_get self.now.entries turn) ≡ Some result.now }
+    {
+        &self.records[turn as usize].reply
+    }
+
+    /// The store. It holds what the commands of the entries that aren't void leave, in their order, on the empty store.
+    pub fn store(&self) -> &Store
+        ensures { result.now ≡ store_now self.now.entries }
+    {
+        &self.store
+    }
+
+    /// Whether no entry is void. The replies are those of one thread that applies the commands in the order of the
+    /// entries; a void entry has none.
+    pub fn whole(&self) -> bool
+        ensures none_void { IsTrue result ↔ NoneVoid self.now.entries }
+        ensures one_thread { OnTrue result (IsOneThread self.now.entries) }
+        ensures applied { IsOneThread (applied self.now.entries) }
+        ensures silent { VoidIsSilent self.now.entries }
+    {
+        none_void(&self.records)
+    }
+}
+
+// Whether no record is void.
+fn none_void(records: &[Record<'_>]) -> bool
+    ensures { result ≡ list_all (λ one. not one.void) records.now }
+{
+    records.iter().all(|record| !record.void)
+}
+
+// How many commands some sections have.
+#[tactic(auto, using(std::proofs::lemmas::List::Sums::sum_by_more_le))]
+fn commands_in(sections: &[&[u8]]) -> u32
+    requires { sum_by (λ section. length section.now) sections.now < 2 ^ 32 }
+    ensures { result ≡ sum_by (λ section. length (commands_of section.now)) sections.now }
+{
+    let mut commands = 0;
+    for section in sections {
+        commands += count(section);
+    }
+    commands
+}
+
+// Puts a record into room that is there.
+fn put<'a>(records: &mut Vec<Record<'a>>, last: Record<'a>)
+    requires { vec_len records.old < vec_capacity records.old }
+    ensures items { records.new.items ≡ records.old.items ++ last.entry ∷ [] }
+    ensures capacity { vec_capacity records.old ≤ vec_capacity records.new }
+{
+    let _ = records.push(last);
+}

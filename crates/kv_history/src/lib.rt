@@ -1,0 +1,15 @@
+//! A store of items that answers memcached's commands, and the journal of the commands that callers apply to it.
+#![tactic(auto)]
+
+mod item;
+mod items;
+mod journal;
+mod record;
+mod replies;
+mod store;
+
+pub use journal::{Entry, Journal, Receipt};
+pub use store::Store;
+
+#[cfg(test)]
+mod tests;
