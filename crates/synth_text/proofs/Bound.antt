@@ -1,9 +1,8 @@
 -- What a reading that succeeded has read on its way.
-use Rattle.std.proofs.Common.{◌≡◌, ℕ, Bool, true, false, cond, Option, Some, None, Result, Ok, Err, refl, sym, ap, ◌∙◌}
+use Rattle.std.proofs.Common.{◌≡◌, ℕ, Bool, true, false, cond, Option, Some, None, Result, Ok, Err, refl}
 use Rattle.std.specs.Prelude.{option_map}
 use Rattle.std.specs.Option.{option_and_then}
 use Rattle.synth_text.specs.declared.fault.Flaw.{Flaw}
-use Rattle.synth_text.specs.declared.fault.SynthFault.{SynthFault}
 use Rattle.synth_text.specs.Flaws.{◌>>=◌, or_flaw, placed}
 
 abbrev done : {A E : Type 0} → A → Result A E

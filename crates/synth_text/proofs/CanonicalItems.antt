@@ -1,15 +1,13 @@
 -- A canonical text is the list of the items that it was written from.
-use Rattle.std.proofs.Common.{◌≡◌, ◌≢◌, ◌⊎◌, ℕ, zero, suc, ◌+◌, ◌-◌, ◌<◌, ◌≤◌, Bool, true, false, ◌||◌, eqb, List, [], ◌∷◌, ◌++◌, length, get_or, take, drop, map, Result, Ok, Err, refl, sym, ap, subst, ◌∙◌, append_assoc, arith, inl, inr}
+use Rattle.std.proofs.Common.{◌≡◌, ◌≢◌, ◌⊎◌, ℕ, zero, suc, ◌+◌, ◌-◌, ◌<◌, ◌≤◌, Bool, true, false, ◌||◌, eqb, List, [], ◌∷◌, ◌++◌, length, get_or, map, Ok, refl, sym, ap, subst, ◌∙◌, append_assoc, arith, inl, inr}
 use Rattle.std.specs.Bool.{MatchBool}
 use Rattle.std.specs.List.{AllByRecursion, join_with_byte}
-use Rattle.std.proofs.lemmas.Bool.{or_cases, both_ways, eqb-true, ne_eqb}
+use Rattle.std.proofs.lemmas.Bool.{ne_eqb}
 use Rattle.std.proofs.lemmas.List.{length-append, append-nil, take_at, drop_at}
 use Rattle.synth_text.specs.declared.items.Item.{Item}
 use Rattle.synth_text.specs.declared.parts.Part.{Part}
 use Rattle.synth_text.specs.declared.parts.Placed.{Placed}
-use Rattle.synth_text.specs.declared.fault.SynthFault.{SynthFault}
-use Rattle.synth_text.specs.Items.{is_white, IsGap, IsInside, EndsLevel, IsLevelItem, IsMemoryItem, IsItem, AreItems, body_of}
-use Rattle.synth_text.specs.Flaws.{◌>>=◌, placed}
+use Rattle.synth_text.specs.Items.{is_white, IsGap, IsInside, IsItem, AreItems, body_of}
 use Rattle.synth_text.specs.Descriptions.{level_items, part_of, placed_part, parts_of}
 
 -- ---- places in a longer text
@@ -51,22 +49,30 @@ same_body whole at text behind item h starts ends =
 
 -- parentheses in the part are parentheses in the whole
 inside_whole : (whole : List ℕ) (at : ℕ) (text behind : List ℕ) → StandsAt whole at text behind → (k : ℕ) → k ≤ length text → IsInside text 0 k → IsInside whole at (at + k)
-inside_whole whole at text behind h k within inside =
-    (at + inside.0, omega arith, omega (arith, inside.2), byte_at whole at text behind h inside.0 (omega (arith, inside.2)) ∙ inside.3,
-        λ j low high.
-            let same : at + (j - at) ≡ j = omega (arith, low) in
-            let e = byte_at whole at text behind h (j - at) (omega (arith, low)) in
-            let f = rw same at e in
-            subst (λ (b : ℕ). b ≢ 41) (sym f) (inside.4 (j - at) (omega (arith, low)) (omega (arith, low))))
+inside_whole whole at text behind h k within inside = (
+  at + inside.0,
+  omega arith,
+  omega (arith, inside.2),
+  byte_at whole at text behind h inside.0 (omega (arith, inside.2)) ∙ inside.3,
+  λ j low high.
+      let same : at + (j - at) ≡ j = omega (arith, low) in
+      let e = byte_at whole at text behind h (j - at) (omega (arith, low)) in
+      let f = rw same at e in
+      subst (λ (b : ℕ). b ≢ 41) (sym f) (inside.4 (j - at) (omega (arith, low)) (omega (arith, low))),
+)
 
 inside_part : (whole : List ℕ) (at : ℕ) (text behind : List ℕ) → StandsAt whole at text behind → (k : ℕ) → k ≤ length text → IsInside whole at (at + k) → IsInside text 0 k
 inside_part whole at text behind h k within inside =
     let opened = inside.0 - at in
     let place : at + opened ≡ inside.0 = omega (arith, inside.1) in
     let lt : opened < k = omega (arith, inside.1, inside.2) in
-    let e = byte_at whole at text behind h opened (omega arith) in
-    (opened, omega arith, lt, sym (rw place at e) ∙ inside.3,
-        λ j low high. subst (λ (b : ℕ). b ≢ 41) (byte_at whole at text behind h j (omega arith)) (inside.4 (at + j) (omega (arith, inside.1)) (omega arith)))
+    let e = byte_at whole at text behind h opened (omega arith) in (
+      opened,
+      omega arith,
+      lt,
+      sym (rw place at e) ∙ inside.3,
+      λ j low high. subst (λ (b : ℕ). b ≢ 41) (byte_at whole at text behind h j (omega arith)) (inside.4 (at + j) (omega (arith, inside.1)) (omega arith)),
+    )
 
 -- ---- items
 
@@ -112,9 +118,9 @@ is_level_item whole at text behind h t follows =
         ended = elim follows [
           | inl nothing ↦ inl (omega (arith, whole_length whole at text behind h, ap length nothing))
           | inr space ↦ inr (record {
-              byte = let e = byte_behind whole at text behind h in rw (e, space.1) refl;
-              outside = λ inside. t.closed (inside_part whole at text behind h (length text) (omega arith) inside);
-            })
+            byte = let e = byte_behind whole at text behind h in rw (e, space.1) refl;
+            outside = λ inside. t.closed (inside_part whole at text behind h (length text) (omega arith) inside);
+          })
         ];
       };
     }
@@ -213,14 +219,20 @@ are_items whole from at [] each after gap h =
     let end : at ≡ length whole = omega (arith, ap length h.parts, length-append h.front [], h.long) in
     subst (IsGap whole from) end gap
 are_items whole from at (entry ∷ []) each after gap h =
-    let stands = first_stands whole at entry [] h in
-    (after, gap, is_item whole at entry.text entry.is_memory [] stands each.0.shape (inl refl),
-        λ k low high. absurd (omega (arith, whole_length whole at entry.text [] stands)))
+    let stands = first_stands whole at entry [] h in (
+      after,
+      gap,
+      is_item whole at entry.text entry.is_memory [] stands each.0.shape (inl refl),
+      λ k low high. absurd (omega (arith, whole_length whole at entry.text [] stands)),
+    )
 are_items whole from at (entry ∷ next ∷ entries) each after gap h =
-    let stands = first_stands whole at entry (next ∷ entries) h in
-    (after, gap, is_item whole at entry.text entry.is_memory (behind_first (next ∷ entries)) stands each.0.shape (follows_first (next ∷ entries)),
-        are_items whole (at + length entry.text) (at + length entry.text + 1) (next ∷ entries) each.1 (omega arith) (one_space whole at entry.text (behind_first (next ∷ entries)) stands refl)
-        (rest_ends whole at entry next entries h))
+    let stands = first_stands whole at entry (next ∷ entries) h in (
+      after,
+      gap,
+      is_item whole at entry.text entry.is_memory (behind_first (next ∷ entries)) stands each.0.shape (follows_first (next ∷ entries)),
+      are_items whole (at + length entry.text) (at + length entry.text + 1) (next ∷ entries) each.1 (omega arith) (one_space whole at entry.text (behind_first (next ∷ entries)) stands refl)
+          (rest_ends whole at entry next entries h),
+    )
 
 first_read : (whole : List ℕ) (at : ℕ) (entry : Entry) (behind : List ℕ) (left : ℕ) → StandsAt whole at entry.text behind → IsEntry entry
     → placed_part whole (item_of at entry.text entry.is_memory) left ≡ Ok (record { at = at; part = entry.part })
@@ -231,5 +243,7 @@ pub reads_items : (whole : List ℕ) (at : ℕ) (entries : List Entry) → AllBy
 reads_items whole at [] each h = refl
 reads_items whole at (entry ∷ []) each h = rw (first_read whole at entry [] 0 (first_stands whole at entry [] h) each.0) refl
 reads_items whole at (entry ∷ next ∷ entries) each h =
-    rw (first_read whole at entry (behind_first (next ∷ entries)) (level_items (items_at (at + length entry.text + 1) (next ∷ entries))) (first_stands whole at entry (next ∷ entries) h) each.0,
-        reads_items whole (at + length entry.text + 1) (next ∷ entries) each.1 (rest_ends whole at entry next entries h)) refl
+    rw (
+      first_read whole at entry (behind_first (next ∷ entries)) (level_items (items_at (at + length entry.text + 1) (next ∷ entries))) (first_stands whole at entry (next ∷ entries) h) each.0,
+      reads_items whole (at + length entry.text + 1) (next ∷ entries) each.1 (rest_ends whole at entry next entries h),
+    ) refl

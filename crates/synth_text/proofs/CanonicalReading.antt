@@ -1,48 +1,38 @@
 -- What a canonical item says is what it was written from.
-use Rattle.std.proofs.Common.{◌≡◌, ◌≢◌, ◌⊎◌, ℕ, zero, suc, ◌+◌, ◌*◌, ◌-◌, ◌^◌, ◌<◌, ◌≤◌, Bool, true, false, ◌&&◌, cond, eqb, List, [], ◌∷◌, ◌++◌, length, get_or, take, drop, map, Option, Some, None, Result, Ok, Err, refl, sym, ap, subst, ◌∙◌, append_assoc, arith, inl, inr}
-use Rattle.std.specs.Prelude.{IfSome, not, decimal, codes, option_map, ◌==◌, is_some, nat_lt}
-use Rattle.std.specs.Option.{option_and_then}
-use Rattle.std.specs.Char.{is_ascii_digit, is_ascii_alphanumeric}
-use Rattle.std.specs.Str.Parse.{digits_value}
+use Rattle.std.proofs.Common.{◌≡◌, ◌≢◌, ◌⊎◌, ℕ, ◌*◌, ◌-◌, ◌^◌, ◌<◌, ◌≤◌, Bool, true, false, eqb, List, [], ◌∷◌, ◌++◌, length, drop, map, Option, Some, None, Ok, refl, sym, ap, ◌∙◌, arith, inl, inr}
+use Rattle.std.specs.Prelude.{IfSome, decimal, codes, ◌==◌}
+use Rattle.std.specs.Char.{is_ascii_digit}
 use Rattle.std.specs.List.{AllByRecursion, list_all, list_any, join_with_byte, slice_split, take_while, prefix_len}
-use Rattle.std.proofs.lemmas.Bool.{and_from, le-leb, ne_eqb, eq-eqb, lt-ltb, or_from, or_left, or_right, both_ways, cases_Bool}
+use Rattle.std.proofs.lemmas.Bool.{and_from, le-leb, ne_eqb, lt-ltb, or_from, or_left, or_right, both_ways, cases_Bool}
 use Rattle.std.proofs.lemmas.List.{append-nil, take_all}
 use Rattle.std.proofs.lemmas.List.Folds.{list_any-append}
 use Rattle.std.proofs.Math.ListN.{drop_of_length-le}
 use Rattle.std.proofs.lemmas.Fmt.{decimal_is_IsNumeral}
 use Rattle.synth_text.specs.declared.kind.Kind.{Kind}
 use Rattle.synth_text.specs.declared.kind.Kind.TheVariants.{Machine, Package, Die, Group, L5, L4, L3, L2, L1d, L1i, Core, Pu, NumaNode}
-use Rattle.synth_text.specs.declared.name.Name.{Name}
-use Rattle.synth_text.specs.declared.name.Name.TheVariants as names
 use Rattle.synth_text.specs.declared.description.Loop.{Loop}
 use Rattle.synth_text.specs.declared.description.Level.{Level}
 use Rattle.synth_text.specs.declared.description.Memory.{Memory}
 use Rattle.synth_text.specs.declared.description.Indexes.{Indexes}
 use Rattle.synth_text.specs.declared.description.Indexes.TheVariants as indexes
 use Rattle.synth_text.specs.declared.attributes.Attributes.{Attributes}
-use Rattle.synth_text.specs.declared.attributes.Key.{Key}
 use Rattle.synth_text.specs.declared.attributes.Key.TheVariants as keys
-use Rattle.synth_text.specs.declared.parts.Nodes.{Nodes}
 use Rattle.synth_text.specs.declared.parts.Part.{Part}
-use Rattle.synth_text.specs.declared.fault.Flaw.{Flaw}
-use Rattle.synth_text.specs.declared.fault.Flaw.TheVariants as flaws
 use Rattle.synth_text.specs.Kinds.{is_cache, same_kind, long_name_of}
 use Rattle.synth_text.specs.Items.{is_white}
-use Rattle.synth_text.specs.Names.{kind_named, group_numbered, name_of}
-use Rattle.synth_text.specs.Numbers.{is_numeral, number_in}
-use Rattle.synth_text.specs.Tables.{entry_of}
-use Rattle.synth_text.specs.Cuts.{cut, piece_or, first_piece, without_front}
-use Rattle.synth_text.specs.Flaws.{◌>>=◌, or_flaw}
-use Rattle.synth_text.specs.Sizes.{units, small_size, size_of}
+use Rattle.synth_text.specs.Names.{kind_named, name_of}
+use Rattle.synth_text.specs.Numbers.{number_in}
+use Rattle.synth_text.specs.Cuts.{cut, first_piece, without_front}
+use Rattle.synth_text.specs.Sizes.{size_of}
 use Rattle.synth_text.specs.IndexTexts.{index_of, loop_of, entries_of, indexes_of}
-use Rattle.synth_text.specs.Attributes.{key_of, takes, has, are_given, no_attributes, with_value, with_word, with_next, with_words, with_first, attributes_in, closed, enclosed, attributes_of}
-use Rattle.synth_text.specs.Parts.{level_name, head_kind, head_arity, with_arity, cut_head, head_of, level_part, cut_level, level_of, node_name, opened, memory_part, named_memory, memory_in_brackets, cut_memory, memory_of}
+use Rattle.synth_text.specs.Attributes.{key_of, takes, no_attributes, with_word, with_next, with_first, attributes_in, enclosed, attributes_of}
+use Rattle.synth_text.specs.Parts.{level_name, head_of, level_part, level_of, memory_in_brackets, memory_of}
 use Rattle.synth_text.specs.Canonical.{loop_text, size_texts, indexes_text, indexes_texts, in_parentheses, level_text, memory_text}
 use Rattle.synth_text.specs.Sound.{IsSoundLoop, AreSoundIndexes, IsSoundLevel, IsSoundMemory}
 use Rattle.synth_text.proofs.KindLaws.{same_kind-true, same_kind-equal}
 use Rattle.synth_text.proofs.Numerals.{in_range}
-use Rattle.synth_text.proofs.CutLaws.{cut-none, cut-at, prefix_len-is, first_piece-none}
-use Rattle.synth_text.proofs.Texts.{each_append, each_weaker, each_at, each_joined, IsSolid, is_solid, IsInner, IsDigit, Lacks, solid_test, solid_not_white, solid_is_inner, digit_is_solid, decimal_digits, decimal_some, lacks, split_joined}
+use Rattle.synth_text.proofs.CutLaws.{cut-at, prefix_len-is, first_piece-none}
+use Rattle.synth_text.proofs.Texts.{each_append, each_weaker, each_at, each_joined, IsSolid, is_solid, IsInner, IsDigit, Lacks, solid_test, solid_not_white, solid_is_inner, digit_is_solid, decimal_digits, lacks, split_joined}
 
 -- ---- numbers
 
@@ -94,7 +84,7 @@ reads_list : (n : ℕ) (numbers : List ℕ) → AllByRecursion Small (n ∷ numb
 unfolding indexes_of
 reads_list n numbers h =
     let star = none_passes (λ b. b == 42) (join_with_byte 44 (map decimal (n ∷ numbers)))
-        (each_joined (λ b. (b == 42) ≡ false) 44 (map decimal (n ∷ numbers)) refl (numbers_lack 42 (inl (omega arith)) (n ∷ numbers) h))
+    (each_joined (λ b. (b == 42) ≡ false) 44 (map decimal (n ∷ numbers)) refl (numbers_lack 42 (inl (omega arith)) (n ∷ numbers) h))
     in
     rw (star, split_joined (λ b. b == 44) 44 (decimal n) (map decimal numbers) refl (numbers_lack 44 (inl (omega arith)) (n ∷ numbers) h), reads_indexes (n ∷ numbers) h) refl
 
@@ -116,8 +106,8 @@ reads_loop given h =
     let step : given.step < 2 ^ 32 = h.step.1 in
     let count : given.count < 2 ^ 32 = h.count.1 in
     let cuts : cut (λ b. b == 42) (loop_text given) ≡ Some (decimal given.step, decimal given.count) =
-        cut-at (λ b. b == 42) (decimal given.step) 42 (decimal given.count)
-        (λ k lt. each_at (λ b. eqb b 42 ≡ false) (decimal given.step) (decimal_lacks 42 (inl (omega arith)) given.step (omega arith)) k lt) refl
+    cut-at (λ b. b == 42) (decimal given.step) 42 (decimal given.count)
+    (λ k lt. each_at (λ b. eqb b 42 ≡ false) (decimal given.step) (decimal_lacks 42 (inl (omega arith)) given.step (omega arith)) k lt) refl
     in
     rw (cuts, reads_number 1 (2 ^ 32 - 1) given.step (omega arith) h.step.0 (omega arith), reads_number 1 (2 ^ 32 - 1) given.count (omega arith) h.count.0 (omega arith)) refl
 
@@ -129,7 +119,7 @@ star_in_loop : (given : Loop) (rest : List ℕ) → list_any (λ b. b == 42) (lo
 star_in_loop given rest =
     list_any-append (λ b. b == 42) (loop_text given) rest
     ∙ or_left (list_any (λ b. b == 42) (loop_text given)) (list_any (λ b. b == 42) rest)
-        (list_any-append (λ b. b == 42) (decimal given.step) (42 ∷ decimal given.count) ∙ or_right (list_any (λ b. b == 42) (decimal given.step)) true refl)
+    (list_any-append (λ b. b == 42) (decimal given.step) (42 ∷ decimal given.count) ∙ or_right (list_any (λ b. b == 42) (decimal given.step)) true refl)
 
 reads_loops : (given : Loop) (loops : List Loop) → AllByRecursion IsSoundLoop (given ∷ loops) → indexes_of (join_with_byte 58 (map loop_text (given ∷ loops))) ≡ Some (indexes.Loops (given ∷ loops))
 unfolding indexes_of
@@ -184,12 +174,12 @@ unfolding enclosed attributes_in
 reads_parentheses kind first texts h =
     let joined = join_with_byte 32 (first ∷ texts) in
     let inner : AllByRecursion IsInner joined =
-        each_joined IsInner 32 (first ∷ texts) ((λ e. absurd (omega arith), λ e. absurd (omega arith)))
-        (each_weaker (AllByRecursion IsSolid) (AllByRecursion IsInner) (λ text t. each_weaker IsSolid IsInner solid_is_inner text t) (first ∷ texts) h)
+    each_joined IsInner 32 (first ∷ texts) ((λ e. absurd (omega arith), λ e. absurd (omega arith)))
+    (each_weaker (AllByRecursion IsSolid) (AllByRecursion IsInner) (λ text t. each_weaker IsSolid IsInner solid_is_inner text t) (first ∷ texts) h)
     in
     let cuts : cut (λ b. b == 41) (joined ++ 41 ∷ []) ≡ Some (joined, []) = cut-at (λ b. b == 41) joined 41 [] (lacks IsInner 41 (λ b t. t.0) joined inner) refl in
     let split : slice_split is_white joined ≡ first ∷ texts =
-        split_joined is_white 32 first texts refl (each_weaker (AllByRecursion IsSolid) (Lacks is_white) (λ text t. each_weaker IsSolid (λ b. is_white b ≡ false) solid_not_white text t) (first ∷ texts) h)
+    split_joined is_white 32 first texts refl (each_weaker (AllByRecursion IsSolid) (Lacks is_white) (λ text t. each_weaker IsSolid (λ b. is_white b ≡ false) solid_not_white text t) (first ∷ texts) h)
     in
     rw (cuts, split) refl
 
@@ -249,7 +239,7 @@ cuts_parentheses : (head : List ℕ) (first : List ℕ) (texts : List (List ℕ)
 unfolding first_piece
 cuts_parentheses head first texts h =
     let cuts : cut (λ b. b == 40) (head ++ 40 ∷ (join_with_byte 32 (first ∷ texts) ++ 41 ∷ [])) ≡ Some (head, join_with_byte 32 (first ∷ texts) ++ 41 ∷ []) =
-        cut-at (λ b. b == 40) head 40 (join_with_byte 32 (first ∷ texts) ++ 41 ∷ []) (lacks IsSolid 40 (λ b t e. absurd (omega (arith, t.0))) head h) refl
+    cut-at (λ b. b == 40) head 40 (join_with_byte 32 (first ∷ texts) ++ 41 ∷ []) (lacks IsSolid 40 (λ b t e. absurd (omega (arith, t.0))) head h) refl
     in
     rw cuts refl
 
@@ -327,11 +317,15 @@ memory_texts_read None (indexes.Loops loops) h k =
     rw (indexes_word NumaNode no_attributes (join_with_byte 58 (map loop_text loops)) (indexes.Loops loops) refl refl (reads_indexes_text (indexes.Loops loops) (λ e. absurd cc) k)) refl
 memory_texts_read (Some n) indexes.Ordered h k = rw (reads_memory_word no_attributes n h refl) refl
 memory_texts_read (Some n) (indexes.List numbers) h k =
-    rw (reads_memory_word no_attributes n h refl,
-        indexes_word NumaNode (record { size = None; memory = Some n; indexes = indexes.Ordered }) (join_with_byte 44 (map decimal numbers)) (indexes.List numbers) refl refl (reads_indexes_text (indexes.List numbers) (λ e. absurd cc) k)) refl
+    rw (
+      reads_memory_word no_attributes n h refl,
+      indexes_word NumaNode (record { size = None; memory = Some n; indexes = indexes.Ordered }) (join_with_byte 44 (map decimal numbers)) (indexes.List numbers) refl refl (reads_indexes_text (indexes.List numbers) (λ e. absurd cc) k),
+    ) refl
 memory_texts_read (Some n) (indexes.Loops loops) h k =
-    rw (reads_memory_word no_attributes n h refl,
-        indexes_word NumaNode (record { size = None; memory = Some n; indexes = indexes.Ordered }) (join_with_byte 58 (map loop_text loops)) (indexes.Loops loops) refl refl (reads_indexes_text (indexes.Loops loops) (λ e. absurd cc) k)) refl
+    rw (
+      reads_memory_word no_attributes n h refl,
+      indexes_word NumaNode (record { size = None; memory = Some n; indexes = indexes.Ordered }) (join_with_byte 58 (map loop_text loops)) (indexes.Loops loops) refl refl (reads_indexes_text (indexes.Loops loops) (λ e. absurd cc) k),
+    ) refl
 
 pub memory_texts_solid : (size : Option ℕ) (given : Indexes) → IfSome size (λ n. n < 2 ^ 64) → AreSoundIndexes given → AllByRecursion (AllByRecursion IsSolid) (size_texts (codes "memory") size ++ indexes_texts given)
 memory_texts_solid size given h k =
@@ -348,11 +342,12 @@ reads_brackets (first ∷ texts) a solid reads = rw (reads_parentheses NumaNode 
 
 inner_parentheses : (texts : List (List ℕ)) → AllByRecursion (AllByRecursion IsSolid) texts → AllByRecursion (λ b. b ≢ 93) (in_parentheses texts)
 inner_parentheses [] h = tt
-inner_parentheses (first ∷ texts) h =
-    ((λ e. absurd (omega arith)),
-        each_append (λ b. b ≢ 93) (join_with_byte 32 (first ∷ texts)) (41 ∷ [])
-        (each_joined (λ b. b ≢ 93) 32 (first ∷ texts) (λ e. absurd (omega arith)) (each_weaker (AllByRecursion IsSolid) (AllByRecursion (λ b. b ≢ 93)) (λ text t. each_weaker IsSolid (λ b. b ≢ 93) (λ b s. s.2) text t) (first ∷ texts) h))
-        (((λ e. absurd (omega arith)), tt)))
+inner_parentheses (first ∷ texts) h = (
+  (λ e. absurd (omega arith)),
+  each_append (λ b. b ≢ 93) (join_with_byte 32 (first ∷ texts)) (41 ∷ [])
+      (each_joined (λ b. b ≢ 93) 32 (first ∷ texts) (λ e. absurd (omega arith)) (each_weaker (AllByRecursion IsSolid) (AllByRecursion (λ b. b ≢ 93)) (λ text t. each_weaker IsSolid (λ b. b ≢ 93) (λ b s. s.2) text t) (first ∷ texts) h))
+      (((λ e. absurd (omega arith)), tt)),
+)
 
 -- what stands between the brackets of the memory's text
 pub no_bracket : (texts : List (List ℕ)) → AllByRecursion (AllByRecursion IsSolid) texts → AllByRecursion (λ b. b ≢ 93) (codes "NUMANode" ++ in_parentheses texts)

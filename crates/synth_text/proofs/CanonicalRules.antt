@@ -1,31 +1,27 @@
 -- A canonical text describes what it was written from.
-use Rattle.std.proofs.Common.{◌≡◌, ◌≢◌, ◌⊎◌, ℕ, zero, suc, ◌+◌, ◌-◌, ◌^◌, ◌<◌, ◌≤◌, Bool, true, false, ◌||◌, ◌&&◌, cond, eqb, List, [], ◌∷◌, ◌++◌, length, get_or, take, drop, map, Option, Some, None, Result, Ok, Err, refl, sym, ap, subst, ◌∙◌, append_assoc, add-zero, arith, inl, inr}
-use Rattle.std.specs.Prelude.{IfSome, is_some, codes, decimal, nat_lt, not}
-use Rattle.std.specs.Bool.{MatchBool}
+use Rattle.std.proofs.Common.{◌≡◌, ◌≢◌, ℕ, zero, suc, ◌+◌, ◌-◌, ◌<◌, Bool, true, false, ◌||◌, ◌&&◌, eqb, List, [], ◌∷◌, ◌++◌, length, get_or, take, drop, map, Option, Some, None, Ok, refl, sym, ap, subst, ◌∙◌, arith, inl, inr}
+use Rattle.std.specs.Prelude.{IfSome, is_some, codes, decimal}
 use Rattle.std.specs.List.{AllByRecursion, join_with_byte, list_any, cons_option}
-use Rattle.std.proofs.lemmas.Bool.{cases_Bool, cases_lt, cases_eq, both_ways, or_cases, or_left, or_right, or_from, and_left, and_right, eqb-true, le-ltb}
+use Rattle.std.proofs.lemmas.Bool.{cases_Bool, cases_lt, cases_eq, both_ways, or_cases, or_left, or_right, or_from, eqb-true, le-ltb}
 use Rattle.std.proofs.lemmas.List.{length-append, append-nil, take-append-drop, length-take}
 use Rattle.std.proofs.lemmas.List.Folds.{list_any-append}
 use Rattle.synth_text.specs.declared.kind.Kind.{Kind}
-use Rattle.synth_text.specs.declared.kind.Kind.TheVariants.{Machine, Group, Pu, NumaNode}
+use Rattle.synth_text.specs.declared.kind.Kind.TheVariants.{Group, Pu}
 use Rattle.synth_text.specs.declared.description.Level.{Level}
 use Rattle.synth_text.specs.declared.description.Memory.{Memory}
 use Rattle.synth_text.specs.declared.description.Description.{Description}
-use Rattle.synth_text.specs.declared.parts.Nodes.{Nodes}
-use Rattle.synth_text.specs.declared.parts.Part.{Part}
 use Rattle.synth_text.specs.declared.parts.Placed.{Placed}
-use Rattle.synth_text.specs.declared.fault.SynthFault.{SynthFault}
 use Rattle.synth_text.specs.Kinds.{same_kind, long_name_of}
-use Rattle.synth_text.specs.Items.{is_white, IsInside}
+use Rattle.synth_text.specs.Items.{is_white}
 use Rattle.synth_text.specs.Parts.{untyped_kind}
-use Rattle.synth_text.specs.Rules.{is_level, has_nodes, levels_of, level_count, memory_at, memory_in, description_of, pu_count, object_count, has_kind, any_of_kind, is_kind_again, is_again, first_again, from_last, wrong_end, is_large, broken, broken_items, unless_broken}
-use Rattle.synth_text.specs.Descriptions.{meaning, ComesTo, Describes}
+use Rattle.synth_text.specs.Rules.{is_level, has_nodes, levels_of, memory_in, description_of, pu_count, object_count, has_kind, any_of_kind, is_kind_again, is_again, first_again, from_last, wrong_end, is_large, broken}
+use Rattle.synth_text.specs.Descriptions.{Describes}
 use Rattle.synth_text.specs.Canonical.{size_texts, indexes_texts, in_parentheses, level_text, memory_text, item_texts, canonical}
 use Rattle.synth_text.specs.Sound.{IsSoundLevel, KindsDiffer, EndsInPus, IsSoundMemory, IsSound}
-use Rattle.synth_text.proofs.KindLaws.{same_kind-true, same_kind-equal, same_kind-false}
+use Rattle.synth_text.proofs.KindLaws.{same_kind-equal, same_kind-false}
 use Rattle.synth_text.proofs.RuleLaws.{refused_none, broken_none}
 use Rattle.synth_text.proofs.Texts.{each_weaker, each_at, each_joined, IsSolid, IsInner, solid_not_white, solid_is_inner}
-use Rattle.synth_text.proofs.CanonicalReading.{NamesKind, names_kind, head_text, head_solid, level_texts_solid, memory_texts_solid, no_bracket, reads_level, reads_memory}
+use Rattle.synth_text.proofs.CanonicalReading.{names_kind, head_text, head_solid, level_texts_solid, memory_texts_solid, no_bracket, reads_level, reads_memory}
 use Rattle.synth_text.proofs.CanonicalItems.{at_front, at_part, IsLevelText, IsMemoryText, Entry, IsEntry, texts_of, items_at, placed_at, EndsWith, are_items, reads_items}
 
 -- ---- the shapes of the texts
@@ -42,35 +38,43 @@ level_shape head inner some solid h =
       first = rw first (solid_not_white _ begin);
       level = rw first begin.1;
       whole = λ k lt cuts. elim (cases_lt k (length head)) [
-          | inl low ↦ absurd (not_cut _ (each_at IsSolid head solid k low) (rw (at_part head (40 ∷ (inner ++ 41 ∷ [])) k low) at cuts))
-          | inr high ↦ elim (cases_eq k (length head)) [
-              | inl here ↦ absurd (opens_not_cut (rw (here, opening head inner) at cuts))
-              | inr behind ↦
-                  (length head, omega arith, omega arith, opening head inner,
-                      λ j above below. inner_byte head inner h j above (omega arith))
-            ]
-        ];
+        | inl low ↦ absurd (not_cut _ (each_at IsSolid head solid k low) (rw (at_part head (40 ∷ (inner ++ 41 ∷ [])) k low) at cuts))
+        | inr high ↦ elim (cases_eq k (length head)) [
+          | inl here ↦ absurd (opens_not_cut (rw (here, opening head inner) at cuts))
+          | inr behind ↦ (
+            length head,
+            omega arith,
+            omega arith,
+            opening head inner,
+            λ j above below. inner_byte head inner h j above (omega arith),
+          )
+        ]
+      ];
       closed = λ inside. elim (cases_lt inside.0 (length head)) [
-          | inl low ↦ let b = each_at IsSolid head solid inside.0 low in let e = at_part head (40 ∷ (inner ++ 41 ∷ [])) inside.0 low in let at_open = rw e at inside.3 in omega (arith, b.0, at_open)
-          | inr high ↦ elim (cases_eq inside.0 (length head + (length inner + 1))) [
-              | inl last ↦ let e = inside.3 in let f = rw (last, closing head inner) at e in absurd (omega (arith, f))
-              | inr before ↦ inside.4 (length head + (length inner + 1)) (omega (arith, inside.2)) (omega arith) (closing head inner)
-            ]
-        ];
+        | inl low ↦ let b = each_at IsSolid head solid inside.0 low in let e = at_part head (40 ∷ (inner ++ 41 ∷ [])) inside.0 low in let at_open = rw e at inside.3 in omega (arith, b.0, at_open)
+        | inr high ↦ elim (cases_eq inside.0 (length head + (length inner + 1))) [
+          | inl last ↦ let e = inside.3 in let f = rw (last, closing head inner) at e in absurd (omega (arith, f))
+          | inr before ↦ inside.4 (length head + (length inner + 1)) (omega (arith, inside.2)) (omega arith) (closing head inner)
+        ]
+      ];
     }
   where
     not_cut : (b : ℕ) → IsSolid b → (is_white b || eqb b 91) ≡ true → ⊥
     not_cut b s e = elim (or_cases (is_white b) (eqb b 91) e) [ inl white ↦ both_ways _ (solid_not_white b s) white | inr bracket ↦ s.1 (eqb-true b 91 bracket) ]
+
     opens_not_cut : (is_white 40 || eqb 40 91) ≡ true → ⊥
     opens_not_cut e = absurd cc
+
     opening : (head inner : List ℕ) → get_or (head ++ 40 ∷ (inner ++ 41 ∷ [])) (length head) 0 ≡ 40
     opening head inner = let n : length head + 0 ≡ length head = omega arith in let e = at_front head (40 ∷ (inner ++ 41 ∷ [])) 0 in rw n at e
+
     closing : (head inner : List ℕ) → get_or (head ++ 40 ∷ (inner ++ 41 ∷ [])) (length head + (length inner + 1)) 0 ≡ 41
     closing head inner =
         let n : length inner + 1 ≡ suc (length inner) = omega arith in
         let m : length inner + 0 ≡ length inner = omega arith in
         let e = at_front inner (41 ∷ []) 0 in
         at_front head (40 ∷ (inner ++ 41 ∷ [])) (length inner + 1) ∙ rw n (rw m at e)
+
     inner_byte : (head inner : List ℕ) → AllByRecursion IsInner inner → (j : ℕ) → length head < j → j < length head + (length inner + 1) → get_or (head ++ 40 ∷ (inner ++ 41 ∷ [])) j 0 ≢ 41
     inner_byte head inner h j above below =
         let place : length head + suc (j - length head - 1) ≡ j = omega arith in
@@ -97,7 +101,7 @@ texts_shape head [] some solid h = plain_shape head some solid
 texts_shape head (first ∷ texts) some solid h =
     level_shape head (join_with_byte 32 (first ∷ texts)) some solid
     (each_joined IsInner 32 (first ∷ texts) ((λ e. absurd (omega arith), λ e. absurd (omega arith)))
-        (each_weaker (AllByRecursion IsSolid) (AllByRecursion IsInner) (λ text t. each_weaker IsSolid IsInner solid_is_inner text t) (first ∷ texts) h))
+    (each_weaker (AllByRecursion IsSolid) (AllByRecursion IsInner) (λ text t. each_weaker IsSolid IsInner solid_is_inner text t) (first ∷ texts) h))
 
 memory_shape : (inner : List ℕ) → AllByRecursion (λ b. b ≢ 93) inner → IsMemoryText (91 ∷ (inner ++ 93 ∷ []))
 memory_shape inner h =
@@ -232,11 +236,13 @@ levels_later (first ∷ before) items item = one first.part.level (levels_later 
 -- no level before one is of its kind, unless that is Group
 differs_before : (before : List Level) (level : Level) (rest : List Level) → KindsDiffer (before ++ level ∷ rest) → level.kind ≢ Group → AllByRecursion (λ other. other.kind ≢ level.kind) before
 differs_before [] level rest h apart = tt
-differs_before (first ∷ before) level rest h apart =
-    (elim h.0 [
-      | inl group ↦ (λ e. apart (sym e ∙ group))
-      | inr others ↦ (λ e. met before level rest others (sym e))
-    ], differs_before before level rest h.1 apart)
+differs_before (first ∷ before) level rest h apart = (
+  elim h.0 [
+    | inl group ↦ (λ e. apart (sym e ∙ group))
+    | inr others ↦ (λ e. met before level rest others (sym e))
+  ],
+  differs_before before level rest h.1 apart,
+)
   where
     met : (before : List Level) (level : Level) (rest : List Level) → AllByRecursion (λ other. other.kind ≢ first.kind) (before ++ level ∷ rest) → level.kind ≢ first.kind
     met [] level rest h = h.0
@@ -274,7 +280,7 @@ none_again before [] h once = refl
 none_again before (item ∷ items) h once =
     let first : is_again before item ≡ false = or_from _ _ (nodes_first (has_nodes item) (list_any has_nodes before) once.0) (kind_first before items item.part.level h) in
     let seen : list_any has_nodes (before ++ item ∷ []) ≡ (list_any has_nodes before || has_nodes item) =
-        list_any-append has_nodes before (item ∷ []) ∙ ap (λ b. list_any has_nodes before || b) (or_false (has_nodes item))
+    list_any-append has_nodes before (item ∷ []) ∙ ap (λ b. list_any has_nodes before || b) (or_false (has_nodes item))
     in
     rw first (none_again (before ++ item ∷ []) items (rw levels_later h) (rw seen once.1))
 
@@ -359,8 +365,8 @@ unbroken described h =
     let again = described_again described h in
     broken_none (parts_for described)
     (refused_none (parts_for described) (rw levels (some_levels described.levels h.ends))
-        (none_again [] (parts_for described) (rw levels h.differ) (entry_nodes described.levels described.memory))
-        (ends_right (parts_for described) (entry_last described.levels described.memory h.ends h.memory)) (rw levels h.few))
+    (none_again [] (parts_for described) (rw levels h.differ) (entry_nodes described.levels described.memory))
+    (ends_right (parts_for described) (entry_last described.levels described.memory h.ends h.memory)) (rw levels h.few))
     (subst (λ (d : Description). is_large d ≡ false) (sym again) (or_from _ _ (le-ltb 4096 (pu_count described) h.pus) (le-ltb 16384 (object_count described) h.objects)))
 
 pub canonical_describes : (described : Description) → IsSound described → Describes (canonical described) described

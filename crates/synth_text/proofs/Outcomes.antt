@@ -1,5 +1,5 @@
 -- What a reading says, from what the items mean.
-use Rattle.std.proofs.Common.{◌≡◌, ℕ, List, Result, Ok, Err, sym, ap, subst, ◌∙◌}
+use Rattle.std.proofs.Common.{ℕ, List, Result, Ok, Err, ap, subst, ◌∙◌}
 use Rattle.std.specs.Prelude.{IfOk}
 use Rattle.synth_text.specs.declared.description.Description.{Description}
 use Rattle.synth_text.specs.declared.fault.SynthFault.{SynthFault}

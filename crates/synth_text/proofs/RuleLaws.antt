@@ -1,5 +1,5 @@
 -- Laws of the rules on all items.
-use Rattle.std.proofs.Common.{◌≡◌, ℕ, zero, suc, ◌+◌, ◌*◌, ◌<◌, ◌≤◌, Bool, true, false, cond, List, [], ◌∷◌, ◌++◌, length, take, drop, Option, Some, None, ◌≢◌, refl, sym, ap, ◌∙◌, zero-add, arith, inl, inr}
+use Rattle.std.proofs.Common.{◌≡◌, ℕ, zero, suc, ◌+◌, ◌*◌, ◌<◌, ◌≤◌, Bool, true, false, cond, List, [], ◌∷◌, length, take, Option, Some, None, ◌≢◌, refl, sym, ◌∙◌, zero-add, arith, inl, inr}
 use Rattle.std.specs.List.{list_any, cons_option, AllByRecursion}
 use mir.Val.{bool_byte}
 use Rattle.std.specs.Prelude.{◌==◌, nat_lt, option_map, is_some}
@@ -11,7 +11,7 @@ use Rattle.synth_text.specs.declared.description.Memory.{Memory}
 use Rattle.synth_text.specs.declared.parts.Placed.{Placed}
 use Rattle.synth_text.specs.declared.fault.SynthFault.{SynthFault}
 use Rattle.synth_text.specs.declared.fault.SynthFault.TheVariants as faults
-use Rattle.synth_text.specs.Rules.{is_level, from_last, wrong_end, first_again, levels_of, description_of, arities, product, tree_size, first_of, when, is_large, broken, broken_items}
+use Rattle.synth_text.specs.Rules.{is_level, from_last, wrong_end, first_again, levels_of, description_of, arities, product, first_of, when, is_large, broken, broken_items}
 
 -- the first memory of two
 abbrev pub or_memory : Option Memory → Option Memory → Option Memory

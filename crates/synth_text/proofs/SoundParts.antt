@@ -1,5 +1,5 @@
 -- What an item says is sound.
-use Rattle.std.proofs.Common.{◌≡◌, ◌≢◌, ◌⊎◌, ℕ, zero, suc, ◌+◌, ◌*◌, ◌-◌, ◌^◌, ◌<◌, ◌≤◌, Bool, true, false, ◌&&◌, cond, List, [], ◌∷◌, length, drop, Option, Some, None, Result, Ok, Err, refl, sym, ap, subst, ◌∙◌, arith, inl, inr}
+use Rattle.std.proofs.Common.{◌≡◌, ◌≢◌, ℕ, zero, suc, ◌*◌, ◌-◌, ◌^◌, ◌<◌, ◌≤◌, Bool, true, ◌&&◌, cond, List, [], ◌∷◌, length, drop, Option, Some, None, Result, Ok, Err, refl, ap, subst, arith, inl, inr}
 use Rattle.std.specs.Prelude.{IfSome, IsSome, ◌==◌, nat_le, nat_lt, not, option_map}
 use Rattle.std.specs.Char.{is_ascii_digit, is_ascii_alphanumeric}
 use Rattle.std.specs.Str.Parse.{digits_value}
@@ -11,7 +11,6 @@ use Rattle.synth_text.specs.declared.kind.Kind.TheVariants.{Machine, Package, Di
 use Rattle.synth_text.specs.declared.name.Name.{Name}
 use Rattle.synth_text.specs.declared.name.Name.TheVariants as names
 use Rattle.synth_text.specs.declared.description.Loop.{Loop}
-use Rattle.synth_text.specs.declared.description.Level.{Level}
 use Rattle.synth_text.specs.declared.description.Indexes.{Indexes}
 use Rattle.synth_text.specs.declared.description.Indexes.TheVariants as indexes
 use Rattle.synth_text.specs.declared.attributes.Attributes.{Attributes}
@@ -25,13 +24,12 @@ use Rattle.synth_text.specs.Kinds.{is_cache}
 use Rattle.synth_text.specs.Items.{is_white}
 use Rattle.synth_text.specs.Names.{name_of}
 use Rattle.synth_text.specs.Numbers.{is_numeral, number_in}
-use Rattle.synth_text.specs.Tables.{entry_of}
-use Rattle.synth_text.specs.Cuts.{cut, first_piece, pieces, without_front}
+use Rattle.synth_text.specs.Cuts.{cut, first_piece, without_front}
 use Rattle.synth_text.specs.Flaws.{◌>>=◌, or_flaw}
-use Rattle.synth_text.specs.Sizes.{units, small_size, size_of}
+use Rattle.synth_text.specs.Sizes.{small_size, size_of}
 use Rattle.synth_text.specs.IndexTexts.{index_of, loop_of, entries_of, indexes_of}
 use Rattle.synth_text.specs.Attributes.{key_of, takes, has, no_attributes, with_value, with_word, with_next, with_words, with_first, is_empty, attributes_in, enclosed, attributes_of}
-use Rattle.synth_text.specs.Parts.{untyped_kind, level_name, head_kind, head_arity, with_arity, cut_head, head_of, level_part, cut_level, level_of, node_name, opened, memory_part, named_memory, memory_in_brackets, cut_memory, memory_of}
+use Rattle.synth_text.specs.Parts.{untyped_kind, level_name, head_kind, head_arity, with_arity, head_of, level_part, level_of, node_name, opened, memory_part, named_memory, memory_in_brackets, cut_memory, memory_of}
 use Rattle.synth_text.specs.Sound.{IsSoundLoop, AreSoundIndexes, IsSoundLevel}
 use Rattle.synth_text.proofs.Bound.{ok_is, some_is, bind_ok, or_flaw-ok, guard_ok, guard_some, and_then_some, option_map_some}
 use Rattle.synth_text.proofs.CutLaws.{slice_split-first_piece}

@@ -1,6 +1,6 @@
 -- What the items describe is sound, where each says something sound and no rule is broken.
-use Rattle.std.proofs.Common.{◌≡◌, ◌≢◌, ◌⊎◌, ℕ, ◌+◌, ◌<◌, ◌≤◌, Bool, true, false, ◌||◌, ◌&&◌, cond, List, [], ◌∷◌, ◌++◌, length, Option, Some, None, Result, Ok, Err, refl, sym, ap, subst, ◌∙◌, zero-add, arith, inl, inr}
-use Rattle.std.specs.Prelude.{IfSome, IsSome, is_some, not, nat_lt}
+use Rattle.std.proofs.Common.{◌≡◌, ◌≢◌, ℕ, ◌+◌, ◌<◌, ◌≤◌, Bool, true, false, ◌&&◌, List, [], ◌∷◌, ◌++◌, length, Option, Some, None, Ok, refl, sym, ap, subst, ◌∙◌, zero-add, arith, inl, inr}
+use Rattle.std.specs.Prelude.{IfSome, IsSome, is_some, nat_lt}
 use Rattle.std.specs.List.{AllByRecursion, list_any, cons_option}
 use Rattle.std.proofs.lemmas.Bool.{cases_Bool, both_ways, or_cases, or_parts, or_left, or_right, ltb-false}
 use Rattle.std.proofs.lemmas.List.Folds.{list_any-append}
@@ -17,13 +17,13 @@ use Rattle.synth_text.specs.declared.fault.SynthFault.{SynthFault}
 use Rattle.synth_text.specs.Items.{body_of}
 use Rattle.synth_text.specs.Kinds.{same_kind}
 use Rattle.synth_text.specs.Flaws.{◌>>=◌, placed}
-use Rattle.synth_text.specs.Parts.{untyped_kind, level_of, memory_of}
-use Rattle.synth_text.specs.Rules.{is_level, has_nodes, levels_of, level_count, memory_at, memory_in, description_of, pu_count, object_count, has_kind, any_of_kind, is_kind_again, is_again, first_again, from_last, wrong_end, is_large, broken, broken_items, unless_broken}
-use Rattle.synth_text.specs.Descriptions.{level_items, part_of, placed_part, parts_of, meaning, ComesTo, Describes}
+use Rattle.synth_text.specs.Parts.{untyped_kind}
+use Rattle.synth_text.specs.Rules.{is_level, has_nodes, levels_of, level_count, memory_at, memory_in, description_of, pu_count, object_count, has_kind, any_of_kind, is_kind_again, is_again, first_again, from_last, wrong_end, broken, unless_broken}
+use Rattle.synth_text.specs.Descriptions.{level_items, part_of, placed_part, parts_of, meaning}
 use Rattle.synth_text.specs.Sound.{IsSoundLevel, KindsDiffer, EndsInPus, IsSoundMemory, IsSound}
 use Rattle.synth_text.proofs.Bound.{ok_is, bind_ok, placed-ok}
 use Rattle.synth_text.proofs.KindLaws.{same_kind-true, same_kind-refl, same_kind-equal, same_kind-false}
-use Rattle.synth_text.proofs.RuleLaws.{ItemsHold, items_hold, broken-last, nothing_broken}
+use Rattle.synth_text.proofs.RuleLaws.{items_hold, nothing_broken}
 use Rattle.synth_text.proofs.SoundParts.{SoundNodes, SoundPart, level_sound, memory_sound, untyped_no_machine}
 
 -- ---- each item

@@ -1,10 +1,9 @@
 -- Bytes of canonical texts.
-use Rattle.std.proofs.Common.{◌≡◌, ◌≢◌, ◌⊎◌, ℕ, zero, suc, ◌+◌, ◌-◌, ◌^◌, ◌<◌, ◌≤◌, Bool, true, false, ◌&&◌, ◌||◌, cond, leb, eqb, List, [], ◌∷◌, ◌++◌, length, get_or, map, Option, Some, None, refl, sym, ap, subst, ◌∙◌, arith, inl, inr}
-use Rattle.std.specs.Prelude.{not, decimal, ◌==◌}
-use Rattle.std.specs.Char.{digit_value}
-use Rattle.std.specs.Str.Parse.{IsNumeral, AllDigits}
-use Rattle.std.specs.List.{AllByRecursion, list_all, join_with_byte, slice_split, onto_first}
-use Rattle.std.proofs.lemmas.Bool.{and_parts, leb-true, eqb-false, ne_eqb, eq-eqb, not-true, or_from, cases_Bool}
+use Rattle.std.proofs.Common.{◌≡◌, ◌≢◌, ℕ, zero, suc, ◌^◌, ◌<◌, ◌≤◌, Bool, true, false, ◌&&◌, leb, eqb, List, [], ◌∷◌, ◌++◌, length, get_or, refl, ap, ◌∙◌, arith}
+use Rattle.std.specs.Prelude.{not, decimal}
+use Rattle.std.specs.Str.Parse.{AllDigits}
+use Rattle.std.specs.List.{AllByRecursion, list_all, join_with_byte, slice_split}
+use Rattle.std.proofs.lemmas.Bool.{and_parts, leb-true, eqb-false, ne_eqb, not-true, or_from}
 use Rattle.std.proofs.lemmas.Fmt.{decimal_is_IsNumeral}
 use Rattle.std.proofs.lemmas.Str.Parse.{digit_from_value}
 use Rattle.synth_text.specs.Items.{is_white}

@@ -16,5 +16,4 @@ pub fn described_is_sound()
 /// that `write` makes of it.
 pub fn canonical_text_describes()
     ensures { CanonicalDescribes }
-{
-}
+{}

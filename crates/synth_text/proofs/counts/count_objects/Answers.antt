@@ -1,5 +1,4 @@
-use Rattle.std.proofs.Common.{◌≡◌, ◌+◌, ◌*◌, ◌≤◌, ◌<◌, ◌∷◌, drop, arith}
-use Rattle.std.specs.List.{AllByRecursion}
+use Rattle.std.proofs.Common.{◌≡◌, ◌+◌, ◌*◌, ◌≤◌, ◌∷◌, drop, arith}
 use Rattle.synth_text.specs.Rules.{arities, product, tree_size}
 use Rattle.synth_text.proofs.Lists.{drop_element}
 use Rattle.synth_text.proofs.RuleLaws.{product_some, product_goes_on, tree_goes_on, product_over}

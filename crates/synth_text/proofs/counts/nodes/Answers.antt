@@ -1,6 +1,6 @@
-use Rattle.std.proofs.Common.{◌≡◌, ◌≤◌, ℕ, take, arith, sym, ap, ◌∙◌}
+use Rattle.std.proofs.Common.{ℕ, take, arith, sym, ap, ◌∙◌}
 use Rattle.std.proofs.lemmas.List.{take_min, take-map}
-use Rattle.synth_text.specs.Rules.{arities, product, node_count}
+use Rattle.synth_text.specs.Rules.{arities, product}
 use Rattle.synth_text.proofs.RuleLaws.{product-take-le}
 use Rattle.synth_text.proofs.counts.nodes.Goals as goal
 

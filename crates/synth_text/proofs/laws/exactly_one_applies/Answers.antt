@@ -1,5 +1,5 @@
-use Rattle.std.proofs.Common.{◌≡◌, ℕ, List, Result, refl, sym, ap, ◌∙◌}
-use Rattle.synth_text.specs.Descriptions.{ComesTo, meaning}
+use Rattle.std.proofs.Common.{refl, sym, ap, ◌∙◌}
+use Rattle.synth_text.specs.Descriptions.{meaning}
 use Rattle.synth_text.proofs.ItemLaws.{same_items, some_items}
 use Rattle.synth_text.proofs.laws.exactly_one_applies.Goals as goal
 

@@ -1,4 +1,4 @@
-use Rattle.std.proofs.Common.{sym, ◌∙◌, arith}
+use Rattle.std.proofs.Common.{sym, ◌∙◌}
 use Rattle.synth_text.proofs.RuleLaws.{refused_empty, refused_again, refused_end, refused_many, refused_none}
 use Rattle.synth_text.proofs.rules.check_items.Goals as goal
 

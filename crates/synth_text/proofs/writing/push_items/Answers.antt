@@ -1,7 +1,7 @@
 use Rattle.std.proofs.Common.{◌≡◌, ℕ, List, ◌++◌, take, drop, map, ap, ◌∙◌}
 use Rattle.std.proofs.lemmas.List.{take_min}
 use Rattle.std.proofs.lemmas.Result.{on_ok_weaker}
-use Rattle.synth_text.specs.Canonical.{joined_before, joined_behind, level_text, memory_text}
+use Rattle.synth_text.specs.Canonical.{joined_behind, level_text, memory_text}
 use Rattle.synth_text.proofs.Lists.{joined_all, drop_min}
 use Rattle.synth_text.proofs.writing.push_items.Goals as goal
 
