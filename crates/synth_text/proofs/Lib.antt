@@ -15,3 +15,4 @@ pub mod Texts
 pub mod CanonicalReading
 pub mod CanonicalItems
 pub mod CanonicalRules
+pub mod Refusals

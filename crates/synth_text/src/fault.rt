@@ -62,10 +62,15 @@ impl<T: Drop> From<AllocFailed<T>> for SynthFault {
 /// What is wrong with an item, apart from its place.
 #[derive(Clone, Copy, Debug, PartialEq, Eq)]
 pub enum Flaw {
+    /// The name of its kind.
     Name,
+    /// Its arity.
     Arity,
+    /// Its parentheses, a key, a size or the place of one.
     Attribute,
+    /// The value of `indexes`.
     Indexes,
+    /// Memory ran out.
     OutOfMemory,
 }
 

@@ -61,6 +61,10 @@ fn canonical_texts(rt: HostRuntime) -> Result<(), Fail> {
                 b"Package:2 [NUMANode(memory=0)] L3Cache:1(size=18446742974197923840) PU:2(indexes=4294967295)",
             ),
             (
+                b"Package:2 [NUMANode(memory=34359738368)] L3Cache:1(size=33554432) L2Cache:16(size=1048576) L1dCache:1(size=32768) L1iCache:1(size=32768) Core:1 PU:2(indexes=2*32:1*2)",
+                b"Package:2 [NUMANode(memory=34359738368)] L3Cache:1(size=33554432) L2Cache:16(size=1048576) L1dCache:1(size=32768) L1iCache:1(size=32768) Core:1 PU:2(indexes=2*32:1*2)",
+            ),
+            (
                 b"Package:3 Group:1365 Group:1 Group:1 PU:1",
                 b"Package:3 Group:1365 Group:1 Group:1 PU:1",
             ),
@@ -163,4 +167,31 @@ fn refused_texts(rt: HostRuntime) {
             (b"Core:1 Core:1", SynthFault::RepeatedType { at: 7 }),
         ],
     );
+}
+
+#[test]
+fn memory_stands_behind_its_carrier(rt: HostRuntime) -> Result<(), Fail> {
+    let description = read(rt.alloc(), b"Package:2 numa:3(memory=1MB) PU:1")?;
+    let memory = description.memory.as_ref().ok_or("memory is attached")?;
+    assert_eq!(rt; memory.above, 2);
+    assert_eq!(rt; memory.size, Some(1_000_000));
+    let levels = description.levels.into_vec();
+    assert_eq!(rt; levels.len(), 3);
+    assert_eq!(rt; levels[1].kind, Kind::Group);
+    assert_eq!(rt; Sequence::from_vec(levels).as_slice().len(), 3);
+    Ok(())
+}
+
+#[test]
+fn words_name_kinds(rt: HostRuntime) {
+    assert_eq!(rt; read_name(b"Machine"), Some(Name::Kind(Kind::Machine)));
+    assert_eq!(rt; read_name(b"GROUP"), Some(Name::Kind(Kind::Group)));
+    assert_eq!(rt; read_name(b"group01"), Some(Name::Group(1)));
+    assert_eq!(rt; read_name(b"group99999999999"), Some(Name::Group(u32::MAX)));
+    assert_eq!(rt; read_name(b"group-1"), None);
+    assert_eq!(rt; read_name(b"l1Cache"), Some(Name::Kind(Kind::L1d)));
+    assert_eq!(rt; read_name(b"l5cachecache"), None);
+    assert_eq!(rt; read_name(b""), None);
+    assert_eq!(rt; Kind::L1i.short_name(), b"L1i".as_slice());
+    assert_eq!(rt; Kind::L1i.long_name(), b"L1iCache".as_slice());
 }
