@@ -1,5 +1,5 @@
 -- No text is refused for want of memory: that is no rule.
-use Rattle.std.proofs.Common.{◌≡◌, ℕ, ◌-◌, ◌^◌, Bool, true, false, ◌&&◌, ◌||◌, cond, List, [], ◌∷◌, length, get_or, drop, Option, Some, None, Result, Ok, Err, refl, sym, ap, ◌∙◌}
+use Rattle.std.proofs.Common.{◌≡◌, ℕ, ◌-◌, ◌^◌, Bool, true, false, ◌&&◌, cond, List, [], ◌∷◌, length, get_or, drop, Option, Some, None, Result, Ok, Err, refl, ap}
 use Rattle.std.specs.Prelude.{not, option_map, ◌==◌, nat_lt}
 use Rattle.std.specs.List.{AllByRecursion, list_all, slice_split, take_while}
 use Rattle.std.specs.Char.{is_ascii_alphanumeric}
@@ -26,9 +26,9 @@ use Rattle.synth_text.specs.Flaws.{◌>>=◌, or_flaw, fault_at, placed}
 use Rattle.synth_text.specs.Sizes.{size_of}
 use Rattle.synth_text.specs.IndexTexts.{indexes_of}
 use Rattle.synth_text.specs.Attributes.{key_of, takes, has, no_attributes, with_value, with_word, with_next, with_words, with_first, is_empty, attributes_in, closed, enclosed, attributes_of}
-use Rattle.synth_text.specs.Parts.{untyped_kind, level_name, head_kind, head_arity, with_arity, cut_head, head_of, level_part, cut_level, level_of, node_name, opened, memory_part, named_memory, memory_in_brackets, cut_memory, memory_of}
+use Rattle.synth_text.specs.Parts.{untyped_kind, level_name, head_kind, head_arity, with_arity, head_of, level_part, level_of, node_name, opened, memory_part, named_memory, memory_in_brackets, cut_memory, memory_of}
 use Rattle.synth_text.specs.Rules.{levels_of, first_again, from_last, wrong_end, when, first_of, is_large, broken, unless_broken, description_of}
-use Rattle.synth_text.specs.Descriptions.{level_items, part_of, placed_part, parts_of, meaning, ComesTo}
+use Rattle.synth_text.specs.Descriptions.{level_items, part_of, placed_part, parts_of, meaning}
 
 -- ---- readings of one item
 
