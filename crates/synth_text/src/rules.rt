@@ -12,6 +12,9 @@ use crate::parts::{Nodes, Part, Placed};
 use crate::sequence::Sequence;
 use std::alloc::{AllocError, Global};
 
+// How many levels a description may have.
+const LEVEL_LIMIT: usize = 16;
+
 /// What the items describe, where no rule is broken.
 pub fn described(alloc: Global, parts: Vec<Placed>) -> Result<Description, SynthFault>
     requires { AllByRecursion (λ level. 1 ≤ level.arity) (levels_of parts.items) }
@@ -39,7 +42,7 @@ fn check_items(parts: &[Placed]) -> Result<(), SynthFault>
     if let Some(at) = wrong_end(from_last_level(parts)) {
         return Err(SynthFault::LastNotPu { at });
     }
-    if levels > 16 {
+    if levels > LEVEL_LIMIT {
         return Err(SynthFault::TooManyLevels);
     }
     Ok(())

@@ -14,12 +14,12 @@ returns-in-Some-wrong_end c =
     sym (refused_end c.args.parts.now c.in-Some-wrong_end.at (λ none. c.if-levels-eq0.false (c.count_levels-levels.ensures ∙ none)) (sym c.in_default.ensures)
     (sym (rw c.from_last_level.ensures at c.in-Some-wrong_end.ensures)))
 
-pub returns-then-levels-gt16 : goal.returns-then-levels-gt16
-returns-then-levels-gt16 c =
+pub returns-then-levels-gt-LEVEL_LIMIT : goal.returns-then-levels-gt-LEVEL_LIMIT
+returns-then-levels-gt-LEVEL_LIMIT c =
     sym (refused_many c.args.parts.now (λ none. c.if-levels-eq0.false (c.count_levels-levels.ensures ∙ none)) (sym c.in_default.ensures)
-    (sym (rw c.from_last_level.ensures at c.in_default-wrong_end.ensures)) (rw c.count_levels-levels.ensures at c.if-levels-gt16.true))
+    (sym (rw c.from_last_level.ensures at c.in_default-wrong_end.ensures)) (rw c.count_levels-levels.ensures at c.if-levels-gt-LEVEL_LIMIT.true))
 
 pub returns : goal.returns
 returns c =
     sym (refused_none c.args.parts.now (λ none. c.if-levels-eq0.false (c.count_levels-levels.ensures ∙ none)) (sym c.in_default.ensures)
-    (sym (rw c.from_last_level.ensures at c.in_default-wrong_end.ensures)) (rw c.count_levels-levels.ensures at c.if-levels-gt16.false))
+    (sym (rw c.from_last_level.ensures at c.in_default-wrong_end.ensures)) (rw c.count_levels-levels.ensures at c.if-levels-gt-LEVEL_LIMIT.false))
