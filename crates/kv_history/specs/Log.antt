@@ -64,10 +64,11 @@ VoidIsSilent entries = All (λ entry. entry.void ≡ true → entry.reply ≡ []
 abbrev pub NoneVoid : List Logged → Type 0
 NoneVoid entries = All (λ entry. entry.void ≡ false) entries
 
--- each caller has a section, and the commands of its entries are the first ones of that section, in its order
+-- the caller of each entry has a section
 abbrev pub EachHasSection : Log → Type 0
 EachHasSection log = All (λ entry. entry.caller < length log.sections) log.entries
 
+-- the commands of each caller's entries are the first ones of its section, in its order
 abbrev pub EachOwnFirst : Log → Type 0
 EachOwnFirst log =
     (caller : ℕ) (section : List ℕ) → slice_get log.sections caller ≡ Some section → (rest : List WholeCommand) × (commands_of section ≡ own log.entries caller ++ rest)

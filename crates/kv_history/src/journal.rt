@@ -2,8 +2,9 @@
 ghost use Rattle.std.specs.Prelude.{◌≡◌, ◌^◌, ◌<◌, ◌≤◌, ◌↔◌, ◌++◌, ◌∷◌, [], length, map, option_map, slice_get, sum_by, vec_capacity, vec_len, not, IfOk, IsTrue, OnErr, OnOk, Some};
 ghost use Rattle.std.specs.Bool.{OnTrue};
 ghost use Rattle.std.specs.List.{list_all};
-ghost use Rattle.mc_text.specs.Request.{view};
+ghost use Rattle.mc_text.specs.Request.{request_of, view};
 ghost use Rattle.mc_text.specs.Reading.{commands_of};
+ghost use Rattle.kv_history.specs.Answer.{store_after};
 ghost use Rattle.kv_history.specs.Log.{IsNext, IsOneThread, NoneVoid, VoidIsSilent, EachHasSection, EachOwnFirst, applied, applied_entry, void_entry, store_now};
 
 use crate::Store;
@@ -76,8 +77,10 @@ impl<'a> Journal<'a> {
         requires { IsNext self.old caller (view command) }
         ensures sections { self.new.sections ≡ self.old.sections }
         ensures applied { OnOk result (self.new.entries ≡ self.old.entries ++ applied_entry self.old.entries caller (view command.entry) ∷ []) }
+        ensures store { OnOk result (store_now self.new.entries ≡ store_after (store_now self.old.entries) (request_of command.entry)) }
         ensures place { IfOk result (λ receipt. receipt.turn ≡ length self.old.entries) }
         ensures void { OnErr result (self.new.entries ≡ self.old.entries ++ void_entry caller (view command.entry) ∷ []) }
+        ensures store_stays { OnErr result (store_now self.new.entries ≡ store_now self.old.entries) }
     {
         let mut reply = Vec::new(self.alloc);
         let answered = self.store.answer(&command, &mut reply);
@@ -164,7 +167,7 @@ fn commands_in(sections: &[&[u8]]) -> u32
     commands
 }
 
-// Puts a record into room that is there.
+// Puts a record into room that is there, so the push succeeds.
 fn put<'a>(records: &mut Vec<Record<'a>>, last: Record<'a>)
     requires { vec_len records.old < vec_capacity records.old }
     ensures items { records.new.items ≡ records.old.items ++ last.entry ∷ [] }

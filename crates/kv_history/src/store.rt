@@ -65,6 +65,7 @@ impl Store {
                 quiet,
                 ..
             } => {
+                // With this room, nothing fails once the item is stored.
                 reply.reserve(STORED.len())?;
                 self.set(key, flags, exptime, block)?;
                 if !quiet {

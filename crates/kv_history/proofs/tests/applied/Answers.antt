@@ -1,7 +1,7 @@
-use Rattle.std.proofs.Common.{◌≡◌, ◌∙◌, ◌++◌, ◌∷◌, [], List, false, refl, sym, ap, subst, append_assoc}
+use Rattle.std.proofs.Common.{◌≡◌, ◌∙◌, ◌++◌, ◌∷◌, [], false, refl, sym, ap, subst, append_assoc}
 use Rattle.std.proofs.lemmas.List.{map-append}
 use Rattle.std.proofs.lemmas.List.Elements.{All-push}
-use Rattle.mc_text.specs.Request.{WholeCommand, view}
+use Rattle.mc_text.specs.Request.{view}
 use Rattle.mc_text.specs.Commands.{left}
 use Rattle.mc_text.specs.Reading.{commands_of}
 use Rattle.kv_history.specs.Log.{Logged, NoneVoid, applied_entry, commands, own}

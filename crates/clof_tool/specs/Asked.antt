@@ -1,0 +1,7 @@
+-- What the code's reading of the words says, without where its texts lie in memory.
+use Rattle.clof_tool.specs.declared.words.Asked.{Asked}
+use Rattle.clof_tool.specs.declared.words.Asked.TheVariants as asked
+use Rattle.clof_tool.specs.Words as words
+
+abbrev pub plain : Asked → words.Asked
+plain asked.Run = words.Run

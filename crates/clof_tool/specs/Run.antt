@@ -1,0 +1,24 @@
+-- What `run` prints.
+use Rattle.std.specs.Prelude.{◌≡◌, ◌≢◌, ◌≤◌, ◌<◌, ℕ, List, [], length, ◌⊎◌}
+use Rattle.placed_runner.specs.Input.{IsServed}
+use Rattle.placed_runner.specs.Text.{section_text}
+
+-- the greatest length of an input
+abbrev pub input_limit : ℕ
+input_limit = 16777216
+
+-- the input is one section that can be served, and the text is that of its commands, with the replies of the replay
+-- on the empty store; its caller stands on PU 0
+pub record IsTextOfSection (input text : List ℕ) : Type 0 where
+  pub bytes : List ℕ
+  pub served : IsServed input bytes
+  pub printed : text ≡ section_text 0 bytes
+
+-- what `run` prints for an input: nothing for the empty one, and else the text of its section
+abbrev pub Prints : List ℕ → List ℕ → Type 0
+Prints input text = ((input ≡ []) × (text ≡ [])) ⊎ IsTextOfSection input text
+
+-- an input that isn't empty and isn't one section that can be served
+pub record IsNotYet (input : List ℕ) : Type 0 where
+  pub some : input ≢ []
+  pub none_served : (bytes : List ℕ) → IsServed input bytes → ⊥

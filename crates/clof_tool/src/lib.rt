@@ -1,0 +1,17 @@
+//! The program's command line, and the one call that does all that the program does.
+#![tactic(auto)]
+
+mod made;
+mod outcome;
+mod report;
+mod running;
+mod status;
+mod top_call;
+mod words;
+
+pub use status::{Fault, Status};
+pub use top_call::top;
+
+
+#[cfg(test)]
+mod tests;

@@ -1,0 +1,48 @@
+// The text that is printed, all of it before the first write.
+ghost use Rattle.std.specs.Prelude.{◌≡◌, ◌≢◌, ◌≤◌, ◌+◌, ◌⊎◌, ℕ, List, length, IfErr, IfOk, IsOk, OnOk};
+ghost use Rattle.edge_io.specs.Counts.{Rose, RisesBy};
+ghost use Rattle.edge_io.specs.Contents.{IsAtEnd};
+ghost use Rattle.clof_tool.specs.declared.status.Status.{Status as AnyStatus};
+ghost use Rattle.clof_tool.specs.declared.status.Fault.{Fault as AnyFault};
+ghost use Rattle.clof_tool.specs.Asked.{plain};
+ghost use Rattle.clof_tool.specs.Run.{input_limit};
+ghost use Rattle.clof_tool.specs.Outcome.{ReadsInput, IsInput, IsAnswer, Refuses, IsRefusal, HasWritten};
+
+use crate::running::run_text;
+use crate::words::Asked;
+use crate::{Fault, Status};
+use edge_io::{ReadAllFault, Source, read_all};
+use std::alloc::Global;
+
+// The greatest length of an input.
+const INPUT_LIMIT: usize = 16_777_216;
+
+/// The text that is printed, or the status where there is none.
+pub(crate) fn make<S: Source>(
+    alloc: Global,
+    asked: Asked,
+    source: &mut S,
+) -> Result<Vec<u8>, Status>
+    ensures answer { IfOk result (λ text. (input : List ℕ) → IsInput (plain asked) (S.left source.old) input → IsAnswer (plain asked) input text.items) }
+    ensures at_end { OnOk result (ReadsInput (plain asked) → IsAtEnd (S.left source.new)) }
+    ensures unread { (ReadsInput (plain asked) → ⊥) → source.new ≡ source.old }
+    ensures refusal { IfErr result (λ status. IsRefusal status → (input : List ℕ) → IsInput (plain asked) (S.left source.old) input → Refuses (plain asked) input status) }
+    ensures limit { (fault : AnyFault) → ReadsInput (plain asked) → result ≡ Err (Status.Limit fault) → RisesBy (input_limit + 1) (S.given source.old) (S.given source.new) }
+    ensures silent { IfErr result (λ status. HasWritten status → ⊥) }
+    ensures not_usage { result ≢ Err Status.Usage }
+    ensures read_fault { result ≡ Err Status.ReadFault → ReadsInput (plain asked) × Rose (S.faults source.old) (S.faults source.new) }
+    ensures read_calm { result ≢ Err Status.ReadFault → S.faults source.new ≡ S.faults source.old }
+    ensures refused { (input : List ℕ) (status : AnyStatus) → IsInput (plain asked) (S.left source.old) input → Refuses (plain asked) input status →
+        (Rose (S.faults source.old) (S.faults source.new) → ⊥) → (result ≡ Err status) ⊎ (result ≡ Err Status.OutOfMemory) }
+    ensures complete { (input text : List ℕ) → IsInput (plain asked) (S.left source.old) input → IsAnswer (plain asked) input text →
+        (Rose (S.faults source.old) (S.faults source.new) → ⊥) → IsOk result ⊎ (result ≡ Err Status.OutOfMemory) }
+{
+    match asked {
+        Asked::Run => match read_all(alloc, source, INPUT_LIMIT) {
+            Ok(input) => run_text(alloc, &input),
+            Err(ReadAllFault::Fault) => Err(Status::ReadFault),
+            Err(ReadAllFault::TooLong) => Err(Status::Limit(Fault::Input)),
+            Err(ReadAllFault::OutOfMemory) => Err(Status::OutOfMemory),
+        },
+    }
+}

@@ -1,0 +1,296 @@
+// The top call over sources and sinks in memory.
+use crate::{Fault, Status, top};
+use edge_io::{MemSink, MemSource, SureSink, SureSource};
+use placed_runner::SectionFault;
+use std::alloc::Global;
+use std::process::Abort;
+use std::sync::Wait;
+use std::test::Fail;
+use std::thread::Threads;
+
+// How a call ended, what it wrote to the output, and what to standard error.
+#[derive(Drop)]
+struct Ended {
+    status: Status,
+    out: Vec<u8>,
+    err: Vec<u8>,
+}
+
+fn call<R: Threads + Wait + Sync>(
+    rt: &R,
+    alloc: Global,
+    words: &[&str],
+    input: Vec<u8>,
+) -> Result<Ended, Fail> {
+    let mut owned = Vec::new(alloc);
+    for word in words {
+        owned.push(String::from_str(alloc, word)?)?;
+    }
+    let mut source = SureSource::new(input);
+    let mut out = SureSink::new(alloc, 4_000_000)?;
+    let mut err = SureSink::new(alloc, 100)?;
+    let status = top(rt, alloc, &owned, &mut source, &mut out, &mut err);
+    Ok(Ended {
+        status,
+        out: out.bytes().to_vec(alloc)?,
+        err: err.bytes().to_vec(alloc)?,
+    })
+}
+
+// Checks how `run` ends on an input.
+fn ends<R: Threads + Wait + Sync + Abort>(
+    rt: &R,
+    alloc: Global,
+    input: &[u8],
+    status: Status,
+    out: &[u8],
+    err: &[u8],
+) -> Result<(), Fail> {
+    let ended = call(rt, alloc, &["run"], input.to_vec(alloc)?)?;
+    assert_eq!(rt; ended.status, status);
+    assert_eq!(rt; ended.out.as_slice(), out);
+    assert_eq!(rt; ended.err.as_slice(), err);
+    Ok(())
+}
+
+const NOT_YET: Status = Status::Malformed(Fault::Section(SectionFault::NotYet));
+
+#[test]
+fn serves_one_section(rt: HostRuntime) -> Result<(), Fail> {
+    let cases: [(&[u8], &[u8]); 4] = [
+        (b"", b""),
+        (b"worker * 0\n\n", b"caller 0 pu 0 commands 0 rest 0\n"),
+        (b"worker * 5\nget a\n", b"caller 0 pu 0 commands 0 rest 5\n"),
+        (
+            b"worker * 23\nset a 5 0 1\r\nx\r\nget a\r\n\n",
+            b"turn 0 caller 0 pu 0 climb 0 tests 0 left 0 \"set a 5 0 1\\r\\nx\\r\\n\" \"STORED\\r\\n\"\nturn 1 caller 0 pu 0 climb 0 tests 0 left 0 \"get a\\r\\n\" \"VALUE a 5 1\\r\\nx\\r\\nEND\\r\\n\"\ncaller 0 pu 0 commands 2 rest 0\n",
+        ),
+    ];
+    for (input, text) in cases {
+        ends(&rt, rt.alloc(), input, Status::Ok, text, b"")?;
+    }
+    Ok(())
+}
+
+#[test]
+fn refuses_what_is_not_built(rt: HostRuntime) -> Result<(), Fail> {
+    let cases: [&[u8]; 14] = [
+        b"worker * 10\ndelete a\r\n\n",
+        b"worker pu:0 0\n\n",
+        b"worker * 0\n\nworker * 0\n\n",
+        b"worker * 9\nget a\r\n\n",
+        b"worker * 7\nget a\r\n",
+        b"worker * 7\nget a\r\n\nx",
+        b"worker *  7\nget a\r\n\n",
+        b"worker * 00000000007\nget a\r\n\n",
+        b"worker * \n\n",
+        b"walker * 0\n\n",
+        b"worker * 0",
+        b"\n",
+        b"worker * 17\nset a 0 0 1\r\nxy\r\n\n",
+        b"worker * 8\nget a\tb\n\n",
+    ];
+    for input in cases {
+        ends(&rt, rt.alloc(), input, NOT_YET, b"", b"clof: section NotYet\n")?;
+    }
+    Ok(())
+}
+
+#[test]
+fn refuses_other_words(rt: HostRuntime) -> Result<(), Fail> {
+    let cases: [&[&str]; 5] = [&[], &["frob"], &["run", "PU:1"], &["Run"], &[""]];
+    for words in cases {
+        let ended = call(&rt, rt.alloc(), words, b"worker * 0\n\n".to_vec(rt.alloc())?)?;
+        assert_eq!(rt; ended.status, Status::Usage);
+        assert_eq!(rt; ended.out.len(), 0);
+        assert_eq!(rt; ended.err.as_slice(), b"clof: usage\n".as_slice());
+    }
+    Ok(())
+}
+
+// Appends the input with one section of these bytes.
+fn push_input(input: &mut Vec<u8>, section: &[u8]) -> Result<(), Fail> {
+    input.extend_from_slice(b"worker * ")?;
+    byte_text::push_decimal(input, section.len() as u64)?;
+    input.push(b'\n')?;
+    input.extend_from_slice(section)?;
+    input.push(b'\n')?;
+    Ok(())
+}
+
+// Checks the turns of a section of these bytes, each a command and its reply as they are printed, and its rest.
+fn serves<R: Threads + Wait + Sync + Abort>(
+    rt: &R,
+    alloc: Global,
+    section: &[u8],
+    turns: &[(&str, &str)],
+    rest: usize,
+) -> Result<(), Fail> {
+    let mut input = Vec::new(alloc);
+    push_input(&mut input, section)?;
+    let mut text = Vec::new(alloc);
+    for (number, (command, reply)) in turns.iter().enumerate() {
+        text.extend_from_slice(b"turn ")?;
+        byte_text::push_decimal(&mut text, number as u64)?;
+        text.extend_from_slice(b" caller 0 pu 0 climb 0 tests 0 left 0 \"")?;
+        text.extend_from_slice(command.as_bytes())?;
+        text.extend_from_slice(b"\" \"")?;
+        text.extend_from_slice(reply.as_bytes())?;
+        text.extend_from_slice(b"\"\n")?;
+    }
+    text.extend_from_slice(b"caller 0 pu 0 commands ")?;
+    byte_text::push_decimal(&mut text, turns.len() as u64)?;
+    text.extend_from_slice(b" rest ")?;
+    byte_text::push_decimal(&mut text, rest as u64)?;
+    text.push(b'\n')?;
+    ends(rt, alloc, &input, Status::Ok, &text, b"")
+}
+
+const STORED: &str = "STORED\\r\\n";
+
+const END: &str = "END\\r\\n";
+
+#[test]
+fn serves_sets_and_gets(rt: HostRuntime) -> Result<(), Fail> {
+    let alloc = rt.alloc();
+    serves(
+        &rt,
+        alloc,
+        b"set a 0 0 1 noreply\r\nx\r\nget a\n",
+        &[
+            ("set a 0 0 1 noreply\\r\\nx\\r\\n", ""),
+            ("get a\\n", "VALUE a 0 1\\r\\nx\\r\\nEND\\r\\n"),
+        ],
+        0,
+    )?;
+    serves(
+        &rt,
+        alloc,
+        b"set a 0 -1 1\r\nx\r\nget a\r\nset b 0 -0 1\r\ny\r\nget b\r\n",
+        &[
+            ("set a 0 -1 1\\r\\nx\\r\\n", STORED),
+            ("get a\\r\\n", END),
+            ("set b 0 -0 1\\r\\ny\\r\\n", STORED),
+            ("get b\\r\\n", "VALUE b 0 1\\r\\ny\\r\\nEND\\r\\n"),
+        ],
+        0,
+    )?;
+    serves(
+        &rt,
+        alloc,
+        b"set a 007 0 2\r\n\r\n\r\nset b 1 0 4\r\n\0\"\\\xff\r\nget a b a\r\n",
+        &[
+            ("set a 007 0 2\\r\\n\\r\\n\\r\\n", STORED),
+            ("set b 1 0 4\\r\\n\\x00\\\"\\\\\\xff\\r\\n", STORED),
+            (
+                "get a b a\\r\\n",
+                "VALUE a 7 2\\r\\n\\r\\n\\r\\nVALUE b 1 4\\r\\n\\x00\\\"\\\\\\xff\\r\\nVALUE a 7 2\\r\\n\\r\\n\\r\\nEND\\r\\n",
+            ),
+        ],
+        0,
+    )
+}
+
+#[test]
+fn leaves_a_cut_command_as_the_rest(rt: HostRuntime) -> Result<(), Fail> {
+    let whole = b"get k\r\nset abc 1 2 3 noreply\r\nxyz\r\n";
+    for length in 7..whole.len() {
+        serves(
+            &rt,
+            rt.alloc(),
+            &whole[..length],
+            &[("get k\\r\\n", END)],
+            length - 7,
+        )?;
+    }
+    Ok(())
+}
+
+#[test]
+fn tells_faults_of_the_source_and_the_output(rt: HostRuntime) -> Result<(), Fail> {
+    let alloc = rt.alloc();
+    let input = b"worker * 23\nset a 5 0 1\r\nx\r\nget a\r\n\n";
+    let words = [String::from_str(alloc, "run")?];
+    let mut err = SureSink::new(alloc, 100)?;
+
+    let mut failing = MemSource::new(input.to_vec(alloc)?, 8, [1].to_vec(alloc)?);
+    let mut out = SureSink::new(alloc, 1_000)?;
+    let status = top(&rt, alloc, &words, &mut failing, &mut out, &mut err);
+    assert_eq!(rt; status, Status::ReadFault);
+    assert_eq!(rt; status.code(), 5);
+    assert_eq!(rt; out.bytes().len(), 0);
+
+    let mut source = MemSource::new(input.to_vec(alloc)?, 8, Vec::new(alloc));
+    let mut out = MemSink::new(alloc, 1_000, 5, [1].to_vec(alloc)?)?;
+    let status = top(&rt, alloc, &words, &mut source, &mut out, &mut err);
+    assert_eq!(rt; status, Status::WriteFault { written: 5 });
+    assert_eq!(rt; status.code(), 6);
+    assert_eq!(rt; out.bytes(), b"turn ".as_slice());
+
+    let mut source = MemSource::new(input.to_vec(alloc)?, 1_000, Vec::new(alloc));
+    let mut out = MemSink::new(alloc, 12, 100, Vec::new(alloc))?;
+    let status = top(&rt, alloc, &words, &mut source, &mut out, &mut err);
+    assert_eq!(rt; status, Status::WriteFault { written: 12 });
+    assert_eq!(rt; out.bytes(), b"turn 0 calle".as_slice());
+    let lines = b"clof: read fault\nclof: write fault 5\nclof: write fault 12\n";
+    assert_eq!(rt; err.bytes(), lines.as_slice());
+    Ok(())
+}
+
+// So many bytes.
+fn filled(alloc: Global, byte: u8, count: usize) -> Result<Vec<u8>, Fail> {
+    Ok(vec![in alloc; byte; count]?)
+}
+
+// An input with one section of so many bytes, which are no command; its length is told in ten digits.
+fn long_input(alloc: Global, length: usize) -> Result<Vec<u8>, Fail> {
+    let mut input = Vec::new(alloc);
+    input.extend_from_slice(b"worker * 00")?;
+    byte_text::push_decimal(&mut input, length as u64)?;
+    input.push(b'\n')?;
+    input.extend_from_slice(&filled(alloc, b'a', length)?)?;
+    input.push(b'\n')?;
+    Ok(input)
+}
+
+#[test]
+fn takes_values_and_keys_up_to_their_limits(rt: HostRuntime) -> Result<(), Fail> {
+    let alloc = rt.alloc();
+    let cases = [
+        (250, 1_048_576, Status::Ok),
+        (251, 1_048_576, NOT_YET),
+        (250, 1_048_577, NOT_YET),
+    ];
+    for (key, value, status) in cases {
+        let mut section = Vec::new(alloc);
+        section.extend_from_slice(b"set ")?;
+        section.extend_from_slice(&filled(alloc, b'k', key)?)?;
+        section.extend_from_slice(b" 0 0 ")?;
+        byte_text::push_decimal(&mut section, value as u64)?;
+        section.extend_from_slice(b"\r\n")?;
+        section.extend_from_slice(&filled(alloc, b'v', value)?)?;
+        section.extend_from_slice(b"\r\n")?;
+        let mut input = Vec::new(alloc);
+        push_input(&mut input, &section)?;
+        let ended = call(&rt, alloc, &["run"], input)?;
+        assert_eq!(rt; ended.status, status);
+        if ended.status == Status::Ok {
+            assert!(rt; ended.out.ends_with(b"\" \"STORED\\r\\n\"\ncaller 0 pu 0 commands 1 rest 0\n"));
+        }
+    }
+    serves(&rt, alloc, b"set k 0 0 4294967295\r\nx\r\n", &[], 25)
+}
+
+#[test]
+fn takes_an_input_up_to_its_limit(rt: HostRuntime) -> Result<(), Fail> {
+    let alloc = rt.alloc();
+    let ended = call(&rt, alloc, &["run"], long_input(alloc, 16_777_195)?)?;
+    assert_eq!(rt; ended.status, Status::Ok);
+    assert_eq!(rt; ended.out.as_slice(), b"caller 0 pu 0 commands 0 rest 16777195\n".as_slice());
+    let ended = call(&rt, alloc, &["run"], long_input(alloc, 16_777_196)?)?;
+    assert_eq!(rt; ended.status, Status::Limit(Fault::Input));
+    assert_eq!(rt; ended.status.code(), 4);
+    assert_eq!(rt; ended.out.len(), 0);
+    assert_eq!(rt; ended.err.as_slice(), b"clof: input\n".as_slice());
+    Ok(())
+}

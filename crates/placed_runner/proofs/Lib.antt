@@ -1,0 +1,5 @@
+pub mod Cuts
+pub mod Heads
+pub mod Histories
+pub mod Runs
+pub mod Texts
