@@ -36,6 +36,10 @@ fn canonical_texts(rt: HostRuntime) -> Result<(), Fail> {
         rt.alloc(),
         &[
             (b"PU:1", b"PU:1"),
+            (
+                b"L5:1(size=1GB) L4:1(size=2tb) L3:1(size=3KIB) L2:1(size=4Kb) L1d:1(size=5mB) L1i:1(size=6Gib) PU:1",
+                b"L5Cache:1(size=1000000000) L4Cache:1(size=2000000000000) L3Cache:1(size=3072) L2Cache:1(size=4000) L1dCache:1(size=5000000) L1iCache:1(size=6442450944) PU:1",
+            ),
             (b" \t\r\n2 \n", b"PU:2"),
             (b"2 3", b"Core:2 PU:3"),
             (b"2 3 2 07", b"Group:2 Group:3 Core:2 PU:7"),
@@ -165,6 +169,23 @@ fn refused_texts(rt: HostRuntime) {
             (b"PU:1(indexes=x foo)", SynthFault::BadIndexes { at: 0 }),
             (b"PU:1 PU:1 Core:1 [foo]", SynthFault::BadType { at: 17 }),
             (b"Core:1 Core:1", SynthFault::RepeatedType { at: 7 }),
+            (b"[foo]", SynthFault::BadType { at: 0 }),
+            (b"Core:1 PU:1()", SynthFault::BadAttr { at: 7 }),
+            (b"Core:1 PU:1(indexes=)", SynthFault::BadIndexes { at: 7 }),
+            (
+                b"Core:1 1 1 1 1 1 1 1 1 1 1 1 1 1 1 1 Core:1 1",
+                SynthFault::RepeatedType { at: 37 },
+            ),
+            (b"PU:5000 PU:5000", SynthFault::RepeatedType { at: 8 }),
+            (
+                b"1 1 1 1 1 1 1 1 1 1 1 1 1 1 1 1 Die:1",
+                SynthFault::LastNotPu { at: 32 },
+            ),
+            (b"Core:5000", SynthFault::LastNotPu { at: 0 }),
+            (
+                b"9 9 9 9 9 9 9 9 9 9 9 9 9 9 9 9 9",
+                SynthFault::TooManyLevels,
+            ),
         ],
     );
 }
