@@ -1,8 +1,7 @@
 -- Reading words one after the other.
-use Rattle.std.proofs.Common.{◌≡◌, ℕ, Bool, true, false, List, [], ◌∷◌, Option, Some, None, Result, Ok, Err, refl, sym, ap, ◌∙◌}
+use Rattle.std.proofs.Common.{◌≡◌, ℕ, List, Option, Some, None, Result, Ok, refl, sym, ◌∙◌}
 use Rattle.std.specs.Prelude.{is_some, not}
 use Rattle.std.specs.Borrow.{Bor}
-use Rattle.std.specs.List.{slice_split}
 use Rattle.synth_text.specs.Views.{text_at}
 use Rattle.synth_text.specs.declared.kind.Kind.{Kind}
 use Rattle.synth_text.specs.declared.attributes.Attributes.{Attributes}
@@ -11,7 +10,7 @@ use Rattle.synth_text.specs.declared.fault.Flaw.TheVariants as flaws
 use Rattle.synth_text.specs.Items.{is_white}
 use Rattle.synth_text.specs.Cuts.{first_piece, pieces}
 use Rattle.synth_text.specs.Flaws.{◌>>=◌, Fails}
-use Rattle.synth_text.specs.Attributes.{is_empty, no_attributes, with_word, with_next, with_words, with_first, attributes_in}
+use Rattle.synth_text.specs.Attributes.{is_empty, no_attributes, with_word, with_next, with_words, attributes_in}
 use Rattle.synth_text.proofs.CutLaws.{slice_split-first_piece, pieces-next}
 
 -- a reading fails as its first step does

@@ -1,5 +1,5 @@
 -- Laws of cuts.
-use Rattle.std.proofs.Common.{◌≡◌, ℕ, zero, suc, ◌+◌, ◌<◌, ◌≤◌, Bool, true, false, cond, List, [], ◌∷◌, ◌++◌, length, get_or, take, drop, Option, Some, None, refl, sym, ap, subst, ◌∙◌, add-one, arith, inl, inr}
+use Rattle.std.proofs.Common.{◌≡◌, ℕ, suc, ◌+◌, ◌<◌, ◌≤◌, Bool, true, false, List, [], ◌∷◌, ◌++◌, length, get_or, take, drop, Option, Some, None, refl, sym, ap, subst, ◌∙◌, add-one, arith, inl, inr}
 use Rattle.std.specs.Prelude.{Contains, option_map, ◌==◌, IfSome}
 use Rattle.std.specs.List.{slice_split, onto_first, prefix_len}
 use Rattle.std.proofs.Math.Seq.{drop-cons}
@@ -42,11 +42,11 @@ prefix_len-is test text n within passes stops =
     elim (cases_order (prefix_len test text) n) [
       | inl same ↦ same
       | inr other ↦ elim other [
-          | inl less ↦ absurd (both_ways _ (prefix_len_stops test text 0 (omega arith)) (passes (prefix_len test text) less))
-          | inr more ↦
-              let bound = prefix_len-le-length test text in
-              absurd (both_ways _ (stops (omega arith)) (prefix_len_passes test text n 0 more))
-        ]
+        | inl less ↦ absurd (both_ways _ (prefix_len_stops test text 0 (omega arith)) (passes (prefix_len test text) less))
+        | inr more ↦
+            let bound = prefix_len-le-length test text in
+            absurd (both_ways _ (stops (omega arith)) (prefix_len_passes test text n 0 more))
+      ]
     ]
 
 -- a cut at a byte, as std's words say it
@@ -65,9 +65,9 @@ pub first_piece-at : (test : ℕ → Bool) (text : List ℕ) (n : ℕ) → n < l
 unfolding first_piece
 first_piece-at test text n lt before here =
     let cuts : cut test text ≡ Some (take n text, drop (n + 1) text) =
-        ap (cut test) (split_element text n lt)
-        ∙ cut-at test (take n text) (get_or text n 0) (drop (n + 1) text)
-            (λ k below. let small : k < n = omega (arith, length-take n text) in rw (get_or-take n text k 0 small) (before k small)) here
+    ap (cut test) (split_element text n lt)
+    ∙ cut-at test (take n text) (get_or text n 0) (drop (n + 1) text)
+    (λ k below. let small : k < n = omega (arith, length-take n text) in rw (get_or-take n text k 0 small) (before k small)) here
     in ap (piece_or text) cuts
 
 pub first_piece-none : (test : ℕ → Bool) (text : List ℕ) → ((k : ℕ) → k < length text → test (get_or text k 0) ≡ false) → first_piece test text ≡ (text, None)

@@ -1,7 +1,7 @@
 -- Reading the pieces of a value one after the other.
-use Rattle.std.proofs.Common.{◌≡◌, ℕ, ◌+◌, ◌<◌, List, [], ◌∷◌, ◌++◌, length, Option, Some, None, Ok, Err, refl, sym, ap, ◌∙◌, append_assoc, arith}
+use Rattle.std.proofs.Common.{◌≡◌, ℕ, List, [], ◌∷◌, ◌++◌, Option, Some, None, Ok, Err, refl, sym, ap, ◌∙◌, append_assoc}
 use Rattle.std.specs.Prelude.{option_map}
-use Rattle.std.specs.Option.{option_and_then, ok_or}
+use Rattle.std.specs.Option.{ok_or}
 use Rattle.synth_text.specs.declared.fault.Flaw.{Flaw}
 use Rattle.std.proofs.lemmas.List.{append-nil}
 use Rattle.synth_text.specs.IndexTexts.{entries_of}

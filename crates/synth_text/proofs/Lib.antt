@@ -5,3 +5,14 @@ pub mod AttributeLaws
 pub mod RuleLaws
 pub mod PartLaws
 pub mod Lists
+pub mod ItemLaws
+pub mod Bound
+pub mod SoundParts
+pub mod KindLaws
+pub mod SoundRules
+pub mod Outcomes
+pub mod Texts
+pub mod CanonicalReading
+pub mod CanonicalItems
+pub mod CanonicalRules
+pub mod Refusals

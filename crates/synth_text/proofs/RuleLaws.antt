@@ -1,8 +1,9 @@
 -- Laws of the rules on all items.
-use Rattle.std.proofs.Common.{◌≡◌, ℕ, zero, suc, ◌+◌, ◌*◌, ◌<◌, ◌≤◌, Bool, true, false, cond, List, [], ◌∷◌, ◌++◌, length, take, drop, Option, Some, None, refl, sym, ap, ◌∙◌, arith, inl, inr}
-use Rattle.std.specs.List.{list_any, AllByRecursion}
-use Rattle.std.specs.Prelude.{◌==◌, nat_lt, option_map}
-use Rattle.std.proofs.lemmas.Bool.{or_parts, cases_Bool, eqb-false, ltb-false}
+use Rattle.std.proofs.Common.{◌≡◌, ℕ, zero, suc, ◌+◌, ◌*◌, ◌<◌, ◌≤◌, Bool, true, false, cond, List, [], ◌∷◌, length, take, Option, Some, None, ◌≢◌, refl, sym, ◌∙◌, zero-add, arith, inl, inr}
+use Rattle.std.specs.List.{list_any, cons_option, AllByRecursion}
+use mir.Val.{bool_byte}
+use Rattle.std.specs.Prelude.{◌==◌, nat_lt, option_map, is_some}
+use Rattle.std.proofs.lemmas.Bool.{or_parts, cases_Bool, eqb-false, ltb-false, eq-eqb, ne_eqb, lt-ltb, le-ltb}
 use Rattle.std.proofs.Math.Nat.{mul-le-mul_left}
 use Rattle.std.proofs.Math.Seq.{take-nil}
 use Rattle.synth_text.specs.declared.description.Level.{Level}
@@ -10,7 +11,7 @@ use Rattle.synth_text.specs.declared.description.Memory.{Memory}
 use Rattle.synth_text.specs.declared.parts.Placed.{Placed}
 use Rattle.synth_text.specs.declared.fault.SynthFault.{SynthFault}
 use Rattle.synth_text.specs.declared.fault.SynthFault.TheVariants as faults
-use Rattle.synth_text.specs.Rules.{is_level, from_last, wrong_end, first_again, levels_of, description_of, arities, product, tree_size, first_of, when, is_large, broken, broken_items}
+use Rattle.synth_text.specs.Rules.{is_level, from_last, wrong_end, first_again, levels_of, description_of, arities, product, first_of, when, is_large, broken, broken_items}
 
 -- the first memory of two
 abbrev pub or_memory : Option Memory → Option Memory → Option Memory
@@ -106,9 +107,9 @@ pub items_hold : (parts : List Placed) → broken_items parts ≡ None → Items
 unfolding broken_items
 items_hold parts h =
     let k =
-        first_of-none
-        (when (length (levels_of parts) == 0) faults.Empty) (option_map (λ at. faults.RepeatedType at) (first_again [] parts))
-        (option_map (λ at. faults.LastNotPu at) (wrong_end (from_last parts))) (when (nat_lt 16 (length (levels_of parts))) faults.TooManyLevels) h
+    first_of-none
+    (when (length (levels_of parts) == 0) faults.Empty) (option_map (λ at. faults.RepeatedType at) (first_again [] parts))
+    (option_map (λ at. faults.LastNotPu at) (wrong_end (from_last parts))) (when (nat_lt 16 (length (levels_of parts))) faults.TooManyLevels) h
     in
     let not_none = eqb-false (length (levels_of parts)) 0 (when-none _ _ k.first) in
     record {
@@ -126,3 +127,46 @@ broken_large parts h large = rw (broken-last parts, h, large) refl
 
 pub broken_none : (parts : List Placed) → broken_items parts ≡ None → is_large (description_of parts) ≡ false → broken parts ≡ None
 broken_none parts h small = rw (broken-last parts, h, small) refl
+
+-- ---- the checks on the items, one by one
+
+pub length_cons_option : {X : Type 0} (o : Option X) (xs : List X) → length (cons_option o xs) ≡ bool_byte (is_some o) + length xs
+length_cons_option None xs = sym (zero-add (length xs))
+length_cons_option (Some x) xs = omega arith
+
+pub refused_empty : (parts : List Placed) → length (levels_of parts) ≡ 0 → broken_items parts ≡ Some faults.Empty
+unfolding broken_items
+refused_empty parts none = rw (eq-eqb (length (levels_of parts)) 0 none) refl
+
+some_levels : (parts : List Placed) → length (levels_of parts) ≢ 0 → when (length (levels_of parts) == 0) faults.Empty ≡ None
+some_levels parts some = rw (ne_eqb (length (levels_of parts)) 0 some) refl
+
+pub refused_again : (parts : List Placed) (at : ℕ) → length (levels_of parts) ≢ 0 → first_again [] parts ≡ Some at → broken_items parts ≡ Some (faults.RepeatedType at)
+unfolding broken_items
+refused_again parts at some again = rw (some_levels parts some, again) refl
+
+pub refused_end : (parts : List Placed) (at : ℕ) → length (levels_of parts) ≢ 0 → first_again [] parts ≡ None → wrong_end (from_last parts) ≡ Some at → broken_items parts ≡ Some (faults.LastNotPu at)
+unfolding broken_items
+refused_end parts at some differ end = rw (some_levels parts some, differ, end) refl
+
+pub refused_many : (parts : List Placed) → length (levels_of parts) ≢ 0 → first_again [] parts ≡ None → wrong_end (from_last parts) ≡ None → 16 < length (levels_of parts) → broken_items parts ≡ Some faults.TooManyLevels
+unfolding broken_items
+refused_many parts some differ end many = rw (some_levels parts some, differ, end, lt-ltb 16 (length (levels_of parts)) many) refl
+
+pub refused_none : (parts : List Placed) → length (levels_of parts) ≢ 0 → first_again [] parts ≡ None → wrong_end (from_last parts) ≡ None → length (levels_of parts) ≤ 16 → broken_items parts ≡ None
+unfolding broken_items
+refused_none parts some differ end few = rw (some_levels parts some, differ, end, le-ltb 16 (length (levels_of parts)) few) refl
+
+-- what holds where nothing is broken
+only_last : (o : Option SynthFault) → first_of (o ∷ []) ≡ None → o ≡ None
+only_last None k = refl
+only_last (Some f) k = absurd cc
+
+last_two : (a b : Option SynthFault) → first_of (a ∷ b ∷ []) ≡ None → (a ≡ None) × (b ≡ None)
+last_two (Some f) b k = absurd cc
+last_two None b k = (refl, only_last b k)
+
+pub nothing_broken : (parts : List Placed) → broken parts ≡ None → (broken_items parts ≡ None) × (is_large (description_of parts) ≡ false)
+nothing_broken parts h =
+    let two = last_two (broken_items parts) (when (is_large (description_of parts)) faults.TooManyObjects) (sym (broken-last parts) ∙ h) in
+    (two.0, when-none (is_large (description_of parts)) faults.TooManyObjects two.1)

@@ -9,6 +9,16 @@ use Rattle.synth_text.specs.declared.description.Memory.{Memory}
 use Rattle.synth_text.specs.declared.description.Description.{Description}
 use Rattle.synth_text.specs.Kinds.{long_name_of}
 
+-- texts with a byte behind each
+abbrev pub joined_before : ℕ → List (List ℕ) → List ℕ
+joined_before byte [] = []
+joined_before byte (text ∷ texts) = join_with_byte byte (text ∷ texts) ++ byte ∷ []
+
+-- texts with a byte in front of each
+abbrev pub joined_behind : ℕ → List (List ℕ) → List ℕ
+joined_behind byte [] = []
+joined_behind byte (text ∷ texts) = byte ∷ join_with_byte byte (text ∷ texts)
+
 -- `step*count`
 abbrev pub loop_text : Loop → List ℕ
 loop_text given = decimal given.step ++ 42 ∷ decimal given.count

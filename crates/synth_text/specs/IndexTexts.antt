@@ -1,5 +1,5 @@
 -- The values of `indexes`: a list `n,n,..` of numbers below 2^32, or loops `s*n:s*n:..` with s and n from 1 on.
-use Rattle.std.specs.Prelude.{ℕ, ◌-◌, ◌^◌, Bool, ◌==◌, List, [], ◌∷◌, Option, Some, None, option_map, if◌then◌else◌}
+use Rattle.std.specs.Prelude.{ℕ, ◌-◌, ◌^◌, ◌==◌, List, [], ◌∷◌, Option, Some, option_map, if◌then◌else◌}
 use Rattle.std.specs.Option.{option_and_then}
 use Rattle.std.specs.List.{list_any, slice_split}
 use Rattle.synth_text.specs.declared.description.Loop.{Loop}

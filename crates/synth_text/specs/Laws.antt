@@ -1,8 +1,9 @@
 -- Laws of descriptions and their texts.
-use Rattle.std.specs.Prelude.{◌≡◌, ◌⊎◌, ◌↔◌, ℕ, ◌^◌, ◌<◌, List, Result, slice_index}
+use Rattle.std.specs.Prelude.{◌≡◌, ℕ, List, Result}
 use Rattle.synth_text.specs.declared.description.Description.{Description}
 use Rattle.synth_text.specs.declared.fault.SynthFault.{SynthFault}
-use Rattle.synth_text.specs.Descriptions.{ComesTo, Describes, IsDescribed}
+use Rattle.synth_text.specs.declared.fault.SynthFault.TheVariants as faults
+use Rattle.synth_text.specs.Descriptions.{ComesTo, Describes, SynthRefused, IsDescribed}
 use Rattle.synth_text.specs.Sound.{IsSound}
 use Rattle.synth_text.specs.Canonical.{canonical}
 
@@ -20,3 +21,7 @@ DescribedIsSound = (described : Description) → IsDescribed described → IsSou
 
 abbrev pub CanonicalDescribes : Type 0
 CanonicalDescribes = (described : Description) → IsSound described → Describes (canonical described) described
+
+-- No text is refused for want of memory: a refusal is one of the nine rules.
+abbrev pub NoTextIsRefusedForMemory : Type 0
+NoTextIsRefusedForMemory = (text : List ℕ) → ¬ (SynthRefused text faults.OutOfMemory)

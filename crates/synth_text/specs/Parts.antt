@@ -1,9 +1,9 @@
 -- What one item says.
-use Rattle.std.specs.Prelude.{◌≡◌, ℕ, zero, suc, ◌-◌, ◌^◌, Bool, ◌==◌, List, [], ◌∷◌, drop, slice_index, Option, Some, None, Result, Ok, Err, if◌then◌else◌, MatchBool}
+use Rattle.std.specs.Prelude.{ℕ, zero, suc, ◌-◌, ◌^◌, ◌==◌, List, drop, slice_index, Option, Some, None, Result, Ok, Err, if◌then◌else◌}
 use Rattle.std.specs.List.{list_all, take_while}
 use Rattle.std.specs.Char.{is_ascii_alphanumeric}
 use Rattle.synth_text.specs.declared.kind.Kind.{Kind}
-use Rattle.synth_text.specs.declared.kind.Kind.TheVariants.{Machine, Package, Die, Group, L5, L4, L3, L2, L1d, L1i, Core, Pu, NumaNode}
+use Rattle.synth_text.specs.declared.kind.Kind.TheVariants.{Machine, Group, Core, Pu, NumaNode}
 use Rattle.synth_text.specs.declared.name.Name.{Name}
 use Rattle.synth_text.specs.declared.name.Name.TheVariants as names
 use Rattle.synth_text.specs.declared.description.Indexes.TheVariants as indexes

@@ -1,5 +1,5 @@
 -- Lent texts, seen as lists.
-use Rattle.std.specs.Prelude.{ℕ, List, Option, Some, None, option_map}
+use Rattle.std.specs.Prelude.{ℕ, List, Option, Some, None}
 use Rattle.std.specs.Borrow.{Bor}
 
 abbrev pub text_at : Option (Bor (List ℕ)) → Option (List ℕ)

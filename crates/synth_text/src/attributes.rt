@@ -27,8 +27,11 @@ pub struct Attributes {
 /// A key of an attribute.
 #[derive(Clone, Copy, Debug, PartialEq, Eq)]
 pub enum Key {
+    /// `size`, the size of each cache.
     Size,
+    /// `memory`, the size of each node.
     Memory,
+    /// `indexes`, the physical numbers.
     Indexes,
 }
 

@@ -5,6 +5,12 @@ ghost use Rattle.synth_text.specs.Rules.{arities, product, tree_size, node_count
 
 use crate::description::{Description, Level, Memory};
 
+// How many PUs a description may have.
+const PU_LIMIT: u64 = 4096;
+
+// How many objects a description may have, Machine and the nodes of memory included.
+const OBJECT_LIMIT: u64 = 16_384;
+
 /// Whether a description has too many PUs or objects.
 pub fn is_large(description: &Description) -> bool
     requires few { length description.now.levels ≤ 16 }
@@ -14,7 +20,7 @@ pub fn is_large(description: &Description) -> bool
     let levels = description.levels.as_slice();
     match count_objects(levels) {
         None => true,
-        Some(counts) => counts.objects + nodes(levels, &description.memory) > 16_384,
+        Some(counts) => counts.objects + nodes(levels, &description.memory) > OBJECT_LIMIT,
     }
 }
 
@@ -37,7 +43,7 @@ fn count_objects(levels: &[Level]) -> Option<Counts>
     let mut objects: u64 = 1;
     for level in levels {
         last *= u64::from(level.arity);
-        if last > 4096 {
+        if last > PU_LIMIT {
             return None;
         }
         objects += last;

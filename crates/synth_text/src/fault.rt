@@ -7,8 +7,8 @@ ghost use Rattle.synth_text.specs.declared.fault.Flaw.TheVariants as flaws;
 use std::alloc::{AllocError, AllocFailed};
 use thiserror::Error;
 
-/// Why a text is no description: the first broken rule, in the order of the variants' numbers, except that rules 2 to 5
-/// go by the items from the left. Each place is the offset at which the item begins.
+/// Why a text is no description: the first broken rule. Rules 2 to 5 go first, by the items from the left and in this
+/// order within one; then 1, 7, 6, 8 and 9. Each place is the offset at which the item begins.
 #[derive(Clone, Copy, Debug, PartialEq, Eq, Error)]
 pub enum SynthFault {
     /// 1. There is no level.
@@ -62,10 +62,15 @@ impl<T: Drop> From<AllocFailed<T>> for SynthFault {
 /// What is wrong with an item, apart from its place.
 #[derive(Clone, Copy, Debug, PartialEq, Eq)]
 pub enum Flaw {
+    /// The name of its kind.
     Name,
+    /// Its arity.
     Arity,
+    /// Its parentheses, a key, a size or the place of one.
     Attribute,
+    /// The value of `indexes`.
     Indexes,
+    /// Memory ran out.
     OutOfMemory,
 }
 
@@ -100,22 +105,5 @@ impl<T: Drop> From<AllocFailed<T>> for Flaw {
 
     fn from(_refused: AllocFailed<T>) -> Flaw {
         Flaw::OutOfMemory
-    }
-}
-
-/// Memory ran out.
-#[derive(Clone, Copy, Debug, PartialEq, Eq, Error)]
-#[error("out of memory")]
-pub struct OutOfMemory;
-
-impl From<AllocError> for OutOfMemory {
-    fn from(_refused: AllocError) -> OutOfMemory {
-        OutOfMemory
-    }
-}
-
-impl<T: Drop> From<AllocFailed<T>> for OutOfMemory {
-    fn from(_refused: AllocFailed<T>) -> OutOfMemory {
-        OutOfMemory
     }
 }

@@ -22,9 +22,9 @@ mod table;
 mod writing;
 
 pub use description::{Description, Indexes, Level, Loop, Memory};
-pub use fault::{OutOfMemory, SynthFault};
+pub use fault::SynthFault;
 pub use kind::Kind;
-pub use laws::{exactly_one_applies, sound_descriptions_are_described};
+pub use laws::{canonical_text_describes, described_is_sound, exactly_one_applies};
 pub use name::{Name, read_name};
 pub use reading::read;
 pub use sequence::Sequence;

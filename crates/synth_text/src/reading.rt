@@ -1,6 +1,5 @@
 // Reading a text.
 ghost use Rattle.std.specs.Prelude.{◌≡◌, ◌<◌, ◌≤◌, length, Ok, Err, IfOk, IfErr};
-ghost use Rattle.std.specs.List.{AllByRecursion};
 ghost use Rattle.synth_text.specs.declared.description.Description.{Description as Described};
 ghost use Rattle.synth_text.specs.declared.fault.SynthFault.{SynthFault as Fault};
 ghost use Rattle.synth_text.specs.Items.{AreItems};

@@ -12,6 +12,9 @@ use crate::parts::{Nodes, Part, Placed};
 use crate::sequence::Sequence;
 use std::alloc::{AllocError, Global};
 
+// How many levels a description may have.
+const LEVEL_LIMIT: usize = 16;
+
 /// What the items describe, where no rule is broken.
 pub fn described(alloc: Global, parts: Vec<Placed>) -> Result<Description, SynthFault>
     requires { AllByRecursion (λ level. 1 ≤ level.arity) (levels_of parts.items) }
@@ -26,14 +29,10 @@ pub fn described(alloc: Global, parts: Vec<Placed>) -> Result<Description, Synth
 }
 
 // The first broken rule on the items themselves.
-#[tactic(auto, unfolding(crate::specs::Rules::broken_items))]
 fn check_items(parts: &[Placed]) -> Result<(), SynthFault>
     ensures { fault_of result ≡ broken_items parts.now }
 {
-    let levels = parts
-        .iter()
-        .filter(|item| item.part.level.is_some())
-        .count();
+    let levels = count_levels(parts);
     if levels == 0 {
         return Err(SynthFault::Empty);
     }
@@ -43,10 +42,22 @@ fn check_items(parts: &[Placed]) -> Result<(), SynthFault>
     if let Some(at) = wrong_end(from_last_level(parts)) {
         return Err(SynthFault::LastNotPu { at });
     }
-    if levels > 16 {
+    if levels > LEVEL_LIMIT {
         return Err(SynthFault::TooManyLevels);
     }
     Ok(())
+}
+
+// How many levels the items give.
+#[tactic(auto, using(crate::proofs::RuleLaws::length_cons_option))]
+fn count_levels(parts: &[Placed]) -> usize
+    ensures { result ≡ length (levels_of parts.now) }
+{
+    let mut count = 0;
+    for item in parts {
+        count += usize::from(item.part.level.is_some());
+    }
+    count
 }
 
 // Where the first item begins that repeats a kind or attaches a second memory.

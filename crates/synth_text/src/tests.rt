@@ -36,6 +36,10 @@ fn canonical_texts(rt: HostRuntime) -> Result<(), Fail> {
         rt.alloc(),
         &[
             (b"PU:1", b"PU:1"),
+            (
+                b"L5:1(size=1GB) L4:1(size=2tb) L3:1(size=3KIB) L2:1(size=4Kb) L1d:1(size=5mB) L1i:1(size=6Gib) PU:1",
+                b"L5Cache:1(size=1000000000) L4Cache:1(size=2000000000000) L3Cache:1(size=3072) L2Cache:1(size=4000) L1dCache:1(size=5000000) L1iCache:1(size=6442450944) PU:1",
+            ),
             (b" \t\r\n2 \n", b"PU:2"),
             (b"2 3", b"Core:2 PU:3"),
             (b"2 3 2 07", b"Group:2 Group:3 Core:2 PU:7"),
@@ -59,6 +63,10 @@ fn canonical_texts(rt: HostRuntime) -> Result<(), Fail> {
             (
                 b"Package:2[NUMANode(memory=0)]L3:1(size=16777215TiB) PU:2(indexes=4294967295)",
                 b"Package:2 [NUMANode(memory=0)] L3Cache:1(size=18446742974197923840) PU:2(indexes=4294967295)",
+            ),
+            (
+                b"Package:2 [NUMANode(memory=34359738368)] L3Cache:1(size=33554432) L2Cache:16(size=1048576) L1dCache:1(size=32768) L1iCache:1(size=32768) Core:1 PU:2(indexes=2*32:1*2)",
+                b"Package:2 [NUMANode(memory=34359738368)] L3Cache:1(size=33554432) L2Cache:16(size=1048576) L1dCache:1(size=32768) L1iCache:1(size=32768) Core:1 PU:2(indexes=2*32:1*2)",
             ),
             (
                 b"Package:3 Group:1365 Group:1 Group:1 PU:1",
@@ -161,6 +169,50 @@ fn refused_texts(rt: HostRuntime) {
             (b"PU:1(indexes=x foo)", SynthFault::BadIndexes { at: 0 }),
             (b"PU:1 PU:1 Core:1 [foo]", SynthFault::BadType { at: 17 }),
             (b"Core:1 Core:1", SynthFault::RepeatedType { at: 7 }),
+            (b"[foo]", SynthFault::BadType { at: 0 }),
+            (b"Core:1 PU:1()", SynthFault::BadAttr { at: 7 }),
+            (b"Core:1 PU:1(indexes=)", SynthFault::BadIndexes { at: 7 }),
+            (
+                b"Core:1 1 1 1 1 1 1 1 1 1 1 1 1 1 1 1 Core:1 1",
+                SynthFault::RepeatedType { at: 37 },
+            ),
+            (b"PU:5000 PU:5000", SynthFault::RepeatedType { at: 8 }),
+            (
+                b"1 1 1 1 1 1 1 1 1 1 1 1 1 1 1 1 Die:1",
+                SynthFault::LastNotPu { at: 32 },
+            ),
+            (b"Core:5000", SynthFault::LastNotPu { at: 0 }),
+            (
+                b"9 9 9 9 9 9 9 9 9 9 9 9 9 9 9 9 9",
+                SynthFault::TooManyLevels,
+            ),
         ],
     );
+}
+
+#[test]
+fn memory_stands_behind_its_carrier(rt: HostRuntime) -> Result<(), Fail> {
+    let description = read(rt.alloc(), b"Package:2 numa:3(memory=1MB) PU:1")?;
+    let memory = description.memory.as_ref().ok_or("memory is attached")?;
+    assert_eq!(rt; memory.above, 2);
+    assert_eq!(rt; memory.size, Some(1_000_000));
+    let levels = description.levels.into_vec();
+    assert_eq!(rt; levels.len(), 3);
+    assert_eq!(rt; levels[1].kind, Kind::Group);
+    assert_eq!(rt; Sequence::from_vec(levels).as_slice().len(), 3);
+    Ok(())
+}
+
+#[test]
+fn words_name_kinds(rt: HostRuntime) {
+    assert_eq!(rt; read_name(b"Machine"), Some(Name::Kind(Kind::Machine)));
+    assert_eq!(rt; read_name(b"GROUP"), Some(Name::Kind(Kind::Group)));
+    assert_eq!(rt; read_name(b"group01"), Some(Name::Group(1)));
+    assert_eq!(rt; read_name(b"group99999999999"), Some(Name::Group(u32::MAX)));
+    assert_eq!(rt; read_name(b"group-1"), None);
+    assert_eq!(rt; read_name(b"l1Cache"), Some(Name::Kind(Kind::L1d)));
+    assert_eq!(rt; read_name(b"l5cachecache"), None);
+    assert_eq!(rt; read_name(b""), None);
+    assert_eq!(rt; Kind::L1i.short_name(), b"L1i".as_slice());
+    assert_eq!(rt; Kind::L1i.long_name(), b"L1iCache".as_slice());
 }

@@ -1,12 +1,12 @@
 // Writing the canonical text.
 ghost use Rattle.std.specs.Prelude.{◌≡◌, ◌++◌, ◌∷◌, ℕ, List, map, decimal, OnOk, IfOk};
 ghost use Rattle.std.specs.List.{join_with_byte};
-ghost use Rattle.synth_text.specs.Canonical.{loop_text, size_texts, indexes_texts, in_parentheses, level_text, memory_text, item_texts, canonical, indexes_text};
+ghost use Rattle.synth_text.specs.Canonical.{loop_text, size_texts, indexes_texts, in_parentheses, level_text, memory_text, joined_before, joined_behind, item_texts, canonical, indexes_text};
 
 use crate::description::{Description, Indexes, Level, Loop, Memory};
-use crate::fault::OutOfMemory;
 use crate::kind::Kind;
 use byte_text::push_decimal;
+use edge_io::OutOfMemory;
 use std::alloc::{AllocError, Global};
 
 /// The canonical text of a description.
@@ -14,24 +14,51 @@ use std::alloc::{AllocError, Global};
 pub fn write(alloc: Global, description: &Description) -> Result<Vec<u8>, OutOfMemory>
     ensures { IfOk result (λ text. text.items ≡ canonical description.now) }
 {
-    let levels = description.levels.as_slice();
     let mut out = Vec::new(alloc);
-    match &description.memory {
-        None => push_joined(&mut out, b' ', levels)?,
+    push_items(&mut out, description.levels.as_slice(), &description.memory)?;
+    Ok(out)
+}
+
+// Appends the items, with one space between them.
+fn push_items(
+    out: &mut Vec<u8>,
+    levels: &[Level],
+    memory: &Option<Memory>,
+) -> Result<(), AllocError>
+    ensures { OnOk result (out.new.items ≡ out.old.items ++ join_with_byte 32 (item_texts levels.now memory.now)) }
+{
+    match memory {
+        None => push_joined(out, b' ', levels),
         Some(memory) => {
             let (above, below) = levels.split_at((memory.above as usize).min(levels.len()));
-            push_joined(&mut out, b' ', above)?;
-            if !above.is_empty() {
-                out.push(b' ')?;
-            }
-            push_memory(&mut out, memory)?;
-            if !below.is_empty() {
-                out.push(b' ')?;
-            }
-            push_joined(&mut out, b' ', below)?;
+            push_above(out, above)?;
+            push_memory(out, memory)?;
+            push_below(out, below)
         }
     }
-    Ok(out)
+}
+
+// Appends the levels above the memory, with a space behind each.
+fn push_above(out: &mut Vec<u8>, levels: &[Level]) -> Result<(), AllocError>
+    ensures { OnOk result (out.new.items ≡ out.old.items ++ joined_before 32 (map level_text levels.now)) }
+{
+    if levels.is_empty() {
+        return Ok(());
+    }
+    push_joined(out, b' ', levels)?;
+    out.push(b' ')?;
+    Ok(())
+}
+
+// Appends the levels below the memory, with a space in front of each.
+fn push_below(out: &mut Vec<u8>, levels: &[Level]) -> Result<(), AllocError>
+    ensures { OnOk result (out.new.items ≡ out.old.items ++ joined_behind 32 (map level_text levels.now)) }
+{
+    if levels.is_empty() {
+        return Ok(());
+    }
+    out.push(b' ')?;
+    push_joined(out, b' ', levels)
 }
 
 // What has a text of its own.

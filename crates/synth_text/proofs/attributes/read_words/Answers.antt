@@ -23,7 +23,7 @@ returns-in_err-attributes-2 c =
     let more : c.is_some.result ≡ is_some parts.1 = c.is_some.ensures ∙ sym (some_text c.first_word-in-Some.result.1) in
     rw (p.1, p.2)
     (stops c.args.kind c.loop-rest.attributes c.in_err-attributes-2.field-0.0 (text_at c.loop-rest.rest) c.in-Some.text.now parts _ (ap text_at c.in-Some.is) c.first_word-in-Some.ensures
-        (rw more at c.in_err-attributes-2.ensures) c.loop-rest.invariant)
+    (rw more at c.in_err-attributes-2.ensures) c.loop-rest.invariant)
 
 pub loop-rest-smaller : goal.loop-rest-smaller
 loop-rest-smaller c =

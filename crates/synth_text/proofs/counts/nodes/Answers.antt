@@ -1,6 +1,6 @@
-use Rattle.std.proofs.Common.{◌≡◌, ◌≤◌, ℕ, take, arith, sym, ap, ◌∙◌}
+use Rattle.std.proofs.Common.{ℕ, take, arith, sym, ap, ◌∙◌}
 use Rattle.std.proofs.lemmas.List.{take_min, take-map}
-use Rattle.synth_text.specs.Rules.{arities, product, node_count}
+use Rattle.synth_text.specs.Rules.{arities, product}
 use Rattle.synth_text.proofs.RuleLaws.{product-take-le}
 use Rattle.synth_text.proofs.counts.nodes.Goals as goal
 
@@ -16,4 +16,4 @@ returns-in-Some-count_objects-clause-node_count c =
     let above = c.in-Some.memory.above in
     rw c.in-Some.is
     (c.in-Some-count_objects.ensures.0
-        ∙ ap product (ap (λ (n : ℕ). arities (take n levels)) c.min-above.ensures ∙ ap arities (take_min above levels) ∙ sym (take-map (λ level. level.arity) above levels)))
+    ∙ ap product (ap (λ (n : ℕ). arities (take n levels)) c.min-above.ensures ∙ ap arities (take_min above levels) ∙ sym (take-map (λ level. level.arity) above levels)))

@@ -1,4 +1,4 @@
-use Rattle.std.proofs.Common.{sym, ◌∙◌, arith}
+use Rattle.std.proofs.Common.{sym, arith}
 use Rattle.synth_text.specs.Classes.{in_class}
 use Rattle.synth_text.proofs.CutLaws.{prefix_len-is}
 use Rattle.synth_text.proofs.cuts.front_len.Goals as goal

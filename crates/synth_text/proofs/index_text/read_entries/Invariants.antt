@@ -1,6 +1,5 @@
-use Rattle.std.proofs.Common.{◌≡◌, ℕ, zero, ◌+◌, List, ◌++◌, length, Option, Some, None}
-use Rattle.std.specs.Prelude.{◌==◌, option_map}
-use Rattle.std.specs.Option.{MatchOption}
+use Rattle.std.proofs.Common.{◌≡◌}
+use Rattle.std.specs.Prelude.{◌==◌}
 use Rattle.std.specs.List.{slice_split}
 use Rattle.synth_text.specs.Cuts.{pieces}
 use Rattle.synth_text.specs.Views.{text_at}

@@ -1,4 +1,3 @@
-use Rattle.std.proofs.Common.{◌≡◌, ℕ, ◌<◌, ◌≤◌}
 use Rattle.synth_text.specs.Items.{IsGap}
 use Rattle.synth_text.proofs.items.gap_end.Given as goal
 

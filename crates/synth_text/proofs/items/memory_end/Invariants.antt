@@ -1,4 +1,4 @@
-use Rattle.std.proofs.Common.{◌≡◌, ℕ, ◌<◌, ◌≤◌, ◌≢◌, get_or}
+use Rattle.std.proofs.Common.{ℕ, ◌<◌, ◌≢◌, get_or}
 use Rattle.synth_text.proofs.items.memory_end.Given as goal
 
 abbrev pub invariant-loop-place : goal.invariant-loop-place

@@ -1,4 +1,4 @@
-use Rattle.std.proofs.Common.{◌≡◌, ℕ, drop, Ok}
+use Rattle.std.proofs.Common.{◌≡◌, ℕ, drop}
 use Rattle.synth_text.specs.Items.{AreItems}
 use Rattle.synth_text.specs.Descriptions.{level_items, parts_of}
 use Rattle.synth_text.proofs.PartLaws.{with_front}

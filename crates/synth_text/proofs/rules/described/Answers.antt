@@ -1,6 +1,6 @@
-use Rattle.std.proofs.Common.{◌≡◌, None, Some, Ok, refl, sym, ◌∙◌, ap, Option}
+use Rattle.std.proofs.Common.{◌≡◌, None, Some, Ok, refl, sym, ap}
 use Rattle.std.proofs.lemmas.Result.{err_from_is_err_and}
-use Rattle.synth_text.specs.Rules.{broken, broken_items, unless_broken, description_of}
+use Rattle.synth_text.specs.Rules.{broken_items}
 use Rattle.synth_text.proofs.RuleLaws.{items_hold, broken_first, broken_large, broken_none}
 use Rattle.synth_text.proofs.PartLaws.{fails_with_itself}
 use Rattle.synth_text.proofs.rules.described.Goals as goal

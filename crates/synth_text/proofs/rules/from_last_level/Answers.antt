@@ -1,7 +1,4 @@
-use Rattle.std.proofs.Common.{arith, refl}
-use Rattle.std.proofs.lemmas.Bool.{cases_Bool}
-use Rattle.std.specs.List.{list_any}
-use Rattle.synth_text.specs.Rules.{is_level}
+use Rattle.std.proofs.Common.{arith}
 use Rattle.synth_text.proofs.RuleLaws.{last_found}
 use Rattle.synth_text.proofs.rules.from_last_level.Goals as goal
 

@@ -1,4 +1,4 @@
-use Rattle.std.proofs.Common.{◌≡◌, ℕ, ◌<◌, zero, List, [], ◌∷◌, ◌++◌, length, take, map, refl, sym, ap, ◌∙◌, append_assoc, arith}
+use Rattle.std.proofs.Common.{◌≡◌, ℕ, List, [], ◌∷◌, ◌++◌, length, take, map, ap, ◌∙◌, append_assoc, arith}
 use Rattle.std.specs.Global.{Vec}
 use Rattle.std.proofs.lemmas.List.{append-nil, length-map, length-take, nil_from_length}
 use Rattle.std.specs.List.{join_with_byte}
@@ -22,8 +22,8 @@ loop-place-preserved g c =
       | then-place-gt0+in_ok-push w ↦
           rw (join_more c.args.separator texts text (omega arith))
           (c.in_ok-push-2.ensures
-              ∙ ap (λ (xs : List ℕ). xs ++ text) (ap (λ (v : Vec ℕ). v.items) w.out-is ∙ w.in_ok-push.ensures.items ∙ ap (λ (xs : List ℕ). xs ++ c.args.separator ∷ []) c.loop-place.invariant)
-              ∙ regroup c.args.out.now.items (join_with_byte c.args.separator texts) c.args.separator text)
+          ∙ ap (λ (xs : List ℕ). xs ++ text) (ap (λ (v : Vec ℕ). v.items) w.out-is ∙ w.in_ok-push.ensures.items ∙ ap (λ (xs : List ℕ). xs ++ c.args.separator ∷ []) c.loop-place.invariant)
+          ∙ regroup c.args.out.now.items (join_with_byte c.args.separator texts) c.args.separator text)
       | else-place-gt0 w ↦
           let none : texts ≡ [] = nil_from_length texts (omega arith) in
           let before = rw none at c.loop-place.invariant in
