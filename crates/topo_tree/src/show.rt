@@ -23,13 +23,9 @@ impl Topology {
     pub fn export(&self, alloc: Global) -> Result<Vec<u8>, OutOfMemory>
         ensures { IfOk result (λ text. text.items ≡ canonical self.now ++ 10 ∷ []) }
     {
-        match write(alloc, self.description()) {
-            Ok(mut text) => {
-                text.push(b'\n')?;
-                Ok(text)
-            }
-            Err(_) => Err(OutOfMemory),
-        }
+        let mut text = write(alloc, self.description())?;
+        text.push(b'\n')?;
+        Ok(text)
     }
 
     /// The tree of objects, one a line.
