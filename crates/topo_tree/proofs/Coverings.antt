@@ -7,7 +7,7 @@ use Rattle.std.specs.List.{range_with_len}
 use Rattle.cpu_set.specs.Sets.{has, numbers_where}
 use Rattle.synth_text.specs.declared.description.Level.{Level}
 use Rattle.synth_text.specs.Rules.{arities, product}
-use Rattle.topo_tree.proofs.Products.{HaveArities, whole_counts}
+use Rattle.topo_tree.specs.CountLaws.{HaveArities, whole_counts}
 use Rattle.topo_tree.specs.Coverage.{first_covered, set_covered}
 
 pub first_covered_whole : (pus count index : ℕ) → 0 < count → count * (pus / count) ≡ pus → first_covered pus count index ≡ index * (pus / count)

@@ -1,4 +1,3 @@
-pub mod Products
 pub mod Numbering
 pub mod SetSteps
 pub mod Faults

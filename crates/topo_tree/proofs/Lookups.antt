@@ -23,7 +23,7 @@ use Rattle.topo_tree.specs.Building.{pu_indexes, node_indexes, pu_numbers, node_
 use Rattle.topo_tree.specs.Coverage.{set_covered, layer_depth}
 use Rattle.topo_tree.specs.TableLists.{sets_covered, depth_sets, leaf_table}
 use Rattle.topo_tree.specs.Tables.{IsTabled}
-use Rattle.topo_tree.proofs.Products.{have_arities, few_objects, count_more}
+use Rattle.topo_tree.specs.CountLaws.{have_arities, few_objects, count_more}
 use Rattle.topo_tree.proofs.Faults.{length-numbers_of, all_good}
 use Rattle.topo_tree.proofs.Positions.{good_low, position-large}
 
@@ -88,25 +88,6 @@ place_in levels (Some memory) index sound below = (omega (arith, sound.above), b
 pub place_of_object : (described : Description) (layer : Layer) (index : ℕ) → IsSound described → IsLayer described layer → index < count_of described layer → (layer_depth described layer < length described.levels + 1) × (index < product (take (layer_depth described layer) (arities described.levels)))
 place_of_object described (layers.Depth depth) index sound within below = (within, below)
 place_of_object described layers.Memory index sound within below = place_in described.levels described.memory index sound.memory below
-
-arity_in : (levels : List Level) (depth : ℕ) → AllByRecursion (λ level. 1 ≤ level.arity) levels → depth < length levels → 1 ≤ slice_index (arities levels) depth
-arity_in [] depth some within = absurd (omega arith)
-arity_in (level ∷ levels) zero some within = some.0
-arity_in (level ∷ levels) (suc depth) some within = arity_in levels depth some.1 (omega arith)
-
-pub arity_some : (described : Description) (depth : ℕ) → IsSound described → depth < length described.levels → 1 ≤ arity_at described depth
-arity_some described depth sound within = arity_in described.levels depth (have_arities described sound) within
-
-pub children_few : (described : Description) (depth index : ℕ) → IsSound described → index < count_at described depth → index * arity_at described depth ≤ 4096
-children_few described depth index sound below =
-    elim (cases_lt depth (length described.levels)) [
-      | inl within ↦
-          let more = mul-le-mul_right (arity_at described depth) (let lower : index ≤ count_at described depth = omega arith in lower) in
-          omega (arith, more, count_more depth described.levels within, few_objects described (depth + 1) sound)
-      | inr past ↦
-          let none : arity_at described depth ≡ 0 = get_or_past (arities described.levels) depth 0 (subst (λ n. n ≤ depth) (sym (length-map described.levels (λ level. level.arity))) past) in
-          omega (arith, ap (λ arity. index * arity) none)
-    ]
 
 -- ---- what is known of the numbers
 

@@ -10,7 +10,7 @@ use Rattle.synth_text.specs.declared.description.Loop.{Loop}
 use Rattle.synth_text.specs.Rules.{product}
 use Rattle.synth_text.specs.Sound.{IsSoundLoop}
 use Rattle.topo_tree.specs.Numbers.{loops_number, loop_product}
-use Rattle.topo_tree.proofs.Products.{product_push}
+use Rattle.topo_tree.specs.CountLaws.{product_push}
 
 pub loop_product_some : (loops : List Loop) → AllByRecursion IsSoundLoop loops → 1 ≤ loop_product loops
 loop_product_some [] sound = omega arith

@@ -1,8 +1,9 @@
 -- Positions of physical numbers, and the table of them.
-use Rattle.std.proofs.Common.{◌≡◌, ◌≢◌, ℕ, suc, ◌+◌, ◌<◌, ◌≤◌, Bool, true, false, not, ◌||◌, ◌==◌, cond, nat_le, List, [], ◌∷◌, ◌++◌, length, take, get_or, slice_set, slice_index, Option, Some, None, refl, sym, ap, ◌∙◌, inl, inr, arith}
+use Rattle.std.proofs.Common.{◌≡◌, ◌≢◌, ℕ, zero, suc, ◌+◌, ◌<◌, ◌≤◌, Bool, true, false, not, ◌||◌, ◌==◌, cond, nat_le, List, [], ◌∷◌, ◌++◌, length, take, get_or, slice_set, slice_index, Option, Some, None, refl, sym, ap, subst, ◌∙◌, inl, inr, arith}
 use Rattle.std.specs.List.{position, prefix_len}
 use Rattle.std.proofs.lemmas.Bool.{cases_eq, cases_Bool, false≢true, eq-eqb, ne_eqb, leb-false, lt-ltb, le-ltb}
-use Rattle.std.proofs.lemmas.List.{ext_get_or, append-nil, length-set, length-take-le, length_push, get_or-set_same, get_or-set_other, take_more}
+use Rattle.std.proofs.lemmas.List.Sums.{prefix_len_is}
+use Rattle.std.proofs.lemmas.List.{get_or-take, ext_get_or, append-nil, length-set, length-take-le, length_push, get_or-set_same, get_or-set_other, take_more}
 use Rattle.std.proofs.lemmas.List.FromFn.{length-map-range_with_len, get_or-map-range_with_len}
 use Rattle.cpu_set.specs.Sets.{has}
 use Rattle.topo_tree.specs.Numbers.{is_bad}
@@ -119,3 +120,20 @@ position-large numbers k large low = position-none k numbers (none_large numbers
     none_large (x ∷ xs) low' =
         let first : x < 4096 = low' 0 (omega arith) in
         ap (λ b. b || has xs k) (ne_eqb x k (λ same. absurd (omega arith))) ∙ none_large xs (λ place within. low' (suc place) (omega arith))
+
+-- ---- the position of a number that is good
+
+absent : (xs : List ℕ) (n place : ℕ) → has xs n ≡ false → place < length xs → (slice_index xs place == n) ≡ false
+absent [] n place none within = absurd (omega arith)
+absent (x ∷ xs) n zero none within = (or_none (x == n) (has xs n) none).0
+absent (x ∷ xs) n (suc place) none within = absent xs n place (or_none (x == n) (has xs n) none).1 (omega arith)
+
+pub position-at : (numbers : List ℕ) (place : ℕ) → place < length numbers → is_bad numbers place ≡ false → position (λ x. x == slice_index numbers place) numbers ≡ Some place
+position-at numbers place within good =
+    let n = slice_index numbers place in
+    let long : length (take place numbers) ≡ place = length-take-le place numbers (omega arith) in
+    let at : others n numbers ≡ place =
+      prefix_len_is (λ x. not (x == n)) numbers place 0 (omega arith)
+      (λ k before. ap not (ap (λ x. x == n) (sym (get_or-take place numbers k 0 before)) ∙ absent (take place numbers) n k (good_new numbers place good) (subst (λ m. k < m) (sym long) before)))
+      (λ inside. ap not (eq-eqb n n refl)) in
+    place_of-before n numbers (omega (arith, at)) ∙ ap (λ m. Some m) at

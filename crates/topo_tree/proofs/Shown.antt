@@ -6,7 +6,7 @@ use Rattle.synth_text.specs.declared.description.Description.{Description}
 use Rattle.synth_text.specs.Rules.{arities, product}
 use Rattle.topo_tree.specs.Lines.{own_lines}
 use Rattle.topo_tree.specs.Beginnings.{width_at, lines_from}
-use Rattle.topo_tree.proofs.Products.{HaveArities, divided}
+use Rattle.topo_tree.specs.CountLaws.{HaveArities, divided}
 use Rattle.topo_tree.proofs.Trees.{flat_map-range_more}
 
 -- the parts of a line, appended one after another

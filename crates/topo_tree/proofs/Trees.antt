@@ -12,7 +12,7 @@ use Rattle.synth_text.specs.Rules.{arities, product}
 use Rattle.topo_tree.specs.Objects.{depth_count}
 use Rattle.topo_tree.specs.Lines.{own_lines, tree_lines, topology_text}
 use Rattle.topo_tree.specs.Beginnings.{width_at, lines_from, lines_at}
-use Rattle.topo_tree.proofs.Products.{HaveArities}
+use Rattle.topo_tree.specs.CountLaws.{HaveArities}
 
 -- ---- ranges and joined lists
 

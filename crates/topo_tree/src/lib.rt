@@ -5,6 +5,7 @@
 mod building;
 mod counts;
 mod fault;
+mod laws;
 mod layer;
 mod leaves;
 mod lines;
@@ -16,6 +17,7 @@ mod sizes;
 mod topology;
 
 pub use fault::BuildFault;
+pub use laws::{children_have_their_parent, numbers_name_their_pus};
 pub use layer::{Layer, Object};
 pub use topology::Topology;
 

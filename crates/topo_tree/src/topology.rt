@@ -1,5 +1,5 @@
 // A topology and its look-ups.
-ghost use Rattle.std.specs.Prelude.{◌≡◌, ◌<◌, ◌+◌, None, IfOk, OnOk, IfErr};
+ghost use Rattle.std.specs.Prelude.{◌≡◌, ◌<◌, ◌≤◌, None, IfOk, OnOk, IfErr};
 ghost use Rattle.synth_text.specs.Canonical.{canonical};
 ghost use Rattle.synth_text.specs.Sound.{IsSound};
 ghost use Rattle.topo_tree.specs.Objects.{depth_count, kind_at, arity_at, count_of, carrier_of, IsLayer, IsObject, parent_of, children_of};
@@ -63,6 +63,7 @@ impl Topology {
     /// The number of depths: Machine, and one for each level.
     pub fn depths(&self) -> u32
         ensures count { result ≡ depth_count self.now }
+        // What every topology keeps, for callers' proofs.
         ensures built { IsBuilt self.now }
     {
         self.sets.len() as u32
@@ -93,7 +94,8 @@ impl Topology {
     /// How many objects a layer has; 0 nodes of memory where the description has no memory.
     pub fn count(&self, layer: Layer) -> u32
         requires { IsLayer self.now layer }
-        ensures { result ≡ count_of self.now layer }
+        ensures count { result ≡ count_of self.now layer }
+        ensures few { result ≤ 4096 }
     {
         match layer {
             Layer::Depth(depth) => self.sets[depth as usize].len() as u32,

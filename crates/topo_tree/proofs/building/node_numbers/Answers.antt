@@ -3,7 +3,7 @@ use Rattle.synth_text.specs.declared.description.Indexes.TheVariants as indexes
 use Rattle.synth_text.specs.Rules.{arities, product, node_count}
 use Rattle.topo_tree.specs.Numbers.{numbers_of, indexes_fault}
 use Rattle.topo_tree.specs.Building.{node_indexes, node_numbers}
-use Rattle.topo_tree.proofs.Products.{few_objects}
+use Rattle.topo_tree.specs.CountLaws.{few_objects}
 use Rattle.topo_tree.proofs.Faults.{no_fault}
 use Rattle.topo_tree.proofs.building.node_numbers.Goals as goal
 

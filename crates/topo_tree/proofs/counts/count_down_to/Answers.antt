@@ -1,5 +1,5 @@
 use Rattle.std.proofs.Common.{arith, sym, ap, ◌∙◌, ◌*◌, ◌+◌}
-use Rattle.topo_tree.proofs.Products.{count_step, count_within}
+use Rattle.topo_tree.specs.CountLaws.{count_step, count_within}
 use Rattle.topo_tree.proofs.counts.count_down_to.Goals as goal
 
 pub overflow_mul-count : goal.overflow_mul-count

@@ -2,7 +2,7 @@ use Rattle.std.proofs.Common.{◌≡◌, ◌+◌, ◌*◌, length, take, map, sy
 use Rattle.std.specs.List.{range_with_len}
 use Rattle.synth_text.specs.Rules.{arities, product}
 use Rattle.topo_tree.specs.TableLists.{sets_covered, depth_sets}
-use Rattle.topo_tree.proofs.Products.{count_next, count_some, count_within}
+use Rattle.topo_tree.specs.CountLaws.{count_next, count_some, count_within}
 use Rattle.topo_tree.proofs.Coverings.{mapped_more, divides}
 use Rattle.topo_tree.proofs.sets.depth_sets.Goals as goal
 

@@ -5,7 +5,7 @@ use Rattle.synth_text.specs.Rules.{arities, product}
 use Rattle.topo_tree.specs.Building.{pu_numbers}
 use Rattle.topo_tree.specs.Numbers.{is_bad}
 use Rattle.topo_tree.specs.TableLists.{depth_sets, leaf_table}
-use Rattle.topo_tree.proofs.Products.{HaveArities, have_arities}
+use Rattle.topo_tree.specs.CountLaws.{HaveArities, have_arities}
 use Rattle.topo_tree.proofs.Lookups.{length-pu_numbers, pus_good, pus_low, first_refused, next_refused, none_refused}
 use Rattle.topo_tree.proofs.topology.Topology.build.Goals as goal
 

@@ -1,6 +1,6 @@
 use Rattle.std.proofs.Common.{◌<◌, ◌*◌, ap, subst, arith}
 use Rattle.topo_tree.specs.Objects.{count_of}
-use Rattle.topo_tree.proofs.Lookups.{children_few}
+use Rattle.topo_tree.specs.CountLaws.{children_few}
 use Rattle.topo_tree.proofs.topology.Topology.children.Goals as goal
 
 pub overflow_mul-result : goal.overflow_mul-result

@@ -5,7 +5,7 @@ use Rattle.synth_text.specs.Rules.{arities, product}
 use Rattle.topo_tree.specs.Objects.{count_of}
 use Rattle.topo_tree.specs.Building.{pu_numbers}
 use Rattle.topo_tree.specs.Coverage.{physical_of}
-use Rattle.topo_tree.proofs.Products.{last_count}
+use Rattle.topo_tree.specs.CountLaws.{last_count}
 use Rattle.topo_tree.proofs.Lookups.{tables, length-pu_numbers, length-node_numbers}
 use Rattle.topo_tree.proofs.topology.Topology.physical.Goals as goal
 

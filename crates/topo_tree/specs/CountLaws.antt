@@ -1,12 +1,15 @@
--- Products of arities: how many objects a depth has, and how many PUs each covers.
-use Rattle.std.proofs.Common.{◌≡◌, ℕ, zero, suc, ◌+◌, ◌*◌, ◌/◌, ◌<◌, ◌≤◌, List, [], ◌∷◌, ◌++◌, length, take, drop, get_or, Option, Some, None, refl, sym, ap, ◌∙◌, arith}
-use Rattle.std.proofs.Math.Nat.{mul_comm, mul_assoc, one-mul, mul-one, one-le-mul, mul-le-mul_left, div-eq_of_eq-mul_left}
-use Rattle.std.proofs.lemmas.List.{take_more, take_all, length-map, length-take-le, get_or-map, get_or-take}
+-- Laws of the counts of objects, as products of arities.
+use Rattle.std.proofs.Common.{◌≡◌, ℕ, zero, suc, ◌+◌, ◌-◌, ◌*◌, ◌/◌, ◌<◌, ◌≤◌, List, [], ◌∷◌, ◌++◌, length, map, take, drop, get_or, Option, Some, None, refl, sym, ap, ◌∙◌, subst, inl, inr, arith}
+use Rattle.std.proofs.Math.Nat.{mul_comm, mul_assoc, one-mul, mul-one, one-le-mul, mul-le-mul_left, mul-le-mul_right, div-eq_of_eq-mul_left}
+use Rattle.std.proofs.lemmas.Bool.{cases_lt}
+use Rattle.std.proofs.lemmas.Nat.{div-mul-add}
+use Rattle.std.proofs.lemmas.List.{get_or_past, take_more, take_all, length-map, length-take-le, get_or-map, get_or-take}
 use Rattle.std.specs.List.{AllByRecursion}
 use Rattle.synth_text.specs.declared.description.Level.{Level}
 use Rattle.synth_text.specs.declared.description.Memory.{Memory}
 use Rattle.synth_text.specs.declared.description.Description.{Description}
 use Rattle.synth_text.specs.Rules.{arities, product, node_count}
+use Rattle.topo_tree.specs.Objects.{arity_at, count_at}
 use Rattle.synth_text.specs.Sound.{IsSound, IsSoundLevel}
 
 -- each level has an arity
@@ -94,3 +97,36 @@ whole_counts depth levels some = ap (λ width. product (take depth (arities leve
 -- the last depth has the PUs
 pub last_count : (levels : List Level) → product (take (length levels) (arities levels)) ≡ product (arities levels)
 last_count levels = ap product (take_all (length levels) (arities levels) (omega (arith, length-map levels (λ (level : Level). level.arity))))
+
+-- ---- children
+
+arity_in : (levels : List Level) (depth : ℕ) → HaveArities levels → depth < length levels → 1 ≤ get_or (arities levels) depth 0
+arity_in [] depth some within = absurd (omega arith)
+arity_in (level ∷ levels) zero some within = some.0
+arity_in (level ∷ levels) (suc depth) some within = arity_in levels depth some.1 (omega arith)
+
+-- each object of a depth above the last has a child
+pub arity_some : (described : Description) (depth : ℕ) → IsSound described → depth < length described.levels → 1 ≤ arity_at described depth
+arity_some described depth sound within = arity_in described.levels depth (have_arities described sound) within
+
+-- the children of an object of a depth above the last are objects of the next depth
+pub children_within : (described : Description) (depth index : ℕ) → depth < length described.levels → index < count_at described depth → index * arity_at described depth + arity_at described depth ≤ count_at described (depth + 1)
+children_within described depth index within below =
+    let more = mul-le-mul_right (arity_at described depth) (let next : index + 1 ≤ count_at described depth = omega arith in next) in
+    omega (arith, more, count_more depth described.levels within)
+
+-- the number of children fits, and is 0 at the last depth
+pub children_few : (described : Description) (depth index : ℕ) → IsSound described → index < count_at described depth → index * arity_at described depth ≤ 4096
+children_few described depth index sound below =
+    elim (cases_lt depth (length described.levels)) [
+      | inl within ↦ omega (arith, children_within described depth index within below, few_objects described (depth + 1) sound)
+      | inr past ↦
+        let none : arity_at described depth ≡ 0 = get_or_past (arities described.levels) depth 0 (subst (λ n. n ≤ depth) (sym (length-map described.levels (λ (level : Level). level.arity))) past) in
+        omega (arith, ap (λ arity. index * arity) none)
+    ]
+
+-- a child is an object, and has the parent whose child it is
+pub child-parent : (described : Description) (depth index child : ℕ) → IsSound described → depth < length described.levels → index < count_at described depth → index * arity_at described depth ≤ child → child < index * arity_at described depth + arity_at described depth → (child < count_at described (depth + 1)) × (child / arity_at described depth ≡ index)
+child-parent described depth index child sound within below from to =
+    let place : child ≡ index * arity_at described depth + (child - index * arity_at described depth) = omega arith in
+    (omega (arith, children_within described depth index within below), ap (λ n. n / arity_at described depth) place ∙ div-mul-add index (arity_at described depth) (child - index * arity_at described depth) (omega arith))
