@@ -133,7 +133,7 @@ position-at numbers place within good =
     let n = slice_index numbers place in
     let long : length (take place numbers) ≡ place = length-take-le place numbers (omega arith) in
     let at : others n numbers ≡ place =
-      prefix_len_is (λ x. not (x == n)) numbers place 0 (omega arith)
-      (λ k before. ap not (ap (λ x. x == n) (sym (get_or-take place numbers k 0 before)) ∙ absent (take place numbers) n k (good_new numbers place good) (subst (λ m. k < m) (sym long) before)))
-      (λ inside. ap not (eq-eqb n n refl)) in
+    prefix_len_is (λ x. not (x == n)) numbers place 0 (omega arith)
+    (λ k before. ap not (ap (λ x. x == n) (sym (get_or-take place numbers k 0 before)) ∙ absent (take place numbers) n k (good_new numbers place good) (subst (λ m. k < m) (sym long) before)))
+    (λ inside. ap not (eq-eqb n n refl)) in
     place_of-before n numbers (omega (arith, at)) ∙ ap (λ m. Some m) at

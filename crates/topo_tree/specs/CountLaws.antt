@@ -121,8 +121,8 @@ children_few described depth index sound below =
     elim (cases_lt depth (length described.levels)) [
       | inl within ↦ omega (arith, children_within described depth index within below, few_objects described (depth + 1) sound)
       | inr past ↦
-        let none : arity_at described depth ≡ 0 = get_or_past (arities described.levels) depth 0 (subst (λ n. n ≤ depth) (sym (length-map described.levels (λ (level : Level). level.arity))) past) in
-        omega (arith, ap (λ arity. index * arity) none)
+          let none : arity_at described depth ≡ 0 = get_or_past (arities described.levels) depth 0 (subst (λ n. n ≤ depth) (sym (length-map described.levels (λ (level : Level). level.arity))) past) in
+          omega (arith, ap (λ arity. index * arity) none)
     ]
 
 -- a child is an object, and has the parent whose child it is

@@ -89,21 +89,54 @@ fn texts(rt: HostRuntime) -> Result<(), Fail> {
 #[test]
 fn refusals(rt: HostRuntime) {
     let cases: [(&[u8], BuildFault); 9] = [
-        (b"Core:1 PU:2(indexes=0,0)", BuildFault::IndexTwice { number: 0 }),
-        (b"PU:2(indexes=0,1,2)", BuildFault::IndexCount { found: 3, wanted: 2 }),
-        (b"PU:3(indexes=1,4096,1)", BuildFault::IndexRange { number: 4096 }),
-        (b"PU:3(indexes=1,1,4096)", BuildFault::IndexTwice { number: 1 }),
-        (b"PU:8(indexes=2*4:1*3)", BuildFault::IndexCount { found: 12, wanted: 8 }),
-        (b"PU:8(indexes=2*4:2*2)", BuildFault::IndexTwice { number: 0 }),
+        (
+            b"Core:1 PU:2(indexes=0,0)",
+            BuildFault::IndexTwice { number: 0 },
+        ),
+        (
+            b"PU:2(indexes=0,1,2)",
+            BuildFault::IndexCount {
+                found: 3,
+                wanted: 2,
+            },
+        ),
+        (
+            b"PU:3(indexes=1,4096,1)",
+            BuildFault::IndexRange { number: 4096 },
+        ),
+        (
+            b"PU:3(indexes=1,1,4096)",
+            BuildFault::IndexTwice { number: 1 },
+        ),
+        (
+            b"PU:8(indexes=2*4:1*3)",
+            BuildFault::IndexCount {
+                found: 12,
+                wanted: 8,
+            },
+        ),
+        (
+            b"PU:8(indexes=2*4:2*2)",
+            BuildFault::IndexTwice { number: 0 },
+        ),
         (
             b"PU:8(indexes=1*65536:1*65536)",
-            BuildFault::IndexCount { found: 4294967295, wanted: 8 },
+            BuildFault::IndexCount {
+                found: 4294967295,
+                wanted: 8,
+            },
         ),
         (
             b"Core:2 [node(indexes=1)] PU:2(indexes=0,0,1,2)",
-            BuildFault::IndexCount { found: 1, wanted: 2 },
+            BuildFault::IndexCount {
+                found: 1,
+                wanted: 2,
+            },
         ),
-        (b"numa:2(indexes=3,3) PU:2(indexes=0)", BuildFault::IndexTwice { number: 3 }),
+        (
+            b"numa:2(indexes=3,3) PU:2(indexes=0)",
+            BuildFault::IndexTwice { number: 3 },
+        ),
     ];
     for (text, fault) in cases {
         let description = read(rt.alloc(), text).expect(&rt, "a description");
@@ -119,7 +152,14 @@ fn objects(rt: HostRuntime) {
     let usual = built(&rt, rt.alloc(), USUAL);
     let [machine, package, core, pu] = [0, 1, 3, 4].map(Layer::Depth);
     assert_eq!(rt; (usual.depths(), usual.carrier()), (5, Some(1)));
-    assert_eq!(rt; (usual.count(machine), usual.count(pu), usual.count(Layer::Memory)), (1, 8, 2));
+    assert_eq!(rt;
+        (
+            usual.count(machine),
+            usual.count(pu),
+            usual.count(Layer::Memory)
+        ),
+        (1, 8, 2)
+    );
     assert_eq!(rt; usual.parent(at(machine, 0)), None);
     assert_eq!(rt; usual.parent(at(pu, 5)), Some(at(core, 2)));
     assert_eq!(rt; usual.parent(at(Layer::Memory, 1)), Some(at(package, 1)));
@@ -128,7 +168,10 @@ fn objects(rt: HostRuntime) {
     assert_eq!(rt; usual.children(at(Layer::Memory, 1)), (0, 0));
     let interleaved = built(&rt, rt.alloc(), b"Core:4 PU:2(indexes=2*4:1*2)");
     assert_eq!(rt; interleaved.physical(at(Layer::Depth(2), 3)), 5);
-    assert_eq!(rt; (interleaved.leaf_of(5), interleaved.leaf_of(8)), (Some(3), None));
+    assert_eq!(rt;
+        (interleaved.leaf_of(5), interleaved.leaf_of(8)),
+        (Some(3), None)
+    );
     let set = interleaved.set(at(Layer::Depth(1), 1));
     assert_eq!(rt; (set.weight(), set.has(1), set.has(5)), (2, true, true));
 }
@@ -154,16 +197,27 @@ fn names(rt: HostRuntime) {
         assert_eq!(rt; topology.layer_named(word), layer);
     }
     let plain = built(&rt, rt.alloc(), b"Group:2 PU:1");
-    assert_eq!(rt; (plain.layer_named(b"group"), plain.layer_named(b"node")), (Some(Layer::Depth(1)), None));
+    assert_eq!(rt;
+        (plain.layer_named(b"group"), plain.layer_named(b"node")),
+        (Some(Layer::Depth(1)), None)
+    );
 }
 
 #[test]
 fn at_the_limits(rt: HostRuntime) {
-    let most = built(&rt, rt.alloc(), b"Package:3 Group:1365 Group:1 Group:1 PU:1");
+    let most = built(
+        &rt,
+        rt.alloc(),
+        b"Package:3 Group:1365 Group:1 Group:1 PU:1",
+    );
     assert_eq!(rt; most.count(Layer::Depth(5)), 4095);
     assert_eq!(rt; most.set(at(Layer::Depth(1), 1)).weight(), 1365);
-    let usual: &[u8] = b"Package:2 [NUMANode(memory=34359738368)] L3Cache:1(size=33554432) L2Cache:16(size=1048576) L1dCache:1(size=32768) L1iCache:1(size=32768) Core:1 PU:2(indexes=2*32:1*2)";
+    let usual: &[u8] =
+        b"Package:2 [NUMANode(memory=34359738368)] L3Cache:1(size=33554432) L2Cache:16(size=1048576) L1dCache:1(size=32768) L1iCache:1(size=32768) Core:1 PU:2(indexes=2*32:1*2)";
     let usual = built(&rt, rt.alloc(), usual);
     let set = usual.set(at(Layer::Depth(1), 1));
-    assert_eq!(rt; (set.weight(), set.first(), set.has(63), set.has(47)), (32, Some(16), true, false));
+    assert_eq!(rt;
+        (set.weight(), set.first(), set.has(63), set.has(47)),
+        (32, Some(16), true, false)
+    );
 }

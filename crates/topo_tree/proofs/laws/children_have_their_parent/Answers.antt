@@ -9,10 +9,9 @@ pub returns : goal.returns
 returns c = λ described depth index child built within below from to.
     let found = child-parent described depth index child built.sound within below from to in
     let deeper : (depth + 1 == 0) ≡ false = ne_eqb (depth + 1) 0 (λ none. absurd (omega arith)) in
-    let above : (depth + 1) - 1 ≡ depth = omega arith in
-    (
+    let above : (depth + 1) - 1 ≡ depth = omega arith in (
       found.0,
       ap (λ b. cond b None (Some (record { layer = layers.Depth (depth + 1 - 1); index = child / arity_at described (depth + 1 - 1) }))) deeper
-      ∙ ap (λ d. Some (record { layer = layers.Depth d; index = child / arity_at described d })) above
-      ∙ ap (λ n. Some (record { layer = layers.Depth depth; index = n })) found.1,
+          ∙ ap (λ d. Some (record { layer = layers.Depth d; index = child / arity_at described d })) above
+          ∙ ap (λ n. Some (record { layer = layers.Depth depth; index = n })) found.1,
     )
