@@ -1,0 +1,9 @@
+pub mod Numbering
+pub mod SetSteps
+pub mod Faults
+pub mod Coverings
+pub mod Positions
+pub mod Lookups
+pub mod Depths
+pub mod Trees
+pub mod Shown

@@ -1,0 +1,12 @@
+pub mod Objects
+pub mod Numbers
+pub mod Building
+pub mod CountLaws
+pub mod Coverage
+pub mod Naming
+pub mod Sizes
+pub mod Lines
+pub mod Beginnings
+pub mod Laws
+pub mod TableLists
+pub mod Tables

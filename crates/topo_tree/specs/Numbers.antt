@@ -1,0 +1,53 @@
+-- Physical numbers of objects, as `indexes` gives them, and what is wrong with them.
+use Rattle.std.specs.Prelude.{ℕ, ◌+◌, ◌-◌, ◌*◌, ◌/◌, ◌%◌, ◌^◌, ◌==◌, ◌||◌, Bool, nat_le, min, List, [], ◌∷◌, length, map, take, slice_index, Option, Some, option_map, find, if◌then◌else◌}
+use Rattle.std.specs.List.{range_with_len}
+use Rattle.cpu_set.specs.Sets.{has}
+use Rattle.synth_text.specs.declared.description.Loop.{Loop}
+use Rattle.synth_text.specs.declared.description.Indexes.{Indexes}
+use Rattle.synth_text.specs.declared.description.Indexes.TheVariants as indexes
+use Rattle.synth_text.specs.Rules.{product}
+use Rattle.topo_tree.specs.declared.fault.BuildFault.{BuildFault}
+use Rattle.topo_tree.specs.declared.fault.BuildFault.TheVariants as faults
+
+-- Object j gets the sum over the loops of ((j / step) mod count) times the product of the counts of the earlier loops,
+-- which is `factor` before these.
+abbrev pub loops_number : ℕ → List Loop → ℕ → ℕ
+loops_number factor [] object = 0
+loops_number factor (given ∷ later) object = (object / given.step) % given.count * factor + loops_number (factor * given.count) later object
+
+-- the physical number of an object
+abbrev pub number_of : Indexes → ℕ → ℕ
+number_of indexes.Ordered object = object
+number_of (indexes.List numbers) object = slice_index numbers object
+number_of (indexes.Loops loops) object = loops_number 1 loops object
+
+-- the physical numbers of so many objects, in order
+unfoldable pub numbers_of : Indexes → ℕ → List ℕ
+numbers_of given count = map (number_of given) (range_with_len 0 count)
+
+-- the product of the counts of loops
+abbrev pub loop_product : List Loop → ℕ
+loop_product loops = product (map (λ given. given.count) loops)
+
+-- how many objects the indexes are for, where there are so many
+abbrev pub index_count : Indexes → ℕ → ℕ
+index_count indexes.Ordered count = count
+index_count (indexes.List numbers) count = length numbers
+index_count (indexes.Loops loops) count = loop_product loops
+
+-- whether the number at a place is too large, or stood before
+abbrev pub is_bad : List ℕ → ℕ → Bool
+is_bad numbers place = nat_le 4096 (slice_index numbers place) || has (take place numbers) (slice_index numbers place)
+
+-- that it is too large comes before that it stood before
+abbrev pub number_fault : ℕ → BuildFault
+number_fault number = if nat_le 4096 number then faults.IndexRange number else faults.IndexTwice number
+
+-- the fault of the first bad number from the left
+unfoldable pub first_fault : List ℕ → Option BuildFault
+first_fault numbers = option_map (λ place. number_fault (slice_index numbers place)) (find (is_bad numbers) (range_with_len 0 (length numbers)))
+
+-- the first broken rule on the indexes of so many objects; a length or product over 4,294,967,295 is given as that
+unfoldable pub indexes_fault : Indexes → ℕ → Option BuildFault
+indexes_fault given count =
+    if index_count given count == count then first_fault (numbers_of given count) else Some (faults.IndexCount (min (index_count given count) (2 ^ 32 - 1)) count)

@@ -1,0 +1,19 @@
+// How objects are named.
+
+/// A layer of objects.
+#[derive(Clone, Copy, Debug, PartialEq, Eq)]
+pub enum Layer {
+    /// The objects of a depth: Machine at 0, the PUs at the greatest.
+    Depth(u32),
+    /// The nodes of memory.
+    Memory,
+}
+
+/// An object: its layer, and its place among the objects of that layer, from 0.
+#[derive(Clone, Copy, Debug, PartialEq, Eq)]
+pub struct Object {
+    /// The layer.
+    pub layer: Layer,
+    /// The logical number.
+    pub index: u32,
+}

@@ -1,0 +1,34 @@
+// Which PU has a physical number.
+ghost use Rattle.std.specs.Prelude.{◌≡◌, ◌<◌, ◌≤◌, ℕ, [], length, false, IfOk};
+ghost use Rattle.cpu_set.specs.Sets.{has};
+ghost use Rattle.topo_tree.specs.Numbers.{is_bad};
+ghost use Rattle.topo_tree.specs.TableLists.{leaf_table};
+
+use std::alloc::{AllocError, Global};
+
+// The physical numbers are below this.
+const NUMBERS: usize = 4096;
+
+/// For each number below 4,096 the position of the PU that has it.
+pub fn leaf_table(alloc: Global, numbers: &[u32]) -> Result<Vec<Option<u32>>, AllocError>
+    requires few { length numbers.now ≤ 4096 }
+    requires good { (place : ℕ) → place < length numbers.now → is_bad numbers.now place ≡ false }
+    ensures { IfOk result (λ leaves. leaves.items ≡ leaf_table numbers.now) }
+{
+    let mut leaves = no_leaves(alloc)?;
+    for position in 0..numbers.len() {
+        leaves[numbers[position] as usize] = Some(position as u32);
+    }
+    Ok(leaves)
+}
+
+// A table without a PU.
+fn no_leaves(alloc: Global) -> Result<Vec<Option<u32>>, AllocError>
+    ensures { IfOk result (λ leaves. leaves.items ≡ leaf_table []) }
+{
+    let mut leaves = Vec::with_capacity(alloc, NUMBERS)?;
+    for _ in 0..NUMBERS {
+        leaves.push(None)?;
+    }
+    Ok(leaves)
+}

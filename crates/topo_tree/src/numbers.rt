@@ -1,0 +1,99 @@
+// Physical numbers.
+ghost use Rattle.std.specs.Prelude.{◌≡◌, ◌<◌, ◌≤◌, ◌-◌, ◌^◌, ℕ, None, length, min, IfOk, OnOk, IfErr};
+ghost use Rattle.std.specs.List.{AllByRecursion};
+ghost use Rattle.synth_text.specs.Sound.{AreSoundIndexes, IsSoundLoop};
+ghost use Rattle.topo_tree.specs.Numbers.{number_of, numbers_of, loops_number, loop_product, index_count, indexes_fault};
+ghost use Rattle.topo_tree.specs.Building.{IsFaultUnlessMemory};
+
+use crate::fault::BuildFault;
+use cpu_set::CpuSet;
+use std::alloc::Global;
+use synth_text::{Indexes, Loop};
+
+/// The physical numbers of so many objects, or the first broken rule.
+pub fn physical_numbers(
+    alloc: Global,
+    indexes: &Indexes,
+    count: u32,
+) -> Result<Vec<u32>, BuildFault>
+    requires sound { AreSoundIndexes indexes.now }
+    requires few { count ≤ 4096 }
+    ensures numbers { IfOk result (λ numbers. numbers.items ≡ numbers_of indexes.now count) }
+    ensures good { OnOk result (indexes_fault indexes.now count ≡ None) }
+    ensures fault { IfErr result (IsFaultUnlessMemory (indexes_fault indexes.now count)) }
+{
+    let found = capped_count(indexes, count);
+    if found != count {
+        return Err(BuildFault::IndexCount {
+            found,
+            wanted: count,
+        });
+    }
+    let mut seen = CpuSet::empty();
+    let mut numbers = Vec::new(alloc);
+    for object in 0..count {
+        let number = number_of(indexes, object);
+        if number >= 4096 {
+            return Err(BuildFault::IndexRange { number });
+        }
+        if seen.has(number) {
+            return Err(BuildFault::IndexTwice { number });
+        }
+        seen.with(number);
+        numbers.push(number)?;
+    }
+    Ok(numbers)
+}
+
+// How many objects the indexes are for, where there are so many; the greatest u32 where that is over it.
+fn capped_count(indexes: &Indexes, count: u32) -> u32
+    requires sound { AreSoundIndexes indexes.now }
+    ensures { result ≡ min (index_count indexes.now count) (2 ^ 32 - 1) }
+{
+    match indexes {
+        Indexes::Ordered => count,
+        Indexes::List(numbers) => numbers.as_slice().len().min(u32::MAX as usize) as u32,
+        Indexes::Loops(loops) => capped_product(loops.as_slice()),
+    }
+}
+
+// The product of the loops' counts; the greatest u32 where it is over that.
+fn capped_product(loops: &[Loop]) -> u32
+    requires { AllByRecursion IsSoundLoop loops.now }
+    ensures { result ≡ min (loop_product loops.now) (2 ^ 32 - 1) }
+{
+    let mut product: u32 = 1;
+    for given in loops {
+        product = product.saturating_mul(given.count);
+    }
+    product
+}
+
+// The physical number of an object that the indexes are for.
+fn number_of(indexes: &Indexes, object: u32) -> u32
+    requires sound { AreSoundIndexes indexes.now }
+    requires within { object < index_count indexes.now 4096 }
+    requires few { index_count indexes.now 4096 ≤ 4096 }
+    ensures { result ≡ number_of indexes.now object }
+{
+    match indexes {
+        Indexes::Ordered => object,
+        Indexes::List(numbers) => numbers.as_slice()[object as usize],
+        Indexes::Loops(loops) => loops_number(loops.as_slice(), object),
+    }
+}
+
+// The physical number that loops give an object.
+fn loops_number(loops: &[Loop], object: u32) -> u32
+    requires sound { AllByRecursion IsSoundLoop loops.now }
+    requires few { loop_product loops.now ≤ 4096 }
+    ensures { result ≡ loops_number 1 loops.now object }
+{
+    let mut number = 0;
+    let mut factor = 1;
+    for given in loops {
+        number += object / given.step % given.count * factor;
+        factor *= given.count;
+    }
+    number
+}

@@ -1,0 +1,149 @@
+// The two texts of a topology.
+ghost use Rattle.std.specs.Prelude.{◌≡◌, ◌<◌, ◌+◌, ◌++◌, ◌∷◌, [], None, length, slice_index_or, IfOk, OnOk};
+ghost use Rattle.synth_text.specs.Canonical.{canonical};
+ghost use Rattle.synth_text.specs.Kinds.{short_name_of};
+ghost use Rattle.synth_text.specs.Rules.{pu_count};
+ghost use Rattle.synth_text.specs.declared.kind.Kind.TheVariants as kinds;
+ghost use Rattle.topo_tree.specs.declared.layer.Layer.TheVariants as layers;
+ghost use Rattle.topo_tree.specs.Objects.{depth_count, count_at, count_of};
+ghost use Rattle.topo_tree.specs.Building.{IsBuilt};
+ghost use Rattle.topo_tree.specs.Coverage.{physical_of};
+ghost use Rattle.topo_tree.specs.Lines.{sizes, group_number, node_detail, line, object_line, own_lines, topology_text};
+ghost use Rattle.topo_tree.specs.Beginnings.{lines_at};
+
+use crate::layer::{Layer, Object};
+use crate::lines::{push_detail, push_indent, push_index, push_node_detail, push_short_name};
+use crate::topology::Topology;
+use edge_io::OutOfMemory;
+use std::alloc::{AllocError, Global};
+use synth_text::{Kind, write};
+
+impl Topology {
+    /// The canonical text of the description, and a line end.
+    pub fn export(&self, alloc: Global) -> Result<Vec<u8>, OutOfMemory>
+        ensures { IfOk result (λ text. text.items ≡ canonical self.now ++ 10 ∷ []) }
+    {
+        let mut text = write(alloc, self.description())?;
+        text.push(b'\n')?;
+        Ok(text)
+    }
+
+    /// The tree of objects, one a line.
+    pub fn show(&self, alloc: Global) -> Result<Vec<u8>, OutOfMemory>
+        ensures { IfOk result (λ text. text.items ≡ topology_text self.now) }
+    {
+        let mut out = Vec::new(alloc);
+        for position in 0..self.count(self.pu_layer()) {
+            self.push_lines_at(&mut out, position)?;
+        }
+        Ok(out)
+    }
+
+    // The layer of the PUs.
+    fn pu_layer(&self) -> Layer
+        ensures layer { result ≡ layers.Depth (length self.now.levels) }
+        ensures built { IsBuilt self.now }
+    {
+        Layer::Depth(self.depths() - 1)
+    }
+
+    // Appends the lines of all objects that have their first PU at a position, from the outermost in.
+    fn push_lines_at(&self, out: &mut Vec<u8>, position: u32) -> Result<(), AllocError>
+        requires { position < pu_count self.now }
+        ensures { OnOk result (out.new.items ≡ out.old.items ++ lines_at self.now position) }
+    {
+        let pus = self.count(self.pu_layer());
+        for depth in 0..self.depths() {
+            let width = pus / self.count(Layer::Depth(depth));
+            if position % width == 0 {
+                self.push_own_lines(out, depth, position / width)?;
+            }
+        }
+        Ok(())
+    }
+
+    // Appends the line of an object, and of the NUMANode that it carries.
+    #[tactic(auto, unfolding(crate::specs::Lines::own_lines))]
+    fn push_own_lines(&self, out: &mut Vec<u8>, depth: u32, index: u32) -> Result<(), AllocError>
+        requires depth { depth < depth_count self.now }
+        requires index { index < count_at self.now depth }
+        ensures { OnOk result (out.new.items ≡ out.old.items ++ own_lines self.now depth index) }
+    {
+        self.push_object(out, depth, index)?;
+        match &self.description().memory {
+            Some(memory) if memory.above == depth => {
+                self.push_node(out, depth + 1, index, memory.size)
+            }
+            _ => Ok(()),
+        }
+    }
+
+    // Appends the line of an object.
+    fn push_object(&self, out: &mut Vec<u8>, depth: u32, index: u32) -> Result<(), AllocError>
+        requires depth { depth < depth_count self.now }
+        requires index { index < count_at self.now depth }
+        ensures { OnOk result (out.new.items ≡ out.old.items ++ object_line self.now depth index) }
+    {
+        let kind = self.kind(depth);
+        let object = Object {
+            layer: Layer::Depth(depth),
+            index,
+        };
+        push_indent(out, depth)?;
+        push_short_name(out, kind, self.group_number(depth))?;
+        push_index(out, index)?;
+        push_detail(out, kind, self.physical(object), self.size(depth))?;
+        out.push(b'\n')?;
+        Ok(())
+    }
+
+    // Appends the line of a NUMANode.
+    fn push_node(
+        &self,
+        out: &mut Vec<u8>,
+        depth: u32,
+        index: u32,
+        size: Option<u64>,
+    ) -> Result<(), AllocError>
+        requires { index < count_of self.now layers.Memory }
+        ensures { OnOk result (out.new.items ≡ out.old.items
+            ++ line depth (short_name_of kinds.NumaNode) index (node_detail (physical_of self.now layers.Memory index) size)) }
+    {
+        let object = Object {
+            layer: Layer::Memory,
+            index,
+        };
+        push_indent(out, depth)?;
+        push_short_name(out, Kind::NumaNode, 0)?;
+        push_index(out, index)?;
+        push_node_detail(out, self.physical(object), size)?;
+        out.push(b'\n')?;
+        Ok(())
+    }
+
+    // How many Group levels stand above a depth.
+    fn group_number(&self, depth: u32) -> u32
+        requires { depth < depth_count self.now }
+        ensures { result ≡ group_number self.now depth }
+    {
+        let mut number = 0;
+        for above in 0..depth {
+            if self.kind(above).is_same(Kind::Group) {
+                number += 1;
+            }
+        }
+        number
+    }
+
+    // The size that the level of a depth gives.
+    fn size(&self, depth: u32) -> Option<u64>
+        requires { depth < depth_count self.now }
+        ensures { result ≡ slice_index_or (sizes self.now) depth None }
+    {
+        if depth == 0 {
+            None
+        } else {
+            self.description().levels.as_slice()[depth as usize - 1].size
+        }
+    }
+}

@@ -1,0 +1,207 @@
+// A topology and its look-ups.
+ghost use Rattle.std.specs.Prelude.{◌≡◌, ◌<◌, ◌≤◌, None, IfOk, OnOk, IfErr};
+ghost use Rattle.synth_text.specs.Canonical.{canonical};
+ghost use Rattle.synth_text.specs.Sound.{IsSound};
+ghost use Rattle.topo_tree.specs.Objects.{depth_count, kind_at, arity_at, count_of, carrier_of, IsLayer, IsObject, parent_of, children_of};
+ghost use Rattle.topo_tree.specs.Building.{build_fault, IsFaultUnlessMemory, IsBuilt};
+ghost use Rattle.topo_tree.specs.Coverage.{set_of, layer_depth, physical_of, leaf_of};
+
+use crate::building::{node_numbers, pu_numbers};
+use crate::fault::BuildFault;
+use crate::layer::{Layer, Object};
+use crate::leaves::leaf_table;
+use crate::sets::depth_sets;
+use cpu_set::CpuSet;
+use std::alloc::Global;
+use std::marker::Model;
+use synth_text::{Description, Kind};
+
+/// The tree of objects of a description, which contracts see as that description.
+#[derive(Drop)]
+pub struct Topology {
+    description: Description,
+    sets: Vec<Vec<CpuSet>>,
+    numbers: Vec<u32>,
+    nodes: Vec<u32>,
+    leaves: Vec<Option<u32>>,
+}
+
+impl Model for Topology {
+    ghost use Rattle.synth_text.specs.declared.description.Description.{Description as Described};
+
+    ghost Value = { Described };
+
+    ghost use Rattle.topo_tree.specs.Tables.{IsTabled};
+
+    ghost view = { λ topology. topology.description };
+
+    ghost invariant = { IsTabled };
+}
+
+impl Topology {
+    /// Builds the tree of a description that a text describes. It is refused for the first rule that its physical
+    /// numbers break: those of the memory from the left, then those of the PUs.
+    pub fn build(alloc: Global, description: Description) -> Result<Topology, BuildFault>
+        requires { IsSound description }
+        ensures built { IfOk result (λ topology. topology ≡ description) }
+        ensures accepted { OnOk result (build_fault description ≡ None) }
+        ensures refused { IfErr result (IsFaultUnlessMemory (build_fault description)) }
+    {
+        let nodes = node_numbers(alloc, &description)?;
+        let numbers = pu_numbers(alloc, &description)?;
+        let sets = depth_sets(alloc, description.levels.as_slice(), &numbers)?;
+        let leaves = leaf_table(alloc, &numbers)?;
+        Ok(Topology {
+            description,
+            sets,
+            numbers,
+            nodes,
+            leaves,
+        })
+    }
+
+    /// The number of depths: Machine, and one for each level.
+    pub fn depths(&self) -> u32
+        ensures count { result ≡ depth_count self.now }
+        // What every topology keeps, for callers' proofs.
+        ensures built { IsBuilt self.now }
+    {
+        self.sets.len() as u32
+    }
+
+    /// The kind of the objects of a depth.
+    pub fn kind(&self, depth: u32) -> Kind
+        requires { depth < depth_count self.now }
+        ensures { result ≡ kind_at self.now depth }
+    {
+        if depth == 0 {
+            Kind::Machine
+        } else {
+            self.description.levels.as_slice()[depth as usize - 1].kind
+        }
+    }
+
+    /// The depth of the objects that carry the nodes of memory; `None` where the description has no memory.
+    pub fn carrier(&self) -> Option<u32>
+        ensures { result ≡ carrier_of self.now }
+    {
+        match &self.description.memory {
+            None => None,
+            Some(memory) => Some(memory.above),
+        }
+    }
+
+    /// How many objects a layer has; 0 nodes of memory where the description has no memory.
+    pub fn count(&self, layer: Layer) -> u32
+        requires { IsLayer self.now layer }
+        ensures count { result ≡ count_of self.now layer }
+        ensures few { result ≤ 4096 }
+    {
+        match layer {
+            Layer::Depth(depth) => self.sets[depth as usize].len() as u32,
+            Layer::Memory => self.nodes.len() as u32,
+        }
+    }
+
+    /// The numbers of the PUs that an object covers. A NUMANode has the set of the object that carries it.
+    pub fn set(&self, object: Object) -> &CpuSet
+        requires { IsObject self.now object }
+        ensures { result.now ≡ set_of self.now object.layer object.index }
+    {
+        let depth = self.depth_of(object.layer);
+        &self.sets[depth as usize][object.index as usize]
+    }
+
+    /// The physical number of a PU or a NUMANode, and the logical number of any other object.
+    pub fn physical(&self, object: Object) -> u32
+        requires { IsObject self.now object }
+        ensures { result ≡ physical_of self.now object.layer object.index }
+    {
+        match object.layer {
+            Layer::Depth(depth) if depth as usize == self.description.levels.as_slice().len() => {
+                self.numbers[object.index as usize]
+            }
+            Layer::Depth(_) => object.index,
+            Layer::Memory => self.nodes[object.index as usize],
+        }
+    }
+
+    /// The object above, which for a NUMANode is its carrier; `None` for Machine.
+    pub fn parent(&self, object: Object) -> Option<Object>
+        requires { IsObject self.now object }
+        ensures { result ≡ parent_of self.now object.layer object.index }
+    {
+        match object.layer {
+            Layer::Depth(depth) => {
+                if depth == 0 {
+                    None
+                } else {
+                    Some(Object {
+                        layer: Layer::Depth(depth - 1),
+                        index: object.index / self.arity(depth - 1),
+                    })
+                }
+            }
+            Layer::Memory => Some(Object {
+                layer: Layer::Depth(self.depth_of(Layer::Memory)),
+                index: object.index,
+            }),
+        }
+    }
+
+    /// The first index and the number of the objects one depth below; (0, 0) for a NUMANode, and the number 0 for a PU.
+    pub fn children(&self, object: Object) -> (u32, u32)
+        requires { IsObject self.now object }
+        ensures { result ≡ children_of self.now object.layer object.index }
+    {
+        match object.layer {
+            Layer::Depth(depth) => {
+                let arity = self.arity(depth);
+                (object.index * arity, arity)
+            }
+            Layer::Memory => (0, 0),
+        }
+    }
+
+    /// The logical number of the PU that has a physical number; `None` where none has it.
+    pub fn leaf_of(&self, physical: u32) -> Option<u32>
+        ensures { result ≡ leaf_of self.now physical }
+    {
+        let leaves = &self.leaves;
+        if physical < 4096 {
+            leaves[physical as usize]
+        } else {
+            None
+        }
+    }
+
+    // The description.
+    pub(crate) fn description(&self) -> &Description
+        ensures description { result.now ≡ self.now }
+        ensures built { IsBuilt self.now }
+    {
+        &self.description
+    }
+
+    // The depth of a layer's objects, or of those that carry the nodes of memory; 0 where there are none.
+    fn depth_of(&self, layer: Layer) -> u32
+        ensures { result ≡ layer_depth self.now layer }
+    {
+        match (layer, &self.description.memory) {
+            (Layer::Depth(depth), _) => depth,
+            (Layer::Memory, Some(memory)) => memory.above,
+            (Layer::Memory, None) => 0,
+        }
+    }
+
+    // How many children each object of a depth has.
+    fn arity(&self, depth: u32) -> u32
+        ensures arity { result ≡ arity_at self.now depth }
+        ensures built { IsBuilt self.now }
+    {
+        match self.description.levels.as_slice().get(depth as usize) {
+            Some(level) => level.arity,
+            None => 0,
+        }
+    }
+}
