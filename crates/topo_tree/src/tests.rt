@@ -1,17 +1,60 @@
+ghost use Rattle.topo_tree.specs.Objects.{IsLayer, IsObject};
+
 use super::*;
+use cpu_set::CpuSet;
 use std::alloc::Global;
 use std::process::Abort;
 use std::test::Fail;
-use synth_text::{Kind, read};
+use synth_text::read;
+
+// The topology of a text, or the fault of its numbers.
+fn try_built(rt: &impl Abort, alloc: Global, text: &[u8]) -> Result<Topology, BuildFault> {
+    match read(alloc, text) {
+        Ok(description) => Topology::build(alloc, description),
+        Err(_) => panic!(rt; "not a description"),
+    }
+}
 
 // The topology of a text.
 fn built(rt: &impl Abort, alloc: Global, text: &[u8]) -> Topology {
-    let description = read(alloc, text).expect(rt, "a description");
-    Topology::build(alloc, description).expect(rt, "a topology")
+    match try_built(rt, alloc, text) {
+        Ok(topology) => topology,
+        Err(_) => panic!(rt; "not a topology"),
+    }
 }
 
-fn at(layer: Layer, index: u32) -> Object {
+fn check_layer(rt: &impl Abort, topology: &Topology, layer: Layer)
+    ensures { IsLayer topology.now layer }
+{
+    match layer {
+        Layer::Depth(depth) => assert!(rt; depth < topology.depths()),
+        Layer::Memory => {}
+    }
+}
+
+fn count(rt: &impl Abort, topology: &Topology, layer: Layer) -> u32 {
+    check_layer(rt, topology, layer);
+    topology.count(layer)
+}
+
+fn object(rt: &impl Abort, topology: &Topology, layer: Layer, index: u32) -> Object
+    ensures { IsObject topology.now result }
+{
+    check_layer(rt, topology, layer);
+    assert!(rt; index < topology.count(layer));
     Object { layer, index }
+}
+
+fn parent(rt: &impl Abort, topology: &Topology, layer: Layer, index: u32) -> Option<Object> {
+    topology.parent(object(rt, topology, layer, index))
+}
+
+fn children(rt: &impl Abort, topology: &Topology, layer: Layer, index: u32) -> (u32, u32) {
+    topology.children(object(rt, topology, layer, index))
+}
+
+fn set(rt: &impl Abort, topology: &Topology, layer: Layer, index: u32) -> CpuSet {
+    *topology.set(object(rt, topology, layer, index))
 }
 
 const USUAL: &[u8] = b"Package:2 [NUMANode(memory=1GiB)] L3Cache:1(size=8MiB) Core:2 PU:2";
@@ -139,8 +182,7 @@ fn refusals(rt: HostRuntime) {
         ),
     ];
     for (text, fault) in cases {
-        let description = read(rt.alloc(), text).expect(&rt, "a description");
-        match Topology::build(rt.alloc(), description) {
+        match try_built(&rt, rt.alloc(), text) {
             Ok(_) => panic!(rt; "a bad description was built"),
             Err(found) => assert_eq!(rt; found, fault),
         }
@@ -150,30 +192,41 @@ fn refusals(rt: HostRuntime) {
 #[test]
 fn objects(rt: HostRuntime) {
     let usual = built(&rt, rt.alloc(), USUAL);
-    let [machine, package, core, pu] = [0, 1, 3, 4].map(Layer::Depth);
-    assert_eq!(rt; (usual.depths(), usual.carrier()), (5, Some(1)));
+    let machine = Layer::Depth(0);
+    let package = Layer::Depth(1);
+    let core = Layer::Depth(3);
+    let pu = Layer::Depth(4);
+    assert_eq!(rt; usual.depths(), 5);
+    assert_eq!(rt; usual.carrier(), Some(1));
+    assert_eq!(rt; count(&rt, &usual, machine), 1);
+    assert_eq!(rt; count(&rt, &usual, pu), 8);
+    assert_eq!(rt; count(&rt, &usual, Layer::Memory), 2);
+    assert_eq!(rt; parent(&rt, &usual, machine, 0), None);
     assert_eq!(rt;
-        (
-            usual.count(machine),
-            usual.count(pu),
-            usual.count(Layer::Memory)
-        ),
-        (1, 8, 2)
+        parent(&rt, &usual, pu, 5),
+        Some(Object {
+            layer: core,
+            index: 2
+        })
     );
-    assert_eq!(rt; usual.parent(at(machine, 0)), None);
-    assert_eq!(rt; usual.parent(at(pu, 5)), Some(at(core, 2)));
-    assert_eq!(rt; usual.parent(at(Layer::Memory, 1)), Some(at(package, 1)));
-    assert_eq!(rt; usual.children(at(core, 3)), (6, 2));
-    assert_eq!(rt; usual.children(at(pu, 3)).1, 0);
-    assert_eq!(rt; usual.children(at(Layer::Memory, 1)), (0, 0));
+    assert_eq!(rt;
+        parent(&rt, &usual, Layer::Memory, 1),
+        Some(Object {
+            layer: package,
+            index: 1
+        })
+    );
+    assert_eq!(rt; children(&rt, &usual, core, 3), (6, 2));
+    assert_eq!(rt; children(&rt, &usual, pu, 3), (0, 0));
+    assert_eq!(rt; children(&rt, &usual, Layer::Memory, 1), (0, 0));
     let interleaved = built(&rt, rt.alloc(), b"Core:4 PU:2(indexes=2*4:1*2)");
-    assert_eq!(rt; interleaved.physical(at(Layer::Depth(2), 3)), 5);
-    assert_eq!(rt;
-        (interleaved.leaf_of(5), interleaved.leaf_of(8)),
-        (Some(3), None)
-    );
-    let set = interleaved.set(at(Layer::Depth(1), 1));
-    assert_eq!(rt; (set.weight(), set.has(1), set.has(5)), (2, true, true));
+    let third = object(&rt, &interleaved, Layer::Depth(2), 3);
+    assert_eq!(rt; interleaved.physical(third), 5);
+    assert_eq!(rt; interleaved.leaf_of(5), Some(3));
+    assert_eq!(rt; interleaved.leaf_of(8), None);
+    let cores = set(&rt, &interleaved, Layer::Depth(1), 1);
+    assert_eq!(rt; cores.weight(), 2);
+    assert!(rt; cores.has(1) && cores.has(5));
 }
 
 #[test]
@@ -197,10 +250,8 @@ fn names(rt: HostRuntime) {
         assert_eq!(rt; topology.layer_named(word), layer);
     }
     let plain = built(&rt, rt.alloc(), b"Group:2 PU:1");
-    assert_eq!(rt;
-        (plain.layer_named(b"group"), plain.layer_named(b"node")),
-        (Some(Layer::Depth(1)), None)
-    );
+    assert_eq!(rt; plain.layer_named(b"group"), Some(Layer::Depth(1)));
+    assert_eq!(rt; plain.layer_named(b"node"), None);
 }
 
 #[test]
@@ -210,14 +261,13 @@ fn at_the_limits(rt: HostRuntime) {
         rt.alloc(),
         b"Package:3 Group:1365 Group:1 Group:1 PU:1",
     );
-    assert_eq!(rt; most.count(Layer::Depth(5)), 4095);
-    assert_eq!(rt; most.set(at(Layer::Depth(1), 1)).weight(), 1365);
+    assert_eq!(rt; count(&rt, &most, Layer::Depth(5)), 4095);
+    assert_eq!(rt; set(&rt, &most, Layer::Depth(1), 1).weight(), 1365);
     let usual: &[u8] =
         b"Package:2 [NUMANode(memory=34359738368)] L3Cache:1(size=33554432) L2Cache:16(size=1048576) L1dCache:1(size=32768) L1iCache:1(size=32768) Core:1 PU:2(indexes=2*32:1*2)";
     let usual = built(&rt, rt.alloc(), usual);
-    let set = usual.set(at(Layer::Depth(1), 1));
-    assert_eq!(rt;
-        (set.weight(), set.first(), set.has(63), set.has(47)),
-        (32, Some(16), true, false)
-    );
+    let package = set(&rt, &usual, Layer::Depth(1), 1);
+    assert_eq!(rt; package.weight(), 32);
+    assert_eq!(rt; package.first(), Some(16));
+    assert!(rt; package.has(63) && !package.has(47));
 }
