@@ -1,3 +1,4 @@
 pub mod Askings
 pub mod Lists
 pub mod Stops
+pub mod Topologies

@@ -1,6 +1,6 @@
 -- What was made before the first write.
 use Rattle.std.proofs.Common.{◌≡◌, ℕ, Ok, Err, sym, subst}
-use Rattle.std.specs.Prelude.{IfOk, IfErr, Result}
+use Rattle.std.specs.Prelude.{IsOk, IfOk, IfErr, Result}
 use Rattle.clof_tool.specs.declared.status.Status.{Status}
 use Rattle.clof_tool.specs.declared.status.Status.TheVariants as statuses
 use Rattle.clof_tool.specs.Outcome.{HasWritten}
@@ -11,3 +11,8 @@ pub stopped_text : {T : Type 0} (made : Result T Status) (result : Status) (writ
 stopped_text (Ok text) result written P Q is handed silent first second = (text, (first, second))
 stopped_text (Err status) result written P Q is handed silent first second =
     absurd (silent (subst HasWritten handed (subst HasWritten (sym is) tt)))
+
+-- what holds where there was a text, if there was one
+pub from_text : {T : Type 0} (made : Result T Status) (P : Type 0) → IsOk made → IfOk made (λ _. P) → P
+from_text (Ok text) P is holds = holds
+from_text (Err status) P is holds = cc

@@ -6,3 +6,4 @@ use Rattle.clof_tool.specs.Words as words
 abbrev pub plain : Asked → words.Asked
 plain asked.Run = words.Run
 plain (asked.Set list text) = words.Set list text.now
+plain (asked.Topo export text) = words.Topo export text.now

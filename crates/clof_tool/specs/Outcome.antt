@@ -5,25 +5,29 @@ use Rattle.placed_runner.specs.declared.fault.SectionFault.TheVariants.{NotYet}
 use Rattle.clof_tool.specs.declared.status.Fault.TheVariants.{Set as SetOf, Section, Input}
 use Rattle.clof_tool.specs.declared.status.Status.{Status}
 use Rattle.clof_tool.specs.declared.status.Status.TheVariants as statuses
-use Rattle.clof_tool.specs.Words.{Asked, Run, Set}
+use Rattle.clof_tool.specs.Words.{Asked, Run, Set, Topo}
 use Rattle.cpu_set.specs.declared.fault.SetFault.{SetFault}
 use Rattle.clof_tool.specs.Run.{input_limit, Prints, IsNotYet}
 use Rattle.clof_tool.specs.SetText.{PrintsSet, IsRefused}
+use Rattle.clof_tool.specs.TopoText.{PrintsTopo, TopoRefuses}
 
 -- what is asked for depends on the input
 abbrev pub ReadsInput : Asked → Type 0
 ReadsInput Run = Unit {0}
 ReadsInput (Set list text) = ⊥
+ReadsInput (Topo export text) = ⊥
 
 -- the input of what is asked for: all that the source had left, or any text where it doesn't depend on one
 abbrev pub IsInput : Asked → Option (List ℕ) → List ℕ → Type 0
 IsInput Run left input = left ≡ Some input
 IsInput (Set list text) left input = Unit {0}
+IsInput (Topo export text) left input = Unit {0}
 
 -- the text that is printed
 abbrev pub IsAnswer : Asked → List ℕ → List ℕ → Type 0
 IsAnswer Run input printed = (length input ≤ input_limit) × Prints input printed
 IsAnswer (Set list text) input printed = PrintsSet list text printed
+IsAnswer (Topo export text) input printed = PrintsTopo export text printed
 
 -- why `run` refuses an input: it is too long, or it is no section that can be served yet
 abbrev pub RunRefuses : List ℕ → Status → Type 0
@@ -49,6 +53,7 @@ SetRefuses list text statuses.OutOfMemory = ⊥
 abbrev pub Refuses : Asked → List ℕ → Status → Type 0
 Refuses Run input status = RunRefuses input status
 Refuses (Set list text) input status = SetRefuses list text status
+Refuses (Topo export text) input status = TopoRefuses text status
 
 -- the status is a refusal: something is malformed or over its limit
 abbrev pub IsRefusal : Status → Type 0

@@ -8,6 +8,7 @@ mod running;
 mod set_text;
 mod status;
 mod top_call;
+mod topo_text;
 mod words;
 
 pub use status::{Fault, Status};

@@ -11,6 +11,7 @@ ghost use Rattle.clof_tool.specs.Outcome.{ReadsInput, IsInput, IsAnswer, Refuses
 
 use crate::running::run_text;
 use crate::set_text::set_text;
+use crate::topo_text::topo_text;
 use crate::words::Asked;
 use crate::{Fault, Status};
 use edge_io::{ReadAllFault, Source, read_all};
@@ -42,6 +43,7 @@ pub(crate) fn make<S: Source>(
     match asked {
         Asked::Run => run(alloc, source),
         Asked::Set { list, text } => set_text(alloc, list, text),
+        Asked::Topo { export, text } => topo_text(alloc, export, text),
     }
 }
 

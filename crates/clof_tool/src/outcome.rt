@@ -40,6 +40,7 @@ pub(crate) fn outcome<S: Source, K: Sink>(
 
     // Faults of the source and of the output.
     ensures read_fault { result ≡ Status.ReadFault → Rose (S.faults source.old) (S.faults source.new) }
+    ensures read_fault_input { (asked : Asked) → Says words.now asked → result ≡ Status.ReadFault → ReadsInput asked }
     ensures read_calm { result ≢ Status.ReadFault → S.faults source.new ≡ S.faults source.old }
     ensures write_fault { (written : ℕ) → result ≡ Status.WriteFault written →
         Rose (K.faults out.old) (K.faults out.new) ⊎ Rose (K.stalls out.old) (K.stalls out.new) }

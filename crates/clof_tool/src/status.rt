@@ -3,7 +3,9 @@ ghost use Rattle.std.specs.Prelude.{◌≡◌};
 
 use cpu_set::SetFault;
 use placed_runner::SectionFault;
+use synth_text::SynthFault;
 use thiserror::Error;
+use topo_tree::BuildFault;
 
 /// Why a well-formed command line is refused.
 #[derive(Clone, Copy, Debug, PartialEq, Eq, Error)]
@@ -11,6 +13,12 @@ pub enum Fault {
     /// The text of a set.
     #[error("the set: {0}")]
     Set(SetFault),
+    /// The text of a description.
+    #[error("the description: {0}")]
+    Synth(SynthFault),
+    /// The physical numbers of a description.
+    #[error("the topology: {0}")]
+    Build(BuildFault),
     /// The sections of the input.
     #[error("the sections: {0}")]
     Section(SectionFault),

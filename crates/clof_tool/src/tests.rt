@@ -8,6 +8,8 @@ use std::process::Abort;
 use std::sync::Wait;
 use std::test::Fail;
 use std::thread::Threads;
+use synth_text::SynthFault;
+use topo_tree::BuildFault;
 
 // How a call ended, what it wrote to the output, and what to standard error.
 #[derive(Drop)]
@@ -75,7 +77,8 @@ fn serves_one_section(rt: HostRuntime) -> Result<(), Fail> {
 
 #[test]
 fn refuses_what_is_not_built(rt: HostRuntime) -> Result<(), Fail> {
-    let cases: [&[u8]; 14] = [
+    let cases: [&[u8]; 15] = [
+        b"worker * 26\nset a 0 2147483648 1\r\nx\r\n\n",
         b"worker * 10\ndelete a\r\n\n",
         b"worker pu:0 0\n\n",
         b"worker * 0\n\nworker * 0\n\n",
@@ -106,7 +109,11 @@ fn refuses_what_is_not_built(rt: HostRuntime) -> Result<(), Fail> {
 
 #[test]
 fn refuses_other_words(rt: HostRuntime) -> Result<(), Fail> {
-    let cases: [&[&str]; 12] = [
+    let cases: [&[&str]; 16] = [
+        &["topo"],
+        &["topo", "--export"],
+        &["topo", "--list", "PU:1"],
+        &["topo", "-", "PU:1"],
         &[],
         &["frob"],
         &["run", "PU:1"],
@@ -328,8 +335,8 @@ fn takes_an_input_up_to_its_limit(rt: HostRuntime) -> Result<(), Fail> {
     Ok(())
 }
 
-// Checks what `set` answers to its words.
-fn sets<R: Threads + Wait + Sync + Abort>(
+// Checks how the program ends on words that read no input.
+fn prints<R: Threads + Wait + Sync + Abort>(
     rt: &R,
     alloc: Global,
     words: &[&str],
@@ -357,7 +364,7 @@ fn prints_the_three_texts_of_a_set(rt: HostRuntime) -> Result<(), Fail> {
         (&["set", "F0"], "0x000000f0\n4-7\n0xf0\n"),
     ];
     for (words, out) in cases {
-        sets(&rt, rt.alloc(), words, Status::Ok, out, "")?;
+        prints(&rt, rt.alloc(), words, Status::Ok, out, "")?;
     }
     Ok(())
 }
@@ -384,7 +391,7 @@ fn refuses_texts_that_are_no_sets(rt: HostRuntime) -> Result<(), Fail> {
     ];
     for (words, fault, err) in cases {
         let status = Status::Malformed(Fault::Set(fault));
-        sets(&rt, rt.alloc(), words, status, "", err)?;
+        prints(&rt, rt.alloc(), words, status, "", err)?;
         assert_eq!(rt; status.code(), 3);
     }
     Ok(())
@@ -418,5 +425,115 @@ fn prints_the_last_number(rt: HostRuntime) -> Result<(), Fail> {
     let ended = call(&rt, alloc, &["set", "--list", "4095"], Vec::new(alloc))?;
     assert_eq!(rt; ended.status, Status::Ok);
     assert_eq!(rt; ended.out.as_slice(), want.as_slice());
+    Ok(())
+}
+
+const TREE: &str = "Machine L#0
+  Package L#0
+    NUMANode L#0 (P#0 1GiB)
+    L3 L#0 (8MiB)
+      Core L#0
+        PU L#0 (P#0)
+        PU L#1 (P#1)
+      Core L#1
+        PU L#2 (P#2)
+        PU L#3 (P#3)
+  Package L#1
+    NUMANode L#1 (P#1 1GiB)
+    L3 L#1 (8MiB)
+      Core L#2
+        PU L#4 (P#4)
+        PU L#5 (P#5)
+      Core L#3
+        PU L#6 (P#6)
+        PU L#7 (P#7)
+";
+
+const DESCRIPTION: &str = "Package:2 [NUMANode(memory=1GiB)] L3Cache:1(size=8MiB) Core:2 PU:2";
+
+#[test]
+fn prints_a_tree_and_its_canonical_text(rt: HostRuntime) -> Result<(), Fail> {
+    let alloc = rt.alloc();
+    prints(&rt, alloc, &["topo", DESCRIPTION], Status::Ok, TREE, "")?;
+    let canonical = "Package:2 [NUMANode(memory=1073741824)] L3Cache:1(size=8388608) Core:2 PU:2\n";
+    prints(
+        &rt,
+        alloc,
+        &["topo", "--export", DESCRIPTION],
+        Status::Ok,
+        canonical,
+        "",
+    )?;
+    let usual =
+        "Package:2 [NUMANode(memory=34359738368)] L3Cache:1(size=33554432) L2Cache:16(size=1048576) L1dCache:1(size=32768) L1iCache:1(size=32768) Core:1 PU:2(indexes=2*32:1*2)";
+    let ended = call(&rt, alloc, &["topo", "--export", usual], Vec::new(alloc))?;
+    assert_eq!(rt; ended.status, Status::Ok);
+    assert!(rt; ended.out.starts_with(usual.as_bytes()));
+    assert_eq!(rt; ended.out.len(), usual.len() + 1);
+    Ok(())
+}
+
+#[test]
+fn refuses_texts_that_describe_nothing(rt: HostRuntime) -> Result<(), Fail> {
+    let cases: [(&str, SynthFault, &str); 4] = [
+        (
+            "Core:2 PU:0",
+            SynthFault::BadArity { at: 7 },
+            "clof: synth BadArity 7\n",
+        ),
+        (
+            "PU:2 Core:2",
+            SynthFault::LastNotPu { at: 5 },
+            "clof: synth LastNotPu 5\n",
+        ),
+        ("", SynthFault::Empty, "clof: synth Empty\n"),
+        (
+            "Core:1 Core:1 PU:1",
+            SynthFault::RepeatedType { at: 7 },
+            "clof: synth RepeatedType 7\n",
+        ),
+    ];
+    for (text, fault, err) in cases {
+        let status = Status::Malformed(Fault::Synth(fault));
+        prints(&rt, rt.alloc(), &["topo", text], status, "", err)?;
+    }
+    let status = Status::Limit(Fault::Synth(SynthFault::TooManyObjects));
+    assert_eq!(rt; status.code(), 4);
+    prints(
+        &rt,
+        rt.alloc(),
+        &["topo", "PU:4097"],
+        status,
+        "",
+        "clof: synth TooManyObjects\n",
+    )
+}
+
+#[test]
+fn refuses_numbers_that_do_not_fit(rt: HostRuntime) -> Result<(), Fail> {
+    let cases: [(&str, BuildFault, &str); 3] = [
+        (
+            "Core:1 PU:2(indexes=0,0)",
+            BuildFault::IndexTwice { number: 0 },
+            "clof: build IndexTwice 0\n",
+        ),
+        (
+            "PU:2(indexes=0,1,2)",
+            BuildFault::IndexCount {
+                found: 3,
+                wanted: 2,
+            },
+            "clof: build IndexCount 3 2\n",
+        ),
+        (
+            "PU:2(indexes=0,4096)",
+            BuildFault::IndexRange { number: 4096 },
+            "clof: build IndexRange 4096\n",
+        ),
+    ];
+    for (text, fault, err) in cases {
+        let status = Status::Malformed(Fault::Build(fault));
+        prints(&rt, rt.alloc(), &["topo", text], status, "", err)?;
+    }
     Ok(())
 }

@@ -10,6 +10,8 @@ pub(crate) enum Asked<'a> {
     Run,
     /// Print a set, read as a list or in hexadecimal.
     Set { list: bool, text: &'a [u8] },
+    /// Print the tree of a description, or its canonical text.
+    Topo { export: bool, text: &'a [u8] },
 }
 
 /// What the words ask for; `None` where they are no command line of the program.
@@ -47,8 +49,15 @@ fn read_text<'a>(command: &'a [u8], text: &'a [u8]) -> Option<Asked<'a>>
         ((asked : PlainAsked) → Spells (command.now ∷ text.now ∷ []) asked → ⊥)
         (λ asked. Spells (command.now ∷ text.now ∷ []) (plain asked)) }
 {
-    if command == b"set".as_slice() && is_plain(text) {
+    if !is_plain(text) {
+        None
+    } else if command == b"set".as_slice() {
         Some(Asked::Set { list: false, text })
+    } else if command == b"topo".as_slice() {
+        Some(Asked::Topo {
+            export: false,
+            text,
+        })
     } else {
         None
     }
@@ -60,8 +69,12 @@ fn read_option<'a>(command: &'a [u8], option: &'a [u8], text: &'a [u8]) -> Optio
         ((asked : PlainAsked) → Spells (command.now ∷ option.now ∷ text.now ∷ []) asked → ⊥)
         (λ asked. Spells (command.now ∷ option.now ∷ text.now ∷ []) (plain asked)) }
 {
-    if command == b"set".as_slice() && option == b"--list".as_slice() && is_plain(text) {
+    if !is_plain(text) {
+        None
+    } else if command == b"set".as_slice() && option == b"--list".as_slice() {
         Some(Asked::Set { list: true, text })
+    } else if command == b"topo".as_slice() && option == b"--export".as_slice() {
+        Some(Asked::Topo { export: true, text })
     } else {
         None
     }

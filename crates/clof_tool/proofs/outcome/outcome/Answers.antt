@@ -4,7 +4,7 @@ use Rattle.clof_tool.specs.Words.{Asked}
 use Rattle.clof_tool.specs.Asked.{plain}
 use Rattle.clof_tool.specs.Outcome.{IsInput, IsAnswer, Refuses}
 use Rattle.clof_tool.proofs.Askings.{one_asked}
-use Rattle.clof_tool.proofs.Stops.{stopped_text}
+use Rattle.clof_tool.proofs.Stops.{stopped_text, from_text}
 use Rattle.clof_tool.proofs.outcome.outcome.Goals as goal
 
 pub returns-in-Some-clause-cut_short : goal.returns-in-Some-clause-cut_short
@@ -21,5 +21,15 @@ returns-in-Some-clause-refused g c asked input status says is_input refuses calm
     (subst (λ (a : Asked). Refuses a input status) same refuses) calm in
     elim made [
       | inl is ↦ inl (subst (λ m. IfErr m (λ s. c.print.result ≡ s)) is c.print.ensures.refused)
+      | inr is ↦ inr (subst (λ m. IfErr m (λ s. c.print.result ≡ s)) is c.print.ensures.refused)
+    ]
+
+pub returns-in-Some-clause-complete : goal.returns-in-Some-clause-complete
+returns-in-Some-clause-complete g c asked input text says is_input answer source_calm out_calm stalls_calm =
+    let same : asked ≡ plain c.in-Some.asked = one_asked (map string_bytes c.args.words.now) asked (plain c.in-Some.asked) says c.in-Some.ensures in
+    let made = c.make-made.ensures.complete input text (subst (λ (a : Asked). IsInput a (g.S.Source.left c.args.source.now) input) same is_input)
+    (subst (λ (a : Asked). IsAnswer a input text) same answer) source_calm in
+    elim made [
+      | inl is ↦ inl (from_text c.make-made.result _ is (c.print.ensures.complete out_calm stalls_calm))
       | inr is ↦ inr (subst (λ m. IfErr m (λ s. c.print.result ≡ s)) is c.print.ensures.refused)
     ]

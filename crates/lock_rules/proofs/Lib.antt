@@ -1,0 +1,5 @@
+pub mod Names
+pub mod Sums
+pub mod Numbers
+pub mod Passes
+pub mod Points

@@ -1,0 +1,22 @@
+//! What the calls of a lock answer.
+
+/// What a call that makes a few atomic steps answers: not yet, with the token to go on with, or done.
+#[derive(Drop)]
+pub enum Step<N, G> {
+    Not(N),
+    Got(G),
+}
+
+/// There was no memory. The value comes back.
+#[derive(Drop)]
+pub struct Refused<V> {
+    pub value: V,
+}
+
+/// What a holder learned of waiters, or what a value keeps of it: nothing yet, that nobody else is queued, or that somebody is.
+#[derive(Drop)]
+pub enum Answer {
+    Open,
+    No,
+    Yes,
+}

@@ -1,0 +1,312 @@
+//! Calls of two passes on one thread.
+ghost use Rattle.std.specs.Prelude.{◌≡◌, ◌+◌, IfSome, length, vec_len};
+ghost use Rattle.lock_rules.specs.Tag.{leaf};
+ghost use Rattle.lock_rules.specs.Passes.{IsOf};
+ghost use Rattle.lock_trials.specs.Tokens.{place_of_token, Stands, IsNoted, IsSound, ArePair, ArePasses};
+
+use crate::parcel::Parcel;
+use lock_rules::{Basic, Step};
+use std::alloc::Global;
+
+/// Which of the two passes makes a call.
+#[derive(Clone, Copy, Drop)]
+pub enum Who {
+    First,
+    Second,
+}
+
+#[derive(Clone, Copy, Drop)]
+pub enum Call {
+    Begin,
+    Poll,
+    Waiter,
+    BeginRelease,
+    PollRelease,
+    /// Parks the value, which a holder may do behind a yes of `waiter`.
+    Park,
+    /// Takes the value's mark off.
+    Unpark,
+}
+
+/// A call of a script.
+#[derive(Clone, Copy, Drop)]
+pub struct Move {
+    pub who: Who,
+    pub call: Call,
+}
+
+/// What a call answered: `Not` or `Got`; for `waiter` yes or no; for `Unpark` whether the value was parked.
+#[derive(Clone, Copy, PartialEq, Eq, Debug, Drop)]
+pub enum Told {
+    Not,
+    Got,
+    Yes,
+    No,
+}
+
+/// What the calls of a script answered, in order, and the number in the value at the end.
+#[derive(Drop)]
+pub struct Outcome {
+    pub told: Vec<Told>,
+    pub count: u64,
+}
+
+/// Where a pass stands in a script.
+#[derive(Drop)]
+pub enum Token<P, Q, H, L> {
+    Idle(P),
+    Queued(Q),
+    Holding(Holder<H>),
+    Leaving(L),
+}
+
+/// A holder's token, and whether the last `waiter` of this hold said yes.
+#[derive(Drop)]
+pub struct Holder<H> {
+    pub held: H,
+    pub followed: bool,
+}
+
+fn play_idle<B: Basic<Parcel>>(
+    lock: &B,
+    pass: B::Pass,
+    call: Call,
+) -> Option<(Token<B::Pass, B::Queue, B::Held, B::Leave>, Told)>
+    requires { IsOf (B.name lock.now) (B.tag lock.now) (B.Pass.place pass) }
+    ensures { IfSome result (λ t. Stands B.Pass.place B.Queue.waiting B.Held.grip B.Leave.waiting (B.Pass.place pass) t.0) }
+{
+    let Call::Begin = call else { return None };
+    match lock.begin(pass) {
+        Step::Not(queue) => Some((Token::Queued(queue), Told::Not)),
+        Step::Got(held) => Some((
+            Token::Holding(Holder {
+                held,
+                followed: false,
+            }),
+            Told::Got,
+        )),
+    }
+}
+
+fn play_queued<B: Basic<Parcel>>(
+    lock: &B,
+    queue: B::Queue,
+    call: Call,
+) -> Option<(Token<B::Pass, B::Queue, B::Held, B::Leave>, Told)>
+    requires { IsOf (B.name lock.now) (B.tag lock.now) (B.Queue.waiting queue).place }
+    ensures { IfSome result (λ t. Stands B.Pass.place B.Queue.waiting B.Held.grip B.Leave.waiting (B.Queue.waiting queue).place t.0) }
+{
+    let Call::Poll = call else { return None };
+    match lock.poll(queue) {
+        Step::Not(queue) => Some((Token::Queued(queue), Told::Not)),
+        Step::Got(held) => Some((
+            Token::Holding(Holder {
+                held,
+                followed: false,
+            }),
+            Told::Got,
+        )),
+    }
+}
+
+fn release<B: Basic<Parcel>>(
+    lock: &B,
+    holder: Holder<B::Held>,
+) -> Option<(Token<B::Pass, B::Queue, B::Held, B::Leave>, Told)>
+    requires own { IsOf (B.name lock.now) (B.tag lock.now) (B.Held.grip holder.held).place }
+    requires tag { B.tag lock.now ≡ leaf 0 }
+    requires said { IsNoted B.Held.grip holder }
+    ensures { IfSome result (λ t. Stands B.Pass.place B.Queue.waiting B.Held.grip B.Leave.waiting (B.Held.grip holder.held).place t.0) }
+{
+    let Holder { held, followed } = holder;
+    if B::value(&held).parked && !followed {
+        return None;
+    }
+    match lock.begin_release(held) {
+        Step::Not(leave) => Some((Token::Leaving(leave), Told::Not)),
+        Step::Got(pass) => Some((Token::Idle(pass), Told::Got)),
+    }
+}
+
+fn ask<B: Basic<Parcel>>(lock: &B, holder: Holder<B::Held>) -> (Holder<B::Held>, Told)
+    requires { IsOf (B.name lock.now) (B.tag lock.now) (B.Held.grip holder.held).place }
+    ensures place { (B.Held.grip result.0.held).place ≡ (B.Held.grip holder.held).place }
+    ensures said { IsNoted B.Held.grip result.0 }
+{
+    let Holder {
+        mut held,
+        followed: _,
+    } = holder;
+    let followed = lock.waiter(&mut held);
+    let told = if followed { Told::Yes } else { Told::No };
+    (Holder { held, followed }, told)
+}
+
+fn park<B: Basic<Parcel>>(holder: Holder<B::Held>) -> Holder<B::Held>
+    requires { IsNoted B.Held.grip holder }
+    ensures place { (B.Held.grip result.held).place ≡ (B.Held.grip holder.held).place }
+    ensures said { IsNoted B.Held.grip result }
+{
+    let Holder { mut held, followed } = holder;
+    B::value_mut(&mut held).parked = true;
+    Holder { held, followed }
+}
+
+fn unpark<B: Basic<Parcel>>(holder: Holder<B::Held>) -> (Holder<B::Held>, Told)
+    requires { IsNoted B.Held.grip holder }
+    ensures place { (B.Held.grip result.0.held).place ≡ (B.Held.grip holder.held).place }
+    ensures said { IsNoted B.Held.grip result.0 }
+{
+    let Holder { mut held, followed } = holder;
+    let told = if B::value(&held).parked {
+        Told::Yes
+    } else {
+        Told::No
+    };
+    B::value_mut(&mut held).parked = false;
+    (Holder { held, followed }, told)
+}
+
+fn play_holding<B: Basic<Parcel>>(
+    lock: &B,
+    holder: Holder<B::Held>,
+    call: Call,
+) -> Option<(Token<B::Pass, B::Queue, B::Held, B::Leave>, Told)>
+    requires own { IsOf (B.name lock.now) (B.tag lock.now) (B.Held.grip holder.held).place }
+    requires tag { B.tag lock.now ≡ leaf 0 }
+    requires said { IsNoted B.Held.grip holder }
+    ensures { IfSome result (λ t. Stands B.Pass.place B.Queue.waiting B.Held.grip B.Leave.waiting (B.Held.grip holder.held).place t.0) }
+{
+    match call {
+        Call::Waiter => {
+            let (holder, told) = ask(lock, holder);
+            Some((Token::Holding(holder), told))
+        }
+        Call::Park => Some((Token::Holding(park::<B>(holder)), Told::Got)),
+        Call::Unpark => {
+            let (holder, told) = unpark::<B>(holder);
+            Some((Token::Holding(holder), told))
+        }
+        Call::BeginRelease => release(lock, holder),
+        _ => None,
+    }
+}
+
+fn play_leaving<B: Basic<Parcel>>(
+    lock: &B,
+    leave: B::Leave,
+    call: Call,
+) -> Option<(Token<B::Pass, B::Queue, B::Held, B::Leave>, Told)>
+    requires { IsOf (B.name lock.now) (B.tag lock.now) (B.Leave.waiting leave).place }
+    ensures { IfSome result (λ t. Stands B.Pass.place B.Queue.waiting B.Held.grip B.Leave.waiting (B.Leave.waiting leave).place t.0) }
+{
+    let Call::PollRelease = call else {
+        return None;
+    };
+    match lock.poll_release(leave) {
+        Step::Not(leave) => Some((Token::Leaving(leave), Told::Not)),
+        Step::Got(pass) => Some((Token::Idle(pass), Told::Got)),
+    }
+}
+
+/// Makes a call of a pass. The answer is `None` where the call isn't one of a pass that stands so.
+fn play<B: Basic<Parcel>>(
+    lock: &B,
+    token: Token<B::Pass, B::Queue, B::Held, B::Leave>,
+    call: Call,
+) -> Option<(Token<B::Pass, B::Queue, B::Held, B::Leave>, Told)>
+    requires own { IsOf (B.name lock.now) (B.tag lock.now) (place_of_token B.Pass.place B.Queue.waiting B.Held.grip B.Leave.waiting token) }
+    requires sound { IsSound B.Pass.place B.Queue.waiting B.Held.grip B.Leave.waiting token }
+    requires tag { B.tag lock.now ≡ leaf 0 }
+    ensures { IfSome result (λ t. Stands B.Pass.place B.Queue.waiting B.Held.grip B.Leave.waiting (place_of_token B.Pass.place B.Queue.waiting B.Held.grip B.Leave.waiting token) t.0) }
+{
+    match token {
+        Token::Idle(pass) => play_idle(lock, pass, call),
+        Token::Queued(queue) => play_queued(lock, queue, call),
+        Token::Holding(holder) => play_holding(lock, holder, call),
+        Token::Leaving(leave) => play_leaving(lock, leave, call),
+    }
+}
+
+/// The two passes of a script, in the order of their numbers.
+#[derive(Drop)]
+struct Pair<P, Q, H, L> {
+    first: Token<P, Q, H, L>,
+    second: Token<P, Q, H, L>,
+}
+
+/// Makes one move of a script.
+fn make_move<B: Basic<Parcel>>(
+    lock: &B,
+    pair: Pair<B::Pass, B::Queue, B::Held, B::Leave>,
+    next: Move,
+) -> Option<(Pair<B::Pass, B::Queue, B::Held, B::Leave>, Told)>
+    requires pair { ArePair B.Pass.place B.Queue.waiting B.Held.grip B.Leave.waiting (B.name lock.now) (B.tag lock.now) pair.first pair.second }
+    requires tag { B.tag lock.now ≡ leaf 0 }
+    ensures { IfSome result (λ t. ArePair B.Pass.place B.Queue.waiting B.Held.grip B.Leave.waiting (B.name lock.now) (B.tag lock.now) t.0.first t.0.second) }
+{
+    let Pair { first, second } = pair;
+    match next.who {
+        Who::First => {
+            let (first, told) = play(lock, first, next.call)?;
+            Some((Pair { first, second }, told))
+        }
+        Who::Second => {
+            let (second, told) = play(lock, second, next.call)?;
+            Some((Pair { first, second }, told))
+        }
+    }
+}
+
+/// Makes all moves of a script, and notes the answers.
+fn make_moves<B: Basic<Parcel>>(
+    lock: &B,
+    mut pair: Pair<B::Pass, B::Queue, B::Held, B::Leave>,
+    moves: &[Move],
+    told: &mut Vec<Told>,
+) -> Option<(B::Pass, B::Pass)>
+    requires pair { ArePair B.Pass.place B.Queue.waiting B.Held.grip B.Leave.waiting (B.name lock.now) (B.tag lock.now) pair.first pair.second }
+    requires tag { B.tag lock.now ≡ leaf 0 }
+    ensures passes { IfSome result (λ t. ArePasses B.Pass.place (B.name lock.now) (B.tag lock.now) t.0 t.1) }
+    ensures told { IfSome result (λ _. vec_len told.new ≡ vec_len told.old + length moves.now) }
+{
+    for next in moves {
+        let (moved, answer) = make_move(lock, pair, *next)?;
+        pair = moved;
+        told.push(answer).ok()?;
+    }
+    let Pair { first, second } = pair;
+    let (Token::Idle(first), Token::Idle(second)) = (first, second) else {
+        return None;
+    };
+    Some((first, second))
+}
+
+/// A lock with two passes, the moves of a script on it, and its end. The answer is `None` for want of memory, or where a move isn't one of a pass
+/// that stands so, or a pass isn't idle at the end.
+pub fn carry_out<B: Basic<Parcel> + Drop>(
+    alloc: Global,
+    recipe: B::Recipe,
+    moves: &[Move],
+) -> Option<Outcome>
+    ensures { IfSome result (λ o. vec_len o.told ≡ length moves.now) }
+{
+    let (lock, mut passes) = B::make(
+        alloc,
+        recipe,
+        2,
+        Parcel {
+            count: 7,
+            parked: false,
+        },
+    )
+    .ok()?;
+    let second = Token::Idle(passes.pop()?);
+    let first = Token::Idle(passes.pop()?);
+    let mut told = Vec::new(alloc);
+    let (first, second) = make_moves(&lock, Pair { first, second }, moves, &mut told)?;
+    passes.push(first).ok()?;
+    passes.push(second).ok()?;
+    let count = lock.close(passes).count;
+    Some(Outcome { told, count })
+}

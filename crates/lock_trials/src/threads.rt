@@ -1,0 +1,239 @@
+//! Holds by four threads.
+ghost use Rattle.std.specs.Prelude.{◌≡◌, IfSome};
+ghost use Rattle.std.specs.Thread.{IsSync};
+ghost use Rattle.lock_rules.specs.Tag.{leaf};
+ghost use Rattle.lock_rules.specs.Passes.{IsOf, AreAll};
+ghost use Rattle.lock_trials.specs.Tokens.{AreFour};
+
+use crate::parcel::Parcel;
+use lock_rules::{Basic, Placed};
+use std::alloc::Global;
+use std::sync::Wait;
+use std::thread::{Threads, join};
+
+/// How often each thread holds the lock in the tests of the locks.
+pub const HOLDS: u32 = 100;
+
+/// Adds one to the number in the value. Where `parks` is true the value is unparked first, and is parked again where somebody is queued behind.
+fn hold<B: Basic<Parcel>, R: Wait>(rt: &R, lock: &B, pass: B::Pass, parks: bool) -> B::Pass
+    requires own { IsOf (B.name lock.now) (B.tag lock.now) (B.Pass.place pass) }
+    requires tag { B.tag lock.now ≡ leaf 0 }
+    ensures { B.Pass.place result ≡ B.Pass.place pass }
+{
+    let mut held = lock.acquire(rt, pass);
+    let parked = lock.waiter(&mut held) && parks;
+    let parcel = B::value_mut(&mut held);
+    parcel.parked = parked;
+    parcel.count = parcel.count.wrapping_add(1);
+    lock.release(rt, held)
+}
+
+fn hold_often<B: Basic<Parcel>, R: Wait>(
+    rt: &R,
+    lock: &B,
+    pass: B::Pass,
+    holds: u32,
+    parks: bool,
+) -> B::Pass
+    requires own { IsOf (B.name lock.now) (B.tag lock.now) (B.Pass.place pass) }
+    requires tag { B.tag lock.now ≡ leaf 0 }
+    ensures { B.Pass.place result ≡ B.Pass.place pass }
+{
+    let mut pass = pass;
+    for _ in 0..holds {
+        pass = hold(rt, lock, pass, parks);
+    }
+    pass
+}
+
+/// What a thread does with its pass. The checker doesn't yet send a closure to a thread whose body rests on a trait like `Basic`, where an associated
+/// type has a bound with a type argument, so the closures rest on this trait.
+trait Works<P: Placed> {
+    ghost allows: { Self → P → Type 0 };
+
+    fn work(&self, pass: P) -> P
+        requires { allows self.now pass }
+        ensures { P.place result ≡ P.place pass };
+}
+
+/// The holds of one thread.
+#[derive(Drop)]
+struct Shift<'a, B, R> {
+    rt: &'a R,
+    lock: &'a B,
+    holds: u32,
+    parks: bool,
+}
+
+impl<'a, B: Basic<Parcel>, R: Wait> Works<B::Pass> for Shift<'a, B, R> {
+    ghost allows = { λ s p. IsOf (B.name s.lock.now) (B.tag s.lock.now) (B.Pass.place p) × (B.tag s.lock.now ≡ leaf 0) };
+
+    fn work(&self, pass: B::Pass) -> B::Pass {
+        hold_often(self.rt, self.lock, pass, self.holds, self.parks)
+    }
+}
+
+fn by_two<P: Placed + Send, W: Works<P> + Sync, R: Threads + Sync>(
+    rt: &R,
+    shift: &W,
+    first: P,
+    second: P,
+) -> (P, P)
+    requires first { W.allows shift.now first }
+    requires second { W.allows shift.now second }
+    ensures first { P.place result.0 ≡ P.place first }
+    ensures second { P.place result.1 ≡ P.place second }
+{
+    join(
+        rt,
+        move || -> P
+            requires { W.allows shift.now first }
+            ensures { P.place result ≡ P.place first }
+        { shift.work(first) },
+        move || -> P
+            requires { W.allows shift.now second }
+            ensures { P.place result ≡ P.place second }
+        { shift.work(second) },
+    )
+}
+
+/// Each pass works in a thread of its own.
+fn by_four<P: Placed + Send, W: Works<P> + Sync, R: Threads + Sync>(
+    rt: &R,
+    shift: &W,
+    front: (P, P),
+    back: (P, P),
+) -> ((P, P), (P, P))
+    requires first { W.allows shift.now front.0 }
+    requires second { W.allows shift.now front.1 }
+    requires third { W.allows shift.now back.0 }
+    requires fourth { W.allows shift.now back.1 }
+    ensures first { P.place result.0.0 ≡ P.place front.0 }
+    ensures second { P.place result.0.1 ≡ P.place front.1 }
+    ensures third { P.place result.1.0 ≡ P.place back.0 }
+    ensures fourth { P.place result.1.1 ≡ P.place back.1 }
+{
+    let (first, second) = front;
+    let (third, fourth) = back;
+    join(
+        rt,
+        move || -> (P, P)
+            requires threads { IsSync R.row }
+            requires first { W.allows shift.now first }
+            requires second { W.allows shift.now second }
+            ensures first { P.place result.0 ≡ P.place first }
+            ensures second { P.place result.1 ≡ P.place second }
+        { by_two(rt, shift, first, second) },
+        move || -> (P, P)
+            requires threads { IsSync R.row }
+            requires third { W.allows shift.now third }
+            requires fourth { W.allows shift.now fourth }
+            ensures third { P.place result.0 ≡ P.place third }
+            ensures fourth { P.place result.1 ≡ P.place fourth }
+        { by_two(rt, shift, third, fourth) },
+    )
+}
+
+/// The four passes of a lock.
+fn apart<B: Basic<Parcel>>(
+    _lock: &B,
+    mut passes: Vec<B::Pass>,
+) -> Option<((B::Pass, B::Pass), (B::Pass, B::Pass))>
+    requires { AreAll B.Pass.place (B.name _lock.now) (B.tag _lock.now) 4 passes.items }
+    ensures { IfSome result (λ t. AreFour B.Pass.place (B.name _lock.now) (B.tag _lock.now) t.0 t.1) }
+{
+    let fourth = passes.pop()?;
+    let third = passes.pop()?;
+    let second = passes.pop()?;
+    let first = passes.pop()?;
+    Some(((first, second), (third, fourth)))
+}
+
+/// Takes a lock apart with its four passes.
+fn close_with<B: Basic<Parcel> + Drop>(
+    alloc: Global,
+    lock: B,
+    front: (B::Pass, B::Pass),
+    back: (B::Pass, B::Pass),
+) -> Option<u64>
+    requires count { B.count lock ≡ 4 }
+    requires passes { AreFour B.Pass.place (B.name lock) (B.tag lock) front back }
+{
+    let mut passes = Vec::new(alloc);
+    passes.push(front.0).ok()?;
+    passes.push(front.1).ok()?;
+    passes.push(back.0).ok()?;
+    passes.push(back.1).ok()?;
+    Some(lock.close(passes).count)
+}
+
+/// One pass holds the lock as often as asked and adds one to the number in the value. The answer is the number at the end, or `None` for want of memory.
+pub fn hold_alone<B: Basic<Parcel> + Drop, R: Wait>(
+    rt: &R,
+    alloc: Global,
+    recipe: B::Recipe,
+    holds: u32,
+) -> Option<u64> {
+    let (lock, mut passes) = B::make(alloc, recipe, 1, Parcel::new()).ok()?;
+    let pass = passes.pop()?;
+    let pass = hold_often(rt, &lock, pass, holds, false);
+    passes.push(pass).ok()?;
+    Some(lock.close(passes).count)
+}
+
+/// The same by two threads.
+pub fn hold_by_two<B: Basic<Parcel> + Sync + Drop, R: Threads + Wait + Sync>(
+    rt: &R,
+    alloc: Global,
+    recipe: B::Recipe,
+    holds: u32,
+) -> Option<u64>
+where
+    B::Recipe: Send,
+    B::Pass: Send,
+    B::Queue: Send,
+    B::Held: Send,
+    B::Leave: Send,
+{
+    let (lock, mut passes) = B::make(alloc, recipe, 2, Parcel::new()).ok()?;
+    let second = passes.pop()?;
+    let first = passes.pop()?;
+    let shift = Shift {
+        rt,
+        lock: &lock,
+        holds,
+        parks: false,
+    };
+    let (first, second) = by_two(rt, &shift, first, second);
+    passes.push(first).ok()?;
+    passes.push(second).ok()?;
+    Some(lock.close(passes).count)
+}
+
+/// Four threads each hold the lock as often as asked and add one to the number in the value. Where `parks` is true each holder unparks the value, and parks it
+/// where somebody is queued behind. The answer is the number at the end, or `None` for want of memory.
+pub fn hold_by_four<B: Basic<Parcel> + Sync + Drop, R: Threads + Wait + Sync>(
+    rt: &R,
+    alloc: Global,
+    recipe: B::Recipe,
+    holds: u32,
+    parks: bool,
+) -> Option<u64>
+where
+    B::Recipe: Send,
+    B::Pass: Send,
+    B::Queue: Send,
+    B::Held: Send,
+    B::Leave: Send,
+{
+    let (lock, passes) = B::make(alloc, recipe, 4, Parcel::new()).ok()?;
+    let (front, back) = apart(&lock, passes)?;
+    let shift = Shift {
+        rt,
+        lock: &lock,
+        holds,
+        parks,
+    };
+    let (front, back) = by_four(rt, &shift, front, back);
+    close_with(alloc, lock, front, back)
+}

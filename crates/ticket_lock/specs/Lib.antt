@@ -1,0 +1,6 @@
+pub mod Rule
+pub mod Queue
+pub mod Kinds
+pub mod Tokens
+pub mod Seats
+pub mod Implied

@@ -1,0 +1,87 @@
+use crate::Ticket;
+use lock_trials::{Call, HOLDS, Move, Parcel, Told, Who, carry_out, hold_by_four};
+
+const fn first(call: Call) -> Move {
+    Move {
+        who: Who::First,
+        call,
+    }
+}
+
+const fn second(call: Call) -> Move {
+    Move {
+        who: Who::Second,
+        call,
+    }
+}
+
+#[test]
+fn two_passes_take_turns(rt: HostRuntime) {
+    let moves = [
+        first(Call::Begin),
+        first(Call::Poll),
+        second(Call::Begin),
+        second(Call::Poll),
+        first(Call::Waiter),
+        first(Call::BeginRelease),
+        second(Call::Poll),
+        second(Call::Waiter),
+        second(Call::BeginRelease),
+    ];
+    let Some(outcome) = carry_out::<Ticket<Parcel>>(rt.alloc(), (), &moves) else {
+        panic!(rt; "the script was not carried out")
+    };
+    let told = [
+        Told::Not,
+        Told::Got,
+        Told::Not,
+        Told::Not,
+        Told::Yes,
+        Told::Got,
+        Told::Got,
+        Told::No,
+        Told::Got,
+    ];
+    assert!(rt; outcome.told.as_slice() == told.as_slice());
+    assert!(rt; outcome.count == 7);
+}
+
+#[test]
+fn a_parked_value_is_handed_over(rt: HostRuntime) {
+    let moves = [
+        first(Call::Begin),
+        first(Call::Poll),
+        second(Call::Begin),
+        first(Call::Waiter),
+        first(Call::Park),
+        first(Call::BeginRelease),
+        second(Call::Poll),
+        second(Call::Unpark),
+        second(Call::Waiter),
+        second(Call::BeginRelease),
+    ];
+    let Some(outcome) = carry_out::<Ticket<Parcel>>(rt.alloc(), (), &moves) else {
+        panic!(rt; "the script was not carried out")
+    };
+    let told = [
+        Told::Not,
+        Told::Got,
+        Told::Not,
+        Told::Yes,
+        Told::Got,
+        Told::Got,
+        Told::Got,
+        Told::Yes,
+        Told::No,
+        Told::Got,
+    ];
+    assert!(rt; outcome.told.as_slice() == told.as_slice());
+}
+
+#[test]
+fn four_threads_hold_in_turn(rt: HostRuntime) {
+    for parks in [false, true] {
+        let count = hold_by_four::<Ticket<Parcel>, _>(&rt, rt.alloc(), (), HOLDS, parks);
+        assert!(rt; count == Some(4 * u64::from(HOLDS)));
+    }
+}
