@@ -1,10 +1,9 @@
 -- What the tables of a topology have at a place.
-use Rattle.std.proofs.Common.{◌≡◌, ℕ, zero, suc, ◌+◌, ◌-◌, ◌*◌, ◌<◌, ◌≤◌, false, ◌==◌, cond, min, ◌^◌, List, [], ◌∷◌, length, map, take, get_or, slice_index, Option, Some, None, IfSome, unwrap_or, refl, sym, ap, ◌∙◌, subst, inl, inr, arith}
-use Rattle.std.proofs.Math.Nat.{mul-le-mul_right}
+use Rattle.std.proofs.Common.{◌≡◌, ℕ, ◌+◌, ◌-◌, ◌<◌, ◌≤◌, false, ◌==◌, cond, min, ◌^◌, List, length, map, take, get_or, slice_index, Option, Some, None, IfSome, unwrap_or, refl, sym, ap, ◌∙◌, subst, inl, inr, arith}
 use Rattle.std.specs.Option.{option_map}
-use Rattle.std.specs.List.{position, AllByRecursion}
-use Rattle.std.proofs.lemmas.Bool.{cases_lt, cases_Bool, eqb-true}
-use Rattle.std.proofs.lemmas.List.{length-map, get_or-map, get_or_past}
+use Rattle.std.specs.List.{position}
+use Rattle.std.proofs.lemmas.Bool.{cases_Bool, eqb-true}
+use Rattle.std.proofs.lemmas.List.{length-map, get_or-map}
 use Rattle.std.proofs.lemmas.List.FromFn.{length-map-range_with_len, get_or-map-range_with_len}
 use Rattle.synth_text.specs.declared.description.Level.{Level}
 use Rattle.synth_text.specs.declared.description.Memory.{Memory}
@@ -17,13 +16,12 @@ use Rattle.topo_tree.specs.declared.layer.Layer.{Layer}
 use Rattle.topo_tree.specs.declared.layer.Layer.TheVariants as layers
 use Rattle.topo_tree.specs.declared.fault.BuildFault.{BuildFault}
 use Rattle.topo_tree.specs.declared.fault.BuildFault.TheVariants as faults
-use Rattle.topo_tree.specs.Objects.{arity_at, count_at, count_of, IsLayer}
+use Rattle.topo_tree.specs.Objects.{count_of, IsLayer}
 use Rattle.topo_tree.specs.Numbers.{numbers_of, index_count, is_bad, first_fault, indexes_fault}
 use Rattle.topo_tree.specs.Building.{pu_indexes, node_indexes, pu_numbers, node_numbers, or_next, build_fault, IsBuilt, IsFaultUnlessMemory}
 use Rattle.topo_tree.specs.Coverage.{set_covered, layer_depth}
 use Rattle.topo_tree.specs.TableLists.{sets_covered, depth_sets, leaf_table}
 use Rattle.topo_tree.specs.Tables.{IsTabled}
-use Rattle.topo_tree.specs.CountLaws.{have_arities, few_objects, count_more}
 use Rattle.topo_tree.proofs.Faults.{length-numbers_of, all_good}
 use Rattle.topo_tree.proofs.Positions.{good_low, position-large}
 

@@ -1,4 +1,4 @@
-use Rattle.std.proofs.Common.{◌<◌, length, subst, sym}
+use Rattle.std.proofs.Common.{◌<◌, subst, sym}
 use Rattle.topo_tree.specs.Building.{pu_numbers}
 use Rattle.topo_tree.proofs.Lookups.{length-pu_numbers, pus_good, pus_numbered}
 use Rattle.topo_tree.proofs.Positions.{position-at}
