@@ -11,7 +11,7 @@ use Rattle.topo_tree.specs.declared.fault.BuildFault.TheVariants as build
 use Rattle.topo_tree.specs.Building.{build_fault, IsFaultUnlessMemory}
 use Rattle.clof_tool.specs.declared.status.Status.{Status}
 use Rattle.clof_tool.specs.declared.status.Status.TheVariants.{OutOfMemory}
-use Rattle.clof_tool.specs.TopoText.{synth_status, build_status, PrintsTopo, ReadRefuses, BuildRefuses, TopoRefuses}
+use Rattle.clof_tool.specs.TopoText.{synth_status, build_status, PrintsTopo, TopoRefuses}
 
 -- a fault of reading is want of memory, or it is what the reading says
 memory_or_read : {A : Type 0} (fault : SynthFault) (reading : Result A SynthFault) → FailsWith fault reading → (synth_status fault ≡ OutOfMemory) ⊎ (reading ≡ Err fault)

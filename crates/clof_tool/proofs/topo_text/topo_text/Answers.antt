@@ -1,5 +1,4 @@
-use Rattle.std.proofs.Common.{◌≡◌, ◌⊎◌, ℕ, List, None, Err, inl, inr, ap, sym, subst, ◌∙◌}
-use Rattle.topo_tree.specs.Building.{build_fault, IsFaultUnlessMemory}
+use Rattle.std.proofs.Common.{Err, inl, inr, ap, ◌∙◌}
 use Rattle.clof_tool.proofs.Topologies.{read_refused, read_prints, build_refused, build_prints, built_not_refused}
 use Rattle.clof_tool.proofs.topo_text.topo_text.Goals as goal
 
