@@ -1,8 +1,8 @@
 //! The program's command line, and the one call that does all that the program does.
 #![tactic(auto)]
 
+mod answer;
 mod made;
-mod outcome;
 mod report;
 mod running;
 mod set_text;

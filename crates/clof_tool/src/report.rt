@@ -1,7 +1,7 @@
 // The line on standard error.
 use crate::{Fault, Status};
 use cpu_set::SetFault;
-use edge_io::{Sink, write_all};
+use edge_io::{Sink, Stopped, write_all};
 use itoa::Buffer;
 use placed_runner::SectionFault;
 use synth_text::SynthFault;
@@ -9,8 +9,12 @@ use topo_tree::BuildFault;
 
 /// Writes the line that tells why a call of the program did not end well. A failure to write it changes nothing.
 pub(crate) fn report<E: Sink>(err: &mut E, status: &Status) {
+    let _ = report_status(err, status);
+}
+
+fn report_status<E: Sink>(err: &mut E, status: &Status) -> Result<(), Stopped> {
     match status {
-        Status::Ok => {}
+        Status::Ok => Ok(()),
         Status::Usage => put_line(err, b"usage", &[]),
         Status::Malformed(fault) | Status::Limit(fault) => report_fault(err, fault),
         Status::ReadFault => put_line(err, b"read fault", &[]),
@@ -20,7 +24,7 @@ pub(crate) fn report<E: Sink>(err: &mut E, status: &Status) {
 }
 
 // The area, the variant's name and its fields.
-fn report_fault<E: Sink>(err: &mut E, fault: &Fault) {
+fn report_fault<E: Sink>(err: &mut E, fault: &Fault) -> Result<(), Stopped> {
     match fault {
         Fault::Set(fault) => report_set(err, fault),
         Fault::Synth(fault) => report_synth(err, fault),
@@ -30,7 +34,7 @@ fn report_fault<E: Sink>(err: &mut E, fault: &Fault) {
     }
 }
 
-fn report_set<E: Sink>(err: &mut E, fault: &SetFault) {
+fn report_set<E: Sink>(err: &mut E, fault: &SetFault) -> Result<(), Stopped> {
     match fault {
         SetFault::Form { at } => put_line(err, b"set Form", &[*at]),
         SetFault::TooLarge { at } => put_line(err, b"set TooLarge", &[*at]),
@@ -38,7 +42,7 @@ fn report_set<E: Sink>(err: &mut E, fault: &SetFault) {
     }
 }
 
-fn report_synth<E: Sink>(err: &mut E, fault: &SynthFault) {
+fn report_synth<E: Sink>(err: &mut E, fault: &SynthFault) -> Result<(), Stopped> {
     match fault {
         SynthFault::Empty => put_line(err, b"synth Empty", &[]),
         SynthFault::BadType { at } => put_line(err, b"synth BadType", &[*at]),
@@ -53,7 +57,7 @@ fn report_synth<E: Sink>(err: &mut E, fault: &SynthFault) {
     }
 }
 
-fn report_build<E: Sink>(err: &mut E, fault: &BuildFault) {
+fn report_build<E: Sink>(err: &mut E, fault: &BuildFault) -> Result<(), Stopped> {
     match fault {
         BuildFault::IndexCount { found, wanted } => put_line(
             err,
@@ -70,18 +74,14 @@ fn report_build<E: Sink>(err: &mut E, fault: &BuildFault) {
     }
 }
 
-// Writes the line with this text and these numbers, with single spaces between them.
-fn put_line<E: Sink>(err: &mut E, text: &[u8], numbers: &[usize]) {
-    put(err, b"clof: ");
-    put(err, text);
+// Writes the line with this text and these numbers, with single spaces between them, up to the first write that fails.
+fn put_line<E: Sink>(err: &mut E, text: &[u8], numbers: &[usize]) -> Result<(), Stopped> {
+    write_all(err, b"clof: ")?;
+    write_all(err, text)?;
     for number in numbers {
         let mut buffer = Buffer::new();
-        put(err, b" ");
-        put(err, buffer.format(*number).as_bytes());
+        write_all(err, b" ")?;
+        write_all(err, buffer.format(*number).as_bytes())?;
     }
-    put(err, b"\n");
-}
-
-fn put<E: Sink>(err: &mut E, bytes: &[u8]) {
-    let _ = write_all(err, bytes);
+    write_all(err, b"\n")
 }

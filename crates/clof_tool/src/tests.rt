@@ -1,4 +1,5 @@
 // The top call over sources and sinks in memory.
+use crate::report::report;
 use crate::{Fault, Status, top};
 use cpu_set::SetFault;
 use edge_io::{MemSink, MemSource, SureSink, SureSource};
@@ -409,7 +410,32 @@ fn leaves_what_was_written_of_a_set(rt: HostRuntime) -> Result<(), Fail> {
     let mut err = SureSink::new(alloc, 100)?;
     let status = top(&rt, alloc, &words, &mut source, &mut out, &mut err);
     assert_eq!(rt; status, Status::WriteFault { written: 5 });
+    assert_eq!(rt; status.code(), 6);
     assert_eq!(rt; out.bytes(), b"0x000".as_slice());
+    assert_eq!(rt; err.bytes(), b"clof: write fault 5\n".as_slice());
+    Ok(())
+}
+
+#[test]
+fn ends_as_well_where_the_line_fails(rt: HostRuntime) -> Result<(), Fail> {
+    let alloc = rt.alloc();
+    let words = [String::from_str(alloc, "walk")?];
+    let mut source = SureSource::new(Vec::new(alloc));
+    let mut out = SureSink::new(alloc, 100)?;
+    let mut err = MemSink::new(alloc, 100, 100, [1].to_vec(alloc)?)?;
+    let status = top(&rt, alloc, &words, &mut source, &mut out, &mut err);
+    assert_eq!(rt; status, Status::Usage);
+    assert_eq!(rt; status.code(), 2);
+    assert_eq!(rt; err.bytes(), b"clof: ".as_slice());
+    Ok(())
+}
+
+#[test]
+fn tells_of_wanted_memory(rt: HostRuntime) -> Result<(), Fail> {
+    let mut err = SureSink::new(rt.alloc(), 100)?;
+    report(&mut err, &Status::OutOfMemory);
+    assert_eq!(rt; Status::OutOfMemory.code(), 7);
+    assert_eq!(rt; err.bytes(), b"clof: out of memory\n".as_slice());
     Ok(())
 }
 
@@ -475,11 +501,26 @@ fn prints_a_tree_and_its_canonical_text(rt: HostRuntime) -> Result<(), Fail> {
 
 #[test]
 fn refuses_texts_that_describe_nothing(rt: HostRuntime) -> Result<(), Fail> {
-    let cases: [(&str, SynthFault, &str); 4] = [
+    let cases: [(&str, SynthFault, &str); 7] = [
         (
             "Core:2 PU:0",
             SynthFault::BadArity { at: 7 },
             "clof: synth BadArity 7\n",
+        ),
+        (
+            "Core:2 Thread:2 PU:1",
+            SynthFault::BadType { at: 7 },
+            "clof: synth BadType 7\n",
+        ),
+        (
+            "Core:2(size=1) PU:1",
+            SynthFault::BadAttr { at: 0 },
+            "clof: synth BadAttr 0\n",
+        ),
+        (
+            "Core:1 PU:2(indexes=0,)",
+            SynthFault::BadIndexes { at: 7 },
+            "clof: synth BadIndexes 7\n",
         ),
         (
             "PU:2 Core:2",
@@ -497,16 +538,31 @@ fn refuses_texts_that_describe_nothing(rt: HostRuntime) -> Result<(), Fail> {
         let status = Status::Malformed(Fault::Synth(fault));
         prints(&rt, rt.alloc(), &["topo", text], status, "", err)?;
     }
-    let status = Status::Limit(Fault::Synth(SynthFault::TooManyObjects));
-    assert_eq!(rt; status.code(), 4);
-    prints(
-        &rt,
-        rt.alloc(),
-        &["topo", "PU:4097"],
-        status,
-        "",
-        "clof: synth TooManyObjects\n",
-    )
+    Ok(())
+}
+
+#[test]
+fn refuses_descriptions_over_a_limit(rt: HostRuntime) -> Result<(), Fail> {
+    let levels =
+        "Group:1 Group:1 Group:1 Group:1 Group:1 Group:1 Group:1 Group:1 Group:1 Group:1 Group:1 Group:1 Group:1 Group:1 Group:1 Group:1 PU:1";
+    let cases: [(&str, SynthFault, &str); 2] = [
+        (
+            levels,
+            SynthFault::TooManyLevels,
+            "clof: synth TooManyLevels\n",
+        ),
+        (
+            "PU:4097",
+            SynthFault::TooManyObjects,
+            "clof: synth TooManyObjects\n",
+        ),
+    ];
+    for (text, fault, err) in cases {
+        let status = Status::Limit(Fault::Synth(fault));
+        assert_eq!(rt; status.code(), 4);
+        prints(&rt, rt.alloc(), &["topo", text], status, "", err)?;
+    }
+    Ok(())
 }
 
 #[test]

@@ -6,6 +6,7 @@ use crate::{
     SureSource, read_all, write_all,
 };
 use std::alloc::Global;
+use std::io::{Error, ErrorKind, Read, Write};
 use std::process::Abort;
 use std::test::Fail;
 
@@ -116,8 +117,75 @@ fn writes_all_or_stops_behind_a_prefix(rt: HostRuntime) -> Result<(), Fail> {
 fn adapters_pass_bytes_on(rt: HostRuntime) -> Result<(), Fail> {
     let mut source = StdSource::new(b"hello".as_slice());
     let bytes = read_all(rt.alloc(), &mut source, 10)?;
-    let mut sink = StdSink::new(Vec::new(rt.alloc()));
-    write_all(&mut sink, &bytes)?;
     assert_eq!(rt; bytes.as_slice(), b"hello".as_slice());
+    let mut kept = Vec::new(rt.alloc());
+    write_all(&mut StdSink::new(&mut kept), &bytes)?;
+    assert_eq!(rt; kept.as_slice(), b"hello".as_slice());
     Ok(())
+}
+
+// A stream of one byte whose first calls fail, with the given kinds.
+#[derive(Drop)]
+struct Halting<'a> {
+    kinds: &'a [ErrorKind],
+    written: Option<u8>,
+}
+
+// The next failure of a list, if there is one.
+fn next_failure(kinds: &mut &[ErrorKind]) -> std::io::Result<()> {
+    match kinds.split_first() {
+        Some((kind, later)) => {
+            *kinds = later;
+            Err(Error::from(*kind))
+        }
+        None => Ok(()),
+    }
+}
+
+impl<'a> Read for Halting<'a> {
+    fn read(&mut self, buf: &mut [u8]) -> std::io::Result<usize> {
+        next_failure(&mut self.kinds)?;
+        match buf.first_mut() {
+            Some(byte) => {
+                *byte = b'x';
+                Ok(1)
+            }
+            None => Ok(0),
+        }
+    }
+}
+
+impl<'a> Write for Halting<'a> {
+    fn write(&mut self, buf: &[u8]) -> std::io::Result<usize> {
+        next_failure(&mut self.kinds)?;
+        self.written = buf.first().copied();
+        Ok(buf.len().min(1))
+    }
+
+    fn flush(&mut self) -> std::io::Result<()> {
+        Ok(())
+    }
+}
+
+#[test]
+fn adapters_make_an_interrupted_call_again(rt: HostRuntime) {
+    let kinds = [ErrorKind::Interrupted, ErrorKind::Interrupted];
+    let mut buf = [0; 2];
+    let mut source = StdSource::new(Halting { kinds: &kinds, written: None });
+    assert_eq!(rt; source.read(&mut buf), Ok(1));
+    assert_eq!(rt; buf, [b'x', 0]);
+    let mut stream = Halting { kinds: &kinds, written: None };
+    assert_eq!(rt; StdSink::new(&mut stream).write(b"yz"), Ok(1));
+    assert_eq!(rt; stream.written, Some(b'y'));
+}
+
+#[test]
+fn adapters_tell_of_another_failure(rt: HostRuntime) {
+    let kinds = [ErrorKind::Interrupted, ErrorKind::BrokenPipe];
+    let mut source = StdSource::new(Halting { kinds: &kinds, written: None });
+    assert_eq!(rt; source.read(&mut [0]), Err(Failed));
+    assert_eq!(rt; source.read(&mut [0]), Ok(1));
+    let mut sink = StdSink::new(Halting { kinds: &kinds, written: None });
+    assert_eq!(rt; sink.write(b"y"), Err(Failed));
+    assert_eq!(rt; sink.write(b"y"), Ok(1));
 }

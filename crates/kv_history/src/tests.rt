@@ -95,29 +95,43 @@ fn keeps_a_journal(rt: HostRuntime) -> Result<(), Fail> {
     Ok(())
 }
 
-// A journal of two callers, each of which has applied the first command of its section.
+// A journal of two callers, each of which has applied the first command of its section, with what was seen on the way.
+#[derive(Drop)]
+struct Both<'a> {
+    journal: Journal<'a>,
+    // how many entries there were before the first command
+    fresh: u32,
+    // the places that the two receipts name
+    turns: Option<(u32, u32)>,
+}
+
 fn both_applied<'a>(
     alloc: Global,
     writer: &'a [u8],
     reader: &'a [u8],
-) -> Result<Journal<'a>, OutOfMemory>
+) -> Result<Both<'a>, OutOfMemory>
     requires { length writer.now + length reader.now < 2 ^ 32 }
 {
     let mut journal = Journal::reserve(alloc, &[writer, reader])?;
+    let fresh = journal.entries();
     let Some(written) = Commands::new(writer).next() else {
-        return Ok(journal);
+        return Ok(Both { journal, fresh, turns: None });
     };
-    journal.apply(0, written)?;
+    let first = journal.apply(0, written)?;
     let Some(read) = Commands::new(reader).next() else {
-        return Ok(journal);
+        return Ok(Both { journal, fresh, turns: None });
     };
-    journal.apply(1, read)?;
-    Ok(journal)
+    let second = journal.apply(1, read)?;
+    let turns = Some((first.turn, second.turn));
+    Ok(Both { journal, fresh, turns })
 }
 
 #[test]
 fn answers_two_callers_from_one_store(rt: HostRuntime) -> Result<(), Fail> {
-    let journal = both_applied(rt.alloc(), b"set k 0 0 1\r\na\r\n", b"get k\r\n")?;
+    let both = both_applied(rt.alloc(), b"set k 0 0 1\r\na\r\n", b"get k\r\n")?;
+    assert_eq!(rt; both.fresh, 0);
+    assert_eq!(rt; both.turns, Some((0, 1)));
+    let journal = both.journal;
     assert_eq!(rt; journal.entries(), 2);
     assert_eq!(rt; journal.entry(1).caller, 1);
     assert_eq!(rt; journal.reply(1), b"VALUE k 0 1\r\na\r\nEND\r\n".as_slice());

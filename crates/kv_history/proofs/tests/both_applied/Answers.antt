@@ -21,13 +21,13 @@ pub apply-requires-2 : goal.apply-requires-2
 apply-requires-2 c =
     let before = c.in_ok-journal.journal.entries in
     let none_yet : own c.apply.new.self.entries 1 ≡ [] =
-    ap (λ entries. own entries 1) c.in_ok-apply.ensures.applied
+    ap (λ entries. own entries 1) c.in_ok-first.ensures.applied
     ∙ own-push before (applied_entry before 0 (view c.in-Some.written)) 1
     ∙ ap (λ entries. own entries 1 ++ []) c.in_ok-journal.ensures.entries in
     record {
       section = c.args.reader.now;
       rest = commands_of (left c.next-2.new.self);
-      place = ap (λ sections. slice_get sections 1) (c.in_ok-apply.ensures.sections ∙ c.in_ok-journal.ensures.sections);
+      place = ap (λ sections. slice_get sections 1) (c.in_ok-first.ensures.sections ∙ c.in_ok-journal.ensures.sections);
       next = ap commands_of (sym c.new-2.ensures)
           ∙ c.in-Some-next.ensures.commands
           ∙ ap (λ known. known ++ view c.in-Some-next.read ∷ commands_of (left c.next-2.new.self)) (sym none_yet);

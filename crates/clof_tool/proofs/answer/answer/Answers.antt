@@ -5,11 +5,11 @@ use Rattle.clof_tool.specs.Asked.{plain}
 use Rattle.clof_tool.specs.Outcome.{IsInput, IsAnswer, Refuses}
 use Rattle.clof_tool.proofs.Askings.{one_asked}
 use Rattle.clof_tool.proofs.Stops.{stopped_text, from_text}
-use Rattle.clof_tool.proofs.outcome.outcome.Goals as goal
+use Rattle.clof_tool.proofs.answer.answer.Goals as goal
 
 pub returns-in-Some-clause-cut_short : goal.returns-in-Some-clause-cut_short
 returns-in-Some-clause-cut_short g c asked input written says is_input is =
-    let found = stopped_text c.make-made.result c.print.result written _ _ is c.print.ensures.refused c.make-made.ensures.silent (c.print.ensures.cut_short written is) c.make-made.ensures.answer in
+    let found = stopped_text c.make-made.result c.print-status.result written _ _ is c.print-status.ensures.refused c.make-made.ensures.silent (c.print-status.ensures.cut_short written is) c.make-made.ensures.answer in
     let same : plain c.in-Some.asked ≡ asked = one_asked (map string_bytes c.args.words.now) (plain c.in-Some.asked) asked c.in-Some.ensures says in
     let answer = subst (λ (a : Asked). (all : List ℕ) → IsInput a (g.S.Source.left c.args.source.now) all → IsAnswer a all found.0.items) same found.1.1 in
     (found.0.items, answer input is_input, found.1.0.0, found.1.0.1)
@@ -20,8 +20,8 @@ returns-in-Some-clause-refused g c asked input status says is_input refuses calm
     let made = c.make-made.ensures.refused input status (subst (λ (a : Asked). IsInput a (g.S.Source.left c.args.source.now) input) same is_input)
     (subst (λ (a : Asked). Refuses a input status) same refuses) calm in
     elim made [
-      | inl is ↦ inl (subst (λ m. IfErr m (λ s. c.print.result ≡ s)) is c.print.ensures.refused)
-      | inr is ↦ inr (subst (λ m. IfErr m (λ s. c.print.result ≡ s)) is c.print.ensures.refused)
+      | inl is ↦ inl (subst (λ m. IfErr m (λ s. c.print-status.result ≡ s)) is c.print-status.ensures.refused)
+      | inr is ↦ inr (subst (λ m. IfErr m (λ s. c.print-status.result ≡ s)) is c.print-status.ensures.refused)
     ]
 
 pub returns-in-Some-clause-complete : goal.returns-in-Some-clause-complete
@@ -30,6 +30,6 @@ returns-in-Some-clause-complete g c asked input text says is_input answer source
     let made = c.make-made.ensures.complete input text (subst (λ (a : Asked). IsInput a (g.S.Source.left c.args.source.now) input) same is_input)
     (subst (λ (a : Asked). IsAnswer a input text) same answer) source_calm in
     elim made [
-      | inl is ↦ inl (from_text c.make-made.result _ is (c.print.ensures.complete out_calm stalls_calm))
-      | inr is ↦ inr (subst (λ m. IfErr m (λ s. c.print.result ≡ s)) is c.print.ensures.refused)
+      | inl is ↦ inl (from_text c.make-made.result _ is (c.print-status.ensures.complete out_calm stalls_calm))
+      | inr is ↦ inr (subst (λ m. IfErr m (λ s. c.print-status.result ≡ s)) is c.print-status.ensures.refused)
     ]

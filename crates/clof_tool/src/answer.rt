@@ -1,4 +1,4 @@
-// What the program does, without the line on standard error.
+// What the program does, without a runtime: nothing waits yet.
 ghost use Rattle.std.specs.Prelude.{◌≡◌, ◌≢◌, ◌<◌, ◌+◌, ◌⊎◌, ◌↔◌, ℕ, List, length, take, IfErr, IfOk, IfSome};
 ghost use Rattle.edge_io.specs.Counts.{Rose, RisesBy};
 ghost use Rattle.edge_io.specs.Contents.{Gains, IsAtEnd};
@@ -10,16 +10,18 @@ ghost use Rattle.clof_tool.specs.Outcome.{ReadsInput, IsInput, IsAnswer, Refuses
 
 use crate::Status;
 use crate::made::make;
+use crate::report::report;
 use crate::words::read_words;
 use edge_io::{Sink, Source, Stopped, write_all};
 use std::alloc::Global;
 
-/// Does what the words ask, and writes what it prints to `out`.
-pub(crate) fn outcome<S: Source, K: Sink>(
+/// Does what the words ask, and writes what it prints to `out` and the line on what went wrong to `err`.
+pub(crate) fn answer<S: Source, K: Sink, E: Sink>(
     alloc: Global,
     words: &[String],
     source: &mut S,
     out: &mut K,
+    err: &mut E,
 ) -> Status
     // The words.
     ensures usage { (result ≡ Status.Usage) ↔ IsUsage words.now }
@@ -58,9 +60,14 @@ pub(crate) fn outcome<S: Source, K: Sink>(
     match read_words(words) {
         Some(asked) => {
             let made = make(alloc, asked, source);
-            print(made, out)
+            let status = print(made, out);
+            report(err, &status);
+            status
         }
-        None => Status::Usage,
+        None => {
+            report(err, &Status::Usage);
+            Status::Usage
+        }
     }
 }
 
