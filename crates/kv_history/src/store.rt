@@ -96,9 +96,9 @@ impl Store {
             self.items.remove(key);
         } else {
             let item = Item {
-                key: copy_of(self.alloc, key)?,
+                key: key.to_vec(self.alloc)?,
                 flags,
-                block: copy_of(self.alloc, block)?,
+                block: block.to_vec(self.alloc)?,
                 unique: self.next_unique,
             };
             self.items.insert(item)?;
@@ -139,13 +139,4 @@ impl Store {
         reply.extend_from_slice(b"END\r\n")?;
         Ok(())
     }
-}
-
-// The bytes, in a vector of their own.
-fn copy_of(alloc: Global, bytes: &[u8]) -> Result<Vec<u8>, AllocError>
-    ensures { IfOk result (λ copy. copy.items ≡ bytes.now) }
-{
-    let mut copy = Vec::with_capacity(alloc, bytes.len())?;
-    copy.extend_from_slice(bytes)?;
-    Ok(copy)
 }

@@ -15,7 +15,7 @@ pub use command::{Command, How};
 pub use commands::Commands;
 pub use keys::Keys;
 pub use laws::{at_most_one_command, one_reading};
-pub use section::{count, unbuilt};
+pub use section::{count, rest_of, unbuilt};
 
 #[cfg(test)]
 mod tests;

@@ -22,19 +22,19 @@ pub fn count(section: &[u8]) -> u32
     number
 }
 
+/// What stands behind the commands of a section: the bytes from the first place where no whole command begins.
+pub fn rest_of(section: &[u8]) -> &[u8]
+    ensures { result.now ≡ rest_of section.now }
+{
+    let mut commands = Commands::new(section);
+    while commands.next().is_some() {}
+    commands.rest()
+}
+
 /// Whether a form that isn't built stands behind the commands of a section: a line that isn't a `set` or `get` line
 /// without a fault, or a `set` line whose bytes all came, but whose block is too long or isn't followed by `\r\n`.
 pub fn unbuilt(section: &[u8]) -> bool
     ensures { IsTrue result ↔ IsUnbuilt section.now }
 {
     is_unbuilt_form(rest_of(section))
-}
-
-// What stands behind the commands of a section.
-fn rest_of(section: &[u8]) -> &[u8]
-    ensures { result.now ≡ rest_of section.now }
-{
-    let mut commands = Commands::new(section);
-    while commands.next().is_some() {}
-    commands.rest()
 }

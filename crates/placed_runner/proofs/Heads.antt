@@ -53,10 +53,6 @@ length_fits digits all short =
     let small : digits_value 10 digits < 10 ^ 10 = digits_value_short own digits 10 all short in
     omega arith
 
--- a text that begins with a prefix: its front is that, and what stands behind is the rest
-pub prefix_parts : (text prefix front rest : List ℕ) → text ≡ prefix ++ rest → front ≡ take (length prefix) text → front ≡ prefix
-prefix_parts text prefix front rest is front_is = front_is ∙ ap (take (length prefix)) is ∙ take-append_seam prefix rest
-
 -- behind the head of the one section stand its bytes and a line end
 pub lone_behind : (input bytes head after : List ℕ) → IsLoneSection input bytes → IsCutAt 10 input head after → IsLoneHead head (length bytes) × (after ≡ bytes ++ (10 ∷ []))
 lone_behind input bytes head after section cut = section_cut input (codes "*") bytes [] head after section cut

@@ -73,6 +73,5 @@ fn behind_prefix<'a>(text: &'a [u8], prefix: &[u8]) -> Option<&'a [u8]>
         ((rest : List ℕ) → text.now ≡ prefix.now ++ rest → ⊥)
         (λ rest. text.now ≡ prefix.now ++ rest.now) }
 {
-    let (front, rest) = text.split_at_checked(prefix.len())?;
-    if front == prefix { Some(rest) } else { None }
+    text.strip_prefix(prefix)
 }

@@ -1,13 +1,12 @@
 // The printed text of a run.
 ghost use Rattle.std.specs.Prelude.{◌≡◌, ◌<◌, ◌++◌, ◌^◌, IfOk, OnOk, Some, length, slice_get};
-ghost use Rattle.mc_text.specs.Reading.{rest_of};
 ghost use Rattle.placed_runner.specs.Text.{turn_line, shown_entry, run_text};
 
 use crate::Section;
 use crate::lines::{TurnLine, push_caller, push_turn};
 use edge_io::OutOfMemory;
 use kv_history::Journal;
-use mc_text::{Commands, count};
+use mc_text::{count, rest_of};
 use std::alloc::Global;
 
 /// The text of a run: a line for each entry of the journal, whose callers stand on the section's PU, and then the line
@@ -54,13 +53,4 @@ fn push_entry(
         },
     )?;
     Ok(())
-}
-
-// What stands behind the commands of a section.
-fn rest_of(section: &[u8]) -> &[u8]
-    ensures { result.now ≡ rest_of section.now }
-{
-    let mut commands = Commands::new(section);
-    while commands.next().is_some() {}
-    commands.rest()
 }
