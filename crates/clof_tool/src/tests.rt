@@ -78,7 +78,7 @@ fn serves_one_section(rt: HostRuntime) -> Result<(), Fail> {
 
 #[test]
 fn refuses_what_is_not_built(rt: HostRuntime) -> Result<(), Fail> {
-    let cases: [&[u8]; 15] = [
+    let cases: [&[u8]; 16] = [
         b"worker * 26\nset a 0 2147483648 1\r\nx\r\n\n",
         b"worker * 10\ndelete a\r\n\n",
         b"worker pu:0 0\n\n",
@@ -94,6 +94,7 @@ fn refuses_what_is_not_built(rt: HostRuntime) -> Result<(), Fail> {
         b"\n",
         b"worker * 17\nset a 0 0 1\r\nxy\r\n\n",
         b"worker * 8\nget a\tb\n\n",
+        b"worker * 18\nset a\tb 0 0 1\r\nx\r\n\n",
     ];
     for input in cases {
         ends(
