@@ -5,10 +5,9 @@ ghost use Rattle.std.specs.Str.Parse.{AllDigits, digits_value};
 ghost use Rattle.cpu_set.specs.Readings.{ReadsList, ListRefused, list_rule, range_fault, is_numeral, low_value, high_value};
 
 use crate::fault::SetFault;
-use crate::parts::first_part;
 use crate::run::Run;
 use crate::set::CpuSet;
-use byte_text::{Numeral, cut_at, read_numeral};
+use byte_text::{Numeral, cut_at, first_part, read_numeral};
 
 const HIGHEST: u64 = 4095;
 
@@ -19,6 +18,7 @@ impl CpuSet {
     /// The leftmost broken rule is refused: `Form` for an item of another form, `Infinite` for a number with a dash
     /// behind it, both with the offset of the item, and `TooLarge` with that of the first number of the item from 4,096
     /// on.
+    #[tactic(auto, using(crate::proofs::PartLemmas::first_of_parts))]
     pub fn read_list(text: &[u8]) -> Result<CpuSet, SetFault>
         ensures set { IfOk result (ReadsList text.now) }
         ensures fault { IfErr result (ListRefused text.now) }
@@ -27,7 +27,7 @@ impl CpuSet {
         let mut at = 0;
         let mut rest = if text.is_empty() { None } else { Some(text) };
         while let Some(items) = rest {
-            let (item, behind) = first_part(items);
+            let (item, behind) = first_part(items, b',');
             let run = read_item(at, item)?;
             set.add_range(run.first, run.last);
             at += item.len() + 1;
