@@ -6,7 +6,7 @@ ghost use Rattle.cpu_set.specs.Readings.{ReadsHex, HexRefused, without_prefix, i
 ghost use Rattle.cpu_set.specs.Sets.{numbers_where};
 
 use crate::fault::SetFault;
-use crate::set::CpuSet;
+use crate::set::{CpuSet, WORDS};
 use byte_text::{Numeral, first_part, read_numeral};
 
 // The largest number of eight hexadecimal digits.
@@ -62,7 +62,7 @@ fn commas(text: &[u8]) -> usize
 // The value of a word with so many words behind it, or the fault of the word.
 fn read_word(at: usize, behind: usize, word: &[u8]) -> Result<u32, SetFault>
     ensures value { IfOk result (λ value. value ≡ word_value word.now) }
-    ensures low { IfOk result (λ value. 0 < value → behind < 128) }
+    ensures low { IfOk result (λ value. 0 < value → behind < WORDS) }
     ensures good { OnOk result (hex_rule at behind word.now ≡ None) }
     ensures fault { IfErr result (λ fault. hex_rule at behind word.now ≡ Some fault) }
 {
@@ -72,7 +72,7 @@ fn read_word(at: usize, behind: usize, word: &[u8]) -> Result<u32, SetFault>
         None if is_gap => 0,
         None => return Err(SetFault::Form { at }),
     };
-    if value != 0 && behind >= 128 {
+    if value != 0 && behind >= WORDS {
         return Err(SetFault::TooLarge { at });
     }
     Ok(value)

@@ -6,10 +6,11 @@ ghost use Rattle.cpu_set.specs.Readings.{ReadsList, ListRefused, list_rule, rang
 
 use crate::fault::SetFault;
 use crate::run::Run;
-use crate::set::CpuSet;
+use crate::set::{CpuSet, LIMIT};
 use byte_text::{Numeral, cut_at, first_part, read_numeral};
 
-const HIGHEST: u64 = 4095;
+// The highest number that a set may have.
+const HIGHEST: u64 = LIMIT as u64 - 1;
 
 impl CpuSet {
     /// Reads items between commas in any order: a number, or two with a dash between, the first not above the second
@@ -43,7 +44,7 @@ fn read_item(at: usize, item: &[u8]) -> Result<Run, SetFault>
     ensures first { IfOk result (λ run. run.first ≡ low_value item.now) }
     ensures last { IfOk result (λ run. run.last ≡ high_value item.now) }
     ensures ends { IfOk result (λ run. run.first ≤ run.last) }
-    ensures limit { IfOk result (λ run. run.last < 4096) }
+    ensures limit { IfOk result (λ run. run.last < LIMIT) }
     ensures good { OnOk result (list_rule at 0 item.now ≡ None) }
     ensures fault { IfErr result (λ fault. list_rule at 0 item.now ≡ Some fault) }
 {
@@ -75,7 +76,7 @@ fn read_range(at: usize, low: &[u8], high: &[u8]) -> Result<Run, SetFault>
     ensures first { IfOk result (λ run. run.first ≡ digits_value 10 low.now) }
     ensures last { IfOk result (λ run. run.last ≡ digits_value 10 high.now) }
     ensures ends { IfOk result (λ run. run.first ≤ run.last) }
-    ensures limit { IfOk result (λ run. run.last < 4096) }
+    ensures limit { IfOk result (λ run. run.last < LIMIT) }
     ensures good { OnOk result (range_fault at low.now high.now ≡ None) }
     ensures fault { IfErr result (λ fault. range_fault at low.now high.now ≡ Some fault) }
 {

@@ -8,12 +8,15 @@ ghost use Rattle.cpu_set.specs.Texts.{highest, numbers_from};
 
 use std::marker::Model;
 
-const WORDS: usize = 128;
+// A set has so many words, and its numbers are below the limit.
+pub(crate) const WORDS: usize = 128;
+
+pub(crate) const LIMIT: u32 = 4096;
 
 /// A set of numbers below 4,096, which contracts see as the ascending list of its numbers.
 #[derive(Clone, Copy)]
 pub struct CpuSet {
-    words: [u32; 128],
+    words: [u32; WORDS],
 }
 
 impl Model for CpuSet {
@@ -38,12 +41,12 @@ impl CpuSet {
     pub fn empty() -> CpuSet
         ensures { result ≡ [] }
     {
-        CpuSet { words: [0; 128] }
+        CpuSet { words: [0; WORDS] }
     }
 
     /// Adds a number below 4,096.
     pub fn with(&mut self, number: u32)
-        requires { number < 4096 }
+        requires { number < LIMIT }
         ensures { self.new ≡ union self.old (number ∷ []) }
     {
         self.add_word(number as usize / 32, 1 << (number % 32));
@@ -55,7 +58,7 @@ impl CpuSet {
         ensures set { IsSet self.now }
     {
         let words = &self.words;
-        number < 4096 && (words[number as usize / 32] >> (number % 32)) & 1 == 1
+        number < LIMIT && (words[number as usize / 32] >> (number % 32)) & 1 == 1
     }
 
     /// The lowest number, or `None` exactly for the empty set.
@@ -135,9 +138,9 @@ impl CpuSet {
         true
     }
 
-    // The word at a place below 128.
+    // The word at a place.
     pub(crate) fn word(&self, place: usize) -> u32
-        requires { place < 128 }
+        requires { place < WORDS }
         ensures { result ≡ word_of self.now place }
     {
         self.words[place]
@@ -149,11 +152,11 @@ impl CpuSet {
         ensures found { IfSome result (λ number. numbers_from from self.now
             ≡ number ∷ numbers_from (number + 1) self.now) }
         ensures from { IfSome result (λ number. from ≤ number) }
-        ensures limit { IfSome result (λ number. number < 4096) }
+        ensures limit { IfSome result (λ number. number < LIMIT) }
         ensures set { IsSet self.now }
     {
         let words = &self.words;
-        if from >= 4096 {
+        if from >= LIMIT {
             return None;
         }
         let start = from as usize / 32;
@@ -173,7 +176,7 @@ impl CpuSet {
     // The highest number, or 0 of the empty set.
     pub(crate) fn highest(&self) -> u32
         ensures number { result ≡ highest self.now }
-        ensures limit { result < 4096 }
+        ensures limit { result < LIMIT }
         ensures set { IsSet self.now }
     {
         for place in (0..WORDS).rev() {
@@ -187,7 +190,7 @@ impl CpuSet {
 
     // Adds the numbers whose bits are set in the word at a place.
     pub(crate) fn add_word(&mut self, place: usize, word: u32)
-        requires { place < 128 }
+        requires { place < WORDS }
         ensures { self.new ≡ numbers_where (λ number.
             has self.old number || (number / 32 == place && bit_at word (number % 32) == 1)) }
     {
@@ -197,7 +200,7 @@ impl CpuSet {
     // Adds the numbers from `low` to `high`, both among them.
     pub(crate) fn add_range(&mut self, low: u32, high: u32)
         requires ends { low ≤ high }
-        requires limit { high < 4096 }
+        requires limit { high < LIMIT }
         ensures { self.new ≡ numbers_where (λ number.
             has self.old number || (nat_le low number && nat_le number high)) }
     {

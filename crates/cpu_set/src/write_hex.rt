@@ -4,7 +4,7 @@ ghost use Rattle.std.specs.Prelude.{◌≡◌, ◌+◌, ◌++◌, ◌<◌, ◌�
 ghost use Rattle.cpu_set.specs.Bits.{word_of};
 ghost use Rattle.cpu_set.specs.Texts.{hex_text, highest, word_text, hex_digits};
 
-use crate::set::CpuSet;
+use crate::set::{CpuSet, WORDS};
 use byte_text::hex_digit;
 use edge_io::OutOfMemory;
 use std::alloc::Global;
@@ -29,7 +29,7 @@ impl CpuSet {
     // How long the text is.
     fn hex_len(&self, count: usize) -> usize
         requires count { count ≡ highest self.now / 32 + 1 }
-        requires limit { count ≤ 128 }
+        requires limit { count ≤ WORDS }
         ensures { result ≡ length (hex_text self.now) }
     {
         let mut length = 0;
