@@ -8,9 +8,10 @@ ghost use Rattle.cpu_set.specs.Texts.{highest, numbers_from};
 
 use std::marker::Model;
 
-// A set has so many words, and its numbers are below the limit.
+// How many words a set has.
 pub(crate) const WORDS: usize = 128;
 
+// The numbers of a set are below this.
 pub(crate) const LIMIT: u32 = 4096;
 
 /// A set of numbers below 4,096, which contracts see as the ascending list of its numbers.
