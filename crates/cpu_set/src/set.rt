@@ -11,6 +11,9 @@ use std::marker::Model;
 // How many words a set has.
 pub(crate) const WORDS: usize = 128;
 
+// How many numbers a word has.
+pub(crate) const WIDTH: u32 = u32::BITS;
+
 // The numbers of a set are below this.
 pub(crate) const LIMIT: u32 = 4096;
 
@@ -50,7 +53,7 @@ impl CpuSet {
         requires { number < LIMIT }
         ensures { self.new ≡ union self.old (number ∷ []) }
     {
-        self.add_word(number as usize / 32, 1 << (number % 32));
+        self.add_word((number / WIDTH) as usize, 1 << (number % WIDTH));
     }
 
     /// Whether the set has the number.
@@ -59,7 +62,7 @@ impl CpuSet {
         ensures set { IsSet self.now }
     {
         let words = &self.words;
-        number < LIMIT && (words[number as usize / 32] >> (number % 32)) & 1 == 1
+        number < LIMIT && (words[(number / WIDTH) as usize] >> (number % WIDTH)) & 1 == 1
     }
 
     /// The lowest number, or `None` exactly for the empty set.
@@ -160,15 +163,15 @@ impl CpuSet {
         if from >= LIMIT {
             return None;
         }
-        let start = from as usize / 32;
-        let word = words[start] & (u32::MAX << (from % 32));
+        let start = (from / WIDTH) as usize;
+        let word = words[start] & (u32::MAX << (from % WIDTH));
         if word != 0 {
-            return Some(32 * start as u32 + word.trailing_zeros());
+            return Some(WIDTH * start as u32 + word.trailing_zeros());
         }
         'words: for place in start + 1..WORDS {
             let word = words[place];
             if word != 0 {
-                return Some(32 * place as u32 + word.trailing_zeros());
+                return Some(WIDTH * place as u32 + word.trailing_zeros());
             }
         }
         None
@@ -183,7 +186,7 @@ impl CpuSet {
         for place in (0..WORDS).rev() {
             let word = self.words[place];
             if word != 0 {
-                return 32 * place as u32 + (31 - word.leading_zeros());
+                return WIDTH * place as u32 + (WIDTH - 1 - word.leading_zeros());
             }
         }
         0
@@ -193,7 +196,7 @@ impl CpuSet {
     pub(crate) fn add_word(&mut self, place: usize, word: u32)
         requires { place < WORDS }
         ensures { self.new ≡ numbers_where (λ number.
-            has self.old number || (number / 32 == place && bit_at word (number % 32) == 1)) }
+            has self.old number || (number / WIDTH == place && bit_at word (number % WIDTH) == 1)) }
     {
         self.words[place] |= word;
     }
@@ -205,9 +208,13 @@ impl CpuSet {
         ensures { self.new ≡ numbers_where (λ number.
             has self.old number || (nat_le low number && nat_le number high)) }
     {
-        'words: for place in low / 32..high / 32 + 1 {
-            let first = if place == low / 32 { low % 32 } else { 0 };
-            let last = if place == high / 32 { high % 32 } else { 31 };
+        'words: for place in low / WIDTH..high / WIDTH + 1 {
+            let first = if place == low / WIDTH { low % WIDTH } else { 0 };
+            let last = if place == high / WIDTH {
+                high % WIDTH
+            } else {
+                WIDTH - 1
+            };
             self.add_word(place as usize, ones_between(first, last));
         }
     }
@@ -216,9 +223,9 @@ impl CpuSet {
 // The word whose bits from `first` to `last` are set, and no others.
 fn ones_between(first: u32, last: u32) -> u32
     requires ends { first ≤ last }
-    requires within { last < 32 }
-    ensures { (bit : ℕ) → bit < 32
+    requires within { last < WIDTH }
+    ensures { (bit : ℕ) → bit < WIDTH
         → (bit_at result bit == 1) ≡ (nat_le first bit && nat_le bit last) }
 {
-    (u32::MAX >> (31 - last)) & (u32::MAX << first)
+    (u32::MAX >> (WIDTH - 1 - last)) & (u32::MAX << first)
 }
