@@ -6,7 +6,7 @@ mod numerals;
 mod words;
 mod written;
 
-pub use cuts::cut_at;
+pub use cuts::{cut_at, first_part};
 pub use numerals::{Numeral, read_numeral};
 pub use words::Words;
 pub use written::{hex_digit, push_decimal};

@@ -1,5 +1,5 @@
 // Examples from outside the definitions.
-use crate::{Numeral, cut_at, hex_digit, push_decimal, read_numeral};
+use crate::{Numeral, cut_at, first_part, hex_digit, push_decimal, read_numeral};
 use std::test::Fail;
 
 #[test]
@@ -39,6 +39,15 @@ fn cuts_at_the_first_such_byte(rt: HostRuntime) {
     assert!(rt; cut_at(b"a,b,c", b',') == Some((b"a".as_slice(), b"b,c".as_slice())));
     assert!(rt; cut_at(b",", b',') == Some((b"".as_slice(), b"".as_slice())));
     assert!(rt; cut_at(b"abc", b',').is_none());
+    assert!(rt; cut_at(b"", b',').is_none());
+}
+
+#[test]
+fn the_first_part_is_the_whole_text_without_such_a_byte(rt: HostRuntime) {
+    assert!(rt; first_part(b"a,b,c", b',') == (b"a".as_slice(), Some(b"b,c".as_slice())));
+    assert!(rt; first_part(b",", b',') == (b"".as_slice(), Some(b"".as_slice())));
+    assert!(rt; first_part(b"abc", b',') == (b"abc".as_slice(), None));
+    assert!(rt; first_part(b"", b',') == (b"".as_slice(), None));
 }
 
 #[test]

@@ -1,6 +1,7 @@
 -- The parts of a text between commas, one after another.
-use Rattle.std.proofs.Common.{◌≡◌, ℕ, suc, ◌+◌, ◌<◌, Bool, true, false, cond, ◌==◌, nat_lt, List, [], ◌∷◌, length, get_or, Some, None, refl, ap, ◌∙◌, arith}
+use Rattle.std.proofs.Common.{◌≡◌, ℕ, suc, ◌+◌, ◌<◌, Bool, true, false, cond, ◌==◌, nat_lt, List, [], ◌∷◌, length, get_or, Option, Some, None, refl, sym, ap, ◌∙◌, arith}
 use Rattle.std.specs.Bool.{Decides}
+use Rattle.std.specs.Borrow.{Bor}
 use Rattle.std.specs.Char.{digit_value}
 use Rattle.std.specs.List.{All, Contains, onto_first, count_by, list_all}
 use Rattle.std.specs.Option.{option_or}
@@ -9,7 +10,7 @@ use Rattle.std.proofs.lemmas.Bool.{ne_eqb}
 use Rattle.std.proofs.lemmas.Bool.Decides.{Decides-and, Decides-ltb}
 use Rattle.std.proofs.lemmas.List.Elements.{All-from_get_or, Contains-get_or}
 use Rattle.std.proofs.lemmas.List.Splits.{slice_split_none, slice_split_at, length-slice_split}
-use Rattle.byte_text.specs.Cuts.{IsCutAt}
+use Rattle.byte_text.specs.Cuts.{IsCutAt, IsFirstPart}
 use Rattle.cpu_set.specs.declared.fault.SetFault.{SetFault}
 use Rattle.cpu_set.specs.Readings.{parts_of, Rule, leftmost, is_numeral}
 
@@ -24,6 +25,16 @@ parts_of-cut text part behind cut =
 
 pub parts_of-whole : (text : List ℕ) → ¬ (Contains text 44) → parts_of text ≡ text ∷ []
 parts_of-whole text lacks = slice_split_none (λ byte. byte == 44) text (none_is 44 text lacks)
+
+-- the parts of what is left: none where the last was read
+abbrev pub parts_left : Option (Bor (List ℕ)) → List (List ℕ)
+parts_left None = []
+parts_left (Some text) = parts_of text.now
+
+-- a text's parts are the first one and those of what stands behind it
+pub first_of_parts : (text part : List ℕ) (behind : Option (Bor (List ℕ))) → IsFirstPart 44 text part behind → parts_of text ≡ part ∷ parts_left behind
+first_of_parts text part None whole = parts_of-whole text whole.0 ∙ ap (λ t. t ∷ []) (sym whole.1)
+first_of_parts text part (Some behind) cut = parts_of-cut text part behind.now cut
 
 -- ---- how much text is left
 

@@ -2,7 +2,7 @@
 use Rattle.std.specs.Prelude.{ℕ, ◌≡◌, ◌+◌, ◌*◌, ◌/◌, ◌%◌, ◌^◌, ◌<◌, Bool, if◌then◌else◌, ◌==◌, List, length, map, slice_index}
 use Rattle.std.specs.Int.{bit_at}
 use Rattle.std.specs.List.{All, range_with_len, sum_by}
-use Rattle.cpu_set.specs.Sets.{has, numbers_where}
+use Rattle.cpu_set.specs.Sets.{set_limit, has, numbers_where}
 
 -- the number whose bit at each place below that many is set where the place passes the test
 unfoldable pub number_with_bits : (ℕ → Bool) → ℕ → ℕ
@@ -14,15 +14,19 @@ word_of set place = number_with_bits (λ bit. has set (32 * place + bit)) 32
 
 -- the whole set as one number, in which bit n stands for the number n
 abbrev pub mask_of : List ℕ → ℕ
-mask_of set = number_with_bits (has set) 4096
+mask_of set = number_with_bits (has set) set_limit
 
 -- whether the words have the bit of a number
 abbrev pub is_bit_of : List ℕ → ℕ → Bool
 is_bit_of words number = bit_at (slice_index words (number / 32)) (number % 32) == 1
 
--- 128 words of 32 bits
+-- so many words have all numbers of a set
+abbrev pub word_count : ℕ
+word_count = 128
+
+-- all words of a set, each of 32 bits
 pub record AreWords (words : List ℕ) : Type 0 where
-  pub count : length words ≡ 128
+  pub count : length words ≡ word_count
   pub narrow : All (λ word. word < 2 ^ 32) words
 
 -- the set that words stand for, and the words of a set
@@ -33,4 +37,4 @@ unfoldable pub first_words_of_set : ℕ → List ℕ → List ℕ
 first_words_of_set count set = map (word_of set) (range_with_len 0 count)
 
 abbrev pub words_of_set : List ℕ → List ℕ
-words_of_set set = first_words_of_set 128 set
+words_of_set set = first_words_of_set word_count set

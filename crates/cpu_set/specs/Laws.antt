@@ -2,12 +2,12 @@
 use Rattle.std.specs.Prelude.{ℕ, ◌≡◌, ◌+◌, ◌-◌, ◌<◌, ◌≤◌, Bool, ◌⊎◌, ◌↔◌, List, All, Contains, IsTrue, length}
 use Rattle.std.specs.List.{AllAdjacentBelow, flat_map, range_with_len}
 use Rattle.cpu_set.specs.declared.fault.SetFault.{SetFault}
-use Rattle.cpu_set.specs.Sets.{IsSet, numbers_where, union, minus, meet, xor}
+use Rattle.cpu_set.specs.Sets.{set_limit, IsSet, numbers_where, union, minus, meet, xor}
 
--- a set has exactly the numbers below 4,096 that pass its test
+-- a set has exactly the numbers below the limit that pass its test
 pub record HasJust (test : ℕ → Bool) : Type 0 where
   pub set : IsSet (numbers_where test)
-  pub members : (number : ℕ) → Contains (numbers_where test) number ↔ ((number < 4096) × IsTrue (test number))
+  pub members : (number : ℕ) → Contains (numbers_where test) number ↔ ((number < set_limit) × IsTrue (test number))
 
 -- two sets with the same numbers are equal
 abbrev pub SameByMembers : List ℕ → List ℕ → Type 0

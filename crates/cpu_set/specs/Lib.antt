@@ -4,5 +4,4 @@ pub mod Bits
 pub mod WordLaws
 pub mod Texts
 pub mod Readings
-pub mod Parts
 pub mod Laws

@@ -7,7 +7,8 @@ use Rattle.std.specs.Option.{option_or}
 use Rattle.std.specs.Str.Parse.{digits_value}
 use Rattle.cpu_set.specs.declared.fault.SetFault.{SetFault}
 use Rattle.cpu_set.specs.declared.fault.SetFault.TheVariants.{Form, TooLarge, Infinite}
-use Rattle.cpu_set.specs.Sets.{numbers_where}
+use Rattle.cpu_set.specs.Sets.{set_limit, numbers_where}
+use Rattle.cpu_set.specs.Bits.{word_count}
 
 -- The rule of a form tells the fault of one part of a text, by its offset, by how many parts stand behind it, and by
 -- its bytes.
@@ -46,11 +47,11 @@ is_word word = is_numeral 16 (without_prefix word) && nat_le (length (without_pr
 abbrev pub is_gap : ℕ → ℕ → List ℕ → Bool
 is_gap at behind word = length word == 0 && (nat_lt 0 at && nat_lt 0 behind)
 
--- 128 words have all numbers below 4,096, so a word with so many behind it is to be zero
+-- a word with as many behind it as have all numbers of a set is to be zero
 abbrev pub hex_rule : Rule
 hex_rule at behind word =
     if is_word word || is_gap at behind word
-    then (if nat_le 128 behind && not (word_value word == 0) then Some (TooLarge at) else None)
+    then (if nat_le word_count behind && not (word_value word == 0) then Some (TooLarge at) else None)
     else Some (Form at)
 
 -- `0xf...f` begins hwloc's text of an infinite set
@@ -105,8 +106,8 @@ is_open item = is_numeral 10 (low_end item) && (has_dash item && (length (high_e
 abbrev pub range_fault : ℕ → List ℕ → List ℕ → Option SetFault
 range_fault at low high =
     if not (is_range low high) then Some (Form at)
-    else (if nat_le 4096 (digits_value 10 low) then Some (TooLarge at)
-    else (if nat_le 4096 (digits_value 10 high) then Some (TooLarge (at + length low + 1))
+    else (if nat_le set_limit (digits_value 10 low) then Some (TooLarge at)
+    else (if nat_le set_limit (digits_value 10 high) then Some (TooLarge (at + length low + 1))
     else None))
 
 -- an item is `a`, `a-b` or `a-`; what is none of these is no range

@@ -7,10 +7,14 @@ use Rattle.std.specs.List.Sorted.{IsStrictlyIncreasing}
 abbrev pub has : List ℕ → ℕ → Bool
 has set number = list_any (λ member. member == number) set
 
--- a set: its numbers ascend, and each is below 4,096
+-- the numbers of a set are below this
+abbrev pub set_limit : ℕ
+set_limit = 4096
+
+-- a set: its numbers ascend, and each is below the limit
 pub record IsSet (set : List ℕ) : Type 0 where
   pub ascending : IsStrictlyIncreasing set
-  pub below : All (λ number. number < 4096) set
+  pub below : All (λ number. number < set_limit) set
 
 -- the numbers below the limit that pass the test, ascending
 unfoldable pub numbers_below : ℕ → (ℕ → Bool) → List ℕ
@@ -18,7 +22,7 @@ numbers_below limit test = filter test (range_with_len 0 limit)
 
 -- the set of the numbers that pass the test
 abbrev pub numbers_where : (ℕ → Bool) → List ℕ
-numbers_where test = numbers_below 4096 test
+numbers_where test = numbers_below set_limit test
 
 -- the numbers that are in the one or in the other
 abbrev pub union : List ℕ → List ℕ → List ℕ

@@ -4,7 +4,6 @@
 
 mod fault;
 mod laws;
-mod parts;
 mod read_hex;
 mod read_list;
 mod run;

@@ -6,9 +6,8 @@ ghost use Rattle.cpu_set.specs.Readings.{ReadsHex, HexRefused, without_prefix, i
 ghost use Rattle.cpu_set.specs.Sets.{numbers_where};
 
 use crate::fault::SetFault;
-use crate::parts::first_part;
-use crate::set::CpuSet;
-use byte_text::{Numeral, read_numeral};
+use crate::set::{CpuSet, WORDS};
+use byte_text::{Numeral, first_part, read_numeral};
 
 // The largest number of eight hexadecimal digits.
 const LARGEST_WORD: u64 = 0xffff_ffff;
@@ -31,6 +30,7 @@ impl CpuSet {
 }
 
 // Reads a text of words.
+#[tactic(auto, using(crate::proofs::PartLemmas::first_of_parts))]
 fn read_words(text: &[u8]) -> Result<CpuSet, SetFault>
     ensures good { OnOk result (leftmost hex_rule 0 (parts_of text.now) ≡ None) }
     ensures numbers { IfOk result (λ set. set ≡ numbers_where (is_in_hex text.now)) }
@@ -41,7 +41,7 @@ fn read_words(text: &[u8]) -> Result<CpuSet, SetFault>
     let mut at = 0;
     let mut rest = Some(text);
     while let Some(words) = rest {
-        let (word, behind) = first_part(words);
+        let (word, behind) = first_part(words, b',');
         left -= 1;
         let value = read_word(at, left, word)?;
         if value != 0 {
@@ -62,7 +62,7 @@ fn commas(text: &[u8]) -> usize
 // The value of a word with so many words behind it, or the fault of the word.
 fn read_word(at: usize, behind: usize, word: &[u8]) -> Result<u32, SetFault>
     ensures value { IfOk result (λ value. value ≡ word_value word.now) }
-    ensures low { IfOk result (λ value. 0 < value → behind < 128) }
+    ensures low { IfOk result (λ value. 0 < value → behind < WORDS) }
     ensures good { OnOk result (hex_rule at behind word.now ≡ None) }
     ensures fault { IfErr result (λ fault. hex_rule at behind word.now ≡ Some fault) }
 {
@@ -72,7 +72,7 @@ fn read_word(at: usize, behind: usize, word: &[u8]) -> Result<u32, SetFault>
         None if is_gap => 0,
         None => return Err(SetFault::Form { at }),
     };
-    if value != 0 && behind >= 128 {
+    if value != 0 && behind >= WORDS {
         return Err(SetFault::TooLarge { at });
     }
     Ok(value)

@@ -5,12 +5,12 @@ ghost use Rattle.std.specs.Str.Parse.{AllDigits, digits_value};
 ghost use Rattle.cpu_set.specs.Readings.{ReadsList, ListRefused, list_rule, range_fault, is_numeral, low_value, high_value};
 
 use crate::fault::SetFault;
-use crate::parts::first_part;
 use crate::run::Run;
-use crate::set::CpuSet;
-use byte_text::{Numeral, cut_at, read_numeral};
+use crate::set::{CpuSet, LIMIT};
+use byte_text::{Numeral, cut_at, first_part, read_numeral};
 
-const HIGHEST: u64 = 4095;
+// The highest number that a set may have.
+const HIGHEST: u64 = LIMIT as u64 - 1;
 
 impl CpuSet {
     /// Reads items between commas in any order: a number, or two with a dash between, the first not above the second
@@ -19,6 +19,7 @@ impl CpuSet {
     /// The leftmost broken rule is refused: `Form` for an item of another form, `Infinite` for a number with a dash
     /// behind it, both with the offset of the item, and `TooLarge` with that of the first number of the item from 4,096
     /// on.
+    #[tactic(auto, using(crate::proofs::PartLemmas::first_of_parts))]
     pub fn read_list(text: &[u8]) -> Result<CpuSet, SetFault>
         ensures set { IfOk result (ReadsList text.now) }
         ensures fault { IfErr result (ListRefused text.now) }
@@ -27,7 +28,7 @@ impl CpuSet {
         let mut at = 0;
         let mut rest = if text.is_empty() { None } else { Some(text) };
         while let Some(items) = rest {
-            let (item, behind) = first_part(items);
+            let (item, behind) = first_part(items, b',');
             let run = read_item(at, item)?;
             set.add_range(run.first, run.last);
             at += item.len() + 1;
@@ -43,7 +44,7 @@ fn read_item(at: usize, item: &[u8]) -> Result<Run, SetFault>
     ensures first { IfOk result (λ run. run.first ≡ low_value item.now) }
     ensures last { IfOk result (λ run. run.last ≡ high_value item.now) }
     ensures ends { IfOk result (λ run. run.first ≤ run.last) }
-    ensures limit { IfOk result (λ run. run.last < 4096) }
+    ensures limit { IfOk result (λ run. run.last < LIMIT) }
     ensures good { OnOk result (list_rule at 0 item.now ≡ None) }
     ensures fault { IfErr result (λ fault. list_rule at 0 item.now ≡ Some fault) }
 {
@@ -75,7 +76,7 @@ fn read_range(at: usize, low: &[u8], high: &[u8]) -> Result<Run, SetFault>
     ensures first { IfOk result (λ run. run.first ≡ digits_value 10 low.now) }
     ensures last { IfOk result (λ run. run.last ≡ digits_value 10 high.now) }
     ensures ends { IfOk result (λ run. run.first ≤ run.last) }
-    ensures limit { IfOk result (λ run. run.last < 4096) }
+    ensures limit { IfOk result (λ run. run.last < LIMIT) }
     ensures good { OnOk result (range_fault at low.now high.now ≡ None) }
     ensures fault { IfErr result (λ fault. range_fault at low.now high.now ≡ Some fault) }
 {

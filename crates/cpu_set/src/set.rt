@@ -8,12 +8,19 @@ ghost use Rattle.cpu_set.specs.Texts.{highest, numbers_from};
 
 use std::marker::Model;
 
-const WORDS: usize = 128;
+// How many words a set has.
+pub(crate) const WORDS: usize = 128;
+
+// How many numbers a word has.
+pub(crate) const WIDTH: u32 = u32::BITS;
+
+// The numbers of a set are below this.
+pub(crate) const LIMIT: u32 = 4096;
 
 /// A set of numbers below 4,096, which contracts see as the ascending list of its numbers.
 #[derive(Clone, Copy)]
 pub struct CpuSet {
-    words: [u32; 128],
+    words: [u32; WORDS],
 }
 
 impl Model for CpuSet {
@@ -38,15 +45,15 @@ impl CpuSet {
     pub fn empty() -> CpuSet
         ensures { result ≡ [] }
     {
-        CpuSet { words: [0; 128] }
+        CpuSet { words: [0; WORDS] }
     }
 
     /// Adds a number below 4,096.
     pub fn with(&mut self, number: u32)
-        requires { number < 4096 }
+        requires { number < LIMIT }
         ensures { self.new ≡ union self.old (number ∷ []) }
     {
-        self.add_word(number as usize / 32, 1 << (number % 32));
+        self.add_word((number / WIDTH) as usize, 1 << (number % WIDTH));
     }
 
     /// Whether the set has the number.
@@ -55,7 +62,7 @@ impl CpuSet {
         ensures set { IsSet self.now }
     {
         let words = &self.words;
-        number < 4096 && (words[number as usize / 32] >> (number % 32)) & 1 == 1
+        number < LIMIT && (words[(number / WIDTH) as usize] >> (number % WIDTH)) & 1 == 1
     }
 
     /// The lowest number, or `None` exactly for the empty set.
@@ -135,9 +142,9 @@ impl CpuSet {
         true
     }
 
-    // The word at a place below 128.
+    // The word at a place.
     pub(crate) fn word(&self, place: usize) -> u32
-        requires { place < 128 }
+        requires { place < WORDS }
         ensures { result ≡ word_of self.now place }
     {
         self.words[place]
@@ -149,22 +156,22 @@ impl CpuSet {
         ensures found { IfSome result (λ number. numbers_from from self.now
             ≡ number ∷ numbers_from (number + 1) self.now) }
         ensures from { IfSome result (λ number. from ≤ number) }
-        ensures limit { IfSome result (λ number. number < 4096) }
+        ensures limit { IfSome result (λ number. number < LIMIT) }
         ensures set { IsSet self.now }
     {
         let words = &self.words;
-        if from >= 4096 {
+        if from >= LIMIT {
             return None;
         }
-        let start = from as usize / 32;
-        let word = words[start] & (u32::MAX << (from % 32));
+        let start = (from / WIDTH) as usize;
+        let word = words[start] & (u32::MAX << (from % WIDTH));
         if word != 0 {
-            return Some(32 * start as u32 + word.trailing_zeros());
+            return Some(WIDTH * start as u32 + word.trailing_zeros());
         }
         'words: for place in start + 1..WORDS {
             let word = words[place];
             if word != 0 {
-                return Some(32 * place as u32 + word.trailing_zeros());
+                return Some(WIDTH * place as u32 + word.trailing_zeros());
             }
         }
         None
@@ -173,13 +180,13 @@ impl CpuSet {
     // The highest number, or 0 of the empty set.
     pub(crate) fn highest(&self) -> u32
         ensures number { result ≡ highest self.now }
-        ensures limit { result < 4096 }
+        ensures limit { result < LIMIT }
         ensures set { IsSet self.now }
     {
         for place in (0..WORDS).rev() {
             let word = self.words[place];
             if word != 0 {
-                return 32 * place as u32 + (31 - word.leading_zeros());
+                return WIDTH * place as u32 + (WIDTH - 1 - word.leading_zeros());
             }
         }
         0
@@ -187,9 +194,9 @@ impl CpuSet {
 
     // Adds the numbers whose bits are set in the word at a place.
     pub(crate) fn add_word(&mut self, place: usize, word: u32)
-        requires { place < 128 }
+        requires { place < WORDS }
         ensures { self.new ≡ numbers_where (λ number.
-            has self.old number || (number / 32 == place && bit_at word (number % 32) == 1)) }
+            has self.old number || (number / WIDTH == place && bit_at word (number % WIDTH) == 1)) }
     {
         self.words[place] |= word;
     }
@@ -197,13 +204,17 @@ impl CpuSet {
     // Adds the numbers from `low` to `high`, both among them.
     pub(crate) fn add_range(&mut self, low: u32, high: u32)
         requires ends { low ≤ high }
-        requires limit { high < 4096 }
+        requires limit { high < LIMIT }
         ensures { self.new ≡ numbers_where (λ number.
             has self.old number || (nat_le low number && nat_le number high)) }
     {
-        'words: for place in low / 32..high / 32 + 1 {
-            let first = if place == low / 32 { low % 32 } else { 0 };
-            let last = if place == high / 32 { high % 32 } else { 31 };
+        'words: for place in low / WIDTH..high / WIDTH + 1 {
+            let first = if place == low / WIDTH { low % WIDTH } else { 0 };
+            let last = if place == high / WIDTH {
+                high % WIDTH
+            } else {
+                WIDTH - 1
+            };
             self.add_word(place as usize, ones_between(first, last));
         }
     }
@@ -212,9 +223,9 @@ impl CpuSet {
 // The word whose bits from `first` to `last` are set, and no others.
 fn ones_between(first: u32, last: u32) -> u32
     requires ends { first ≤ last }
-    requires within { last < 32 }
-    ensures { (bit : ℕ) → bit < 32
+    requires within { last < WIDTH }
+    ensures { (bit : ℕ) → bit < WIDTH
         → (bit_at result bit == 1) ≡ (nat_le first bit && nat_le bit last) }
 {
-    (u32::MAX >> (31 - last)) & (u32::MAX << first)
+    (u32::MAX >> (WIDTH - 1 - last)) & (u32::MAX << first)
 }

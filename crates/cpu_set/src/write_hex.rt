@@ -4,7 +4,7 @@ ghost use Rattle.std.specs.Prelude.{◌≡◌, ◌+◌, ◌++◌, ◌<◌, ◌�
 ghost use Rattle.cpu_set.specs.Bits.{word_of};
 ghost use Rattle.cpu_set.specs.Texts.{hex_text, highest, word_text, hex_digits};
 
-use crate::set::CpuSet;
+use crate::set::{CpuSet, WIDTH, WORDS};
 use byte_text::hex_digit;
 use edge_io::OutOfMemory;
 use std::alloc::Global;
@@ -15,7 +15,7 @@ impl CpuSet {
     pub fn write_hex(&self, alloc: Global) -> Result<Vec<u8>, OutOfMemory>
         ensures { IfOk result (λ text. text.items ≡ hex_text self.now) }
     {
-        let count = self.highest() as usize / 32 + 1;
+        let count = (self.highest() / WIDTH) as usize + 1;
         let mut text = Vec::with_capacity(alloc, self.hex_len(count))?;
         for place in (0..count).rev() {
             if place + 1 < count {
@@ -28,8 +28,8 @@ impl CpuSet {
 
     // How long the text is.
     fn hex_len(&self, count: usize) -> usize
-        requires count { count ≡ highest self.now / 32 + 1 }
-        requires limit { count ≤ 128 }
+        requires count { count ≡ highest self.now / WIDTH + 1 }
+        requires limit { count ≤ WORDS }
         ensures { result ≡ length (hex_text self.now) }
     {
         let mut length = 0;

@@ -4,7 +4,7 @@ ghost use Rattle.std.specs.Prelude.{◌≡◌, ◌+◌, ◌++◌, ◌<◌, ◌�
 ghost use Rattle.cpu_set.specs.Texts.{list_text, run_text, runs_of, numbers_from};
 
 use crate::run::Run;
-use crate::set::CpuSet;
+use crate::set::{CpuSet, LIMIT};
 use byte_text::push_decimal;
 use edge_io::OutOfMemory;
 use std::alloc::Global;
@@ -50,11 +50,11 @@ impl CpuSet {
             ≡ (run.first, run.last) ∷ runs_of (numbers_from (run.last + 1) self.now)) }
         ensures order { IfSome result (λ run. run.first ≤ run.last) }
         ensures from { IfSome result (λ run. from ≤ run.first) }
-        ensures limit { IfSome result (λ run. run.last < 4096) }
+        ensures limit { IfSome result (λ run. run.last < LIMIT) }
     {
         let first = self.next(from)?;
         let mut last = first;
-        while last < 4095 && self.has(last + 1) {
+        while last + 1 < LIMIT && self.has(last + 1) {
             last += 1;
         }
         Some(Run { first, last })
@@ -64,7 +64,7 @@ impl CpuSet {
 // How long the text of a run is.
 fn run_len(run: Run) -> usize
     requires order { run.first ≤ run.last }
-    requires limit { run.last < 4096 }
+    requires limit { run.last < LIMIT }
     ensures length { result ≡ length (run_text (run.first, run.last)) }
     ensures limit { result ≤ 9 }
 {
@@ -76,7 +76,7 @@ fn run_len(run: Run) -> usize
 }
 
 fn decimal_len(number: u32) -> usize
-    requires { number < 4096 }
+    requires { number < LIMIT }
     ensures length { result ≡ length (decimal number) }
     ensures limit { result ≤ 4 }
 {

@@ -4,7 +4,7 @@ ghost use Rattle.std.specs.Prelude.{◌≡◌, ◌/◌, ◌%◌, ◌^◌, ◌<�
 ghost use Rattle.cpu_set.specs.Bits.{mask_of};
 ghost use Rattle.cpu_set.specs.Texts.{taskset_text};
 
-use crate::set::CpuSet;
+use crate::set::{CpuSet, LIMIT};
 use byte_text::hex_digit;
 use edge_io::OutOfMemory;
 use std::alloc::Global;
@@ -25,7 +25,7 @@ impl CpuSet {
 
     // The digit at a place of the number in base 16, counted from the last.
     fn hex_place(&self, place: usize) -> u8
-        requires { place < 1024 }
+        requires { place < LIMIT / 4 }
         ensures { result ≡ mask_of self.now / 16 ^ place % 16 }
     {
         ((self.word(place / 8) >> (4 * (place % 8))) & 15) as u8

@@ -1,4 +1,5 @@
 use Rattle.std.proofs.Common.{Some, sym, ◌∙◌}
+use Rattle.cpu_set.proofs.PartLemmas.{first_of_parts}
 use Rattle.cpu_set.proofs.ListSteps.{ListSoFar, list_empty, list_start, list_more, list_all_read}
 use Rattle.cpu_set.proofs.set.CpuSet.read_list.Goals as goal
 use Rattle.cpu_set.proofs.set.CpuSet.read_list.Goals.{then-is_empty, else-is_empty}
@@ -13,7 +14,7 @@ loop-rest-init c =
 pub loop-rest-preserved : goal.loop-rest-preserved
 loop-rest-preserved c =
     let so_far : ListSoFar c.args.text.now (Some c.in-Some.items) c.loop-rest.at c.loop-rest.set = rw c.in-Some.is at c.loop-rest.invariant in
-    list_more c.args.text.now c.in-Some.items c.loop-rest.at c.loop-rest.set c.first_part.result.0.now c.first_part.result.1 so_far c.first_part.ensures
+    list_more c.args.text.now c.in-Some.items c.loop-rest.at c.loop-rest.set c.first_part.result.0.now c.first_part.result.1 so_far (first_of_parts c.in-Some.items.now c.first_part.result.0.now c.first_part.result.1 c.first_part.ensures)
     c.in_ok-run.run'.first c.in_ok-run.run'.last c.add_range.new.self c.in_ok-run.ensures.good c.in_ok-run.ensures.first c.in_ok-run.ensures.last c.add_range.ensures
 
 pub returns-clause-set : goal.returns-clause-set

@@ -1,5 +1,5 @@
 use Rattle.std.proofs.Common.{length}
-use Rattle.cpu_set.specs.Parts.{parts_left}
+use Rattle.cpu_set.proofs.PartLemmas.{parts_left}
 use Rattle.cpu_set.proofs.ListSteps.{ListSoFar}
 use Rattle.cpu_set.proofs.set.CpuSet.read_list.Given as goal
 
