@@ -18,24 +18,57 @@ fn canonical(alloc: Global, text: &[u8]) -> Result<Vec<u8>, SynthFault> {
     }
 }
 
-// Each text has the canonical text beside it, and that one is its own.
-fn expect_texts(rt: &impl Abort, alloc: Global, cases: &[(&[u8], &[u8])]) -> Result<(), Fail> {
-    for (place, (text, wanted)) in cases.iter().enumerate() {
-        let found = canonical(alloc, text)?;
-        assert_eq!(rt; found.as_slice(), *wanted, "at {place}");
-        let again = canonical(alloc, &found)?;
-        assert_eq!(rt; again.as_slice(), *wanted, "again at {place}");
+// Each row is a text, ` => ` and the canonical text of what it describes, or a text that is canonical itself.
+fn expect_texts(rt: &impl Abort, alloc: Global, rows: &[&str]) -> Result<(), Fail> {
+    for row in rows {
+        let (text, wanted) = row.split_once(" => ").unwrap_or((row, row));
+        let found = canonical(alloc, text.as_bytes())?;
+        assert_eq!(rt; found.as_slice(), wanted.as_bytes(), "at {row}");
     }
     Ok(())
 }
 
-// Each text is refused with the fault beside it.
-fn expect_faults(rt: &impl Abort, alloc: Global, cases: &[(&[u8], SynthFault)]) {
-    for (place, (text, fault)) in cases.iter().enumerate() {
-        match read(alloc, text) {
-            Ok(_) => panic!(rt; "the bad text at {place} was read"),
-            Err(found) => assert_eq!(rt; found, *fault, "at {place}"),
-        }
+// Each row names a fault, and then has the texts that it refuses, with bars between them. `^` stands before the item
+// that it tells.
+fn expect_refusals(rt: &impl Abort, alloc: Global, rows: &[&str]) -> Result<(), Fail> {
+    for row in rows {
+        expect_row(rt, alloc, row)?;
+    }
+    Ok(())
+}
+
+fn expect_row(rt: &impl Abort, alloc: Global, row: &str) -> Result<(), Fail> {
+    let (name, texts) = row.split_once(' ').ok_or("a row has a name")?;
+    for text in texts.split('|') {
+        expect_refusal(rt, alloc, name, text)?;
+    }
+    Ok(())
+}
+
+fn expect_refusal(rt: &impl Abort, alloc: Global, name: &str, text: &str) -> Result<(), Fail> {
+    let (before, told) = text.split_once('^').unwrap_or(("", text));
+    let whole = format!(in alloc; "{before}{told}")?;
+    let fault = fault_named(name, before.len()).ok_or("the name is a fault's")?;
+    assert_eq!(rt;
+        read(alloc, whole.as_bytes()).err(),
+        Some(fault),
+        "at {text}"
+    );
+    Ok(())
+}
+
+fn fault_named(name: &str, at: usize) -> Option<SynthFault> {
+    match name {
+        "Empty" => Some(SynthFault::Empty),
+        "BadType" => Some(SynthFault::BadType { at }),
+        "BadArity" => Some(SynthFault::BadArity { at }),
+        "BadAttr" => Some(SynthFault::BadAttr { at }),
+        "BadIndexes" => Some(SynthFault::BadIndexes { at }),
+        "LastNotPu" => Some(SynthFault::LastNotPu { at }),
+        "RepeatedType" => Some(SynthFault::RepeatedType { at }),
+        "TooManyLevels" => Some(SynthFault::TooManyLevels),
+        "TooManyObjects" => Some(SynthFault::TooManyObjects),
+        _ => None,
     }
 }
 
