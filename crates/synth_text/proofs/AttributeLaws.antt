@@ -10,8 +10,10 @@ use Rattle.synth_text.specs.declared.fault.Flaw.TheVariants as flaws
 use Rattle.synth_text.specs.Items.{is_white}
 use Rattle.synth_text.specs.Cuts.{first_piece, pieces}
 use Rattle.synth_text.specs.Flaws.{◌>>=◌, Fails}
-use Rattle.synth_text.specs.Attributes.{is_empty, no_attributes, with_word, with_next, with_words, attributes_in}
+use Rattle.synth_text.specs.Attributes.{is_empty, no_attributes, attributes_in}
+use Rattle.synth_text.specs.AttributeSteps.{with_word, with_next, with_words}
 use Rattle.synth_text.proofs.CutLaws.{slice_split-first_piece, pieces-next}
+use Rattle.synth_text.proofs.AttributeFold.{attributes_read}
 
 -- a reading fails as its first step does
 pub fails_first : {A B : Type 0} (flaw : Flaw) (first : Result A Flaw) (next : A → Result B Flaw) → Fails flaw first → Fails flaw (first >>= next)
@@ -47,8 +49,7 @@ stops kind attributes flaw rest text parts total is cuts failed so_far =
 
 first_word : (kind : Kind) (text : List ℕ) (parts : List ℕ × Option (List ℕ)) → parts ≡ first_piece is_white text
     → attributes_in kind text ≡ (with_word kind no_attributes parts.0 >>= λ next. with_words kind next (pieces is_white parts.1))
-unfolding attributes_in
-first_word kind text parts cuts = rw (slice_split-first_piece is_white text, ← cuts) refl
+first_word kind text parts cuts = rw (attributes_read kind text, slice_split-first_piece is_white text, ← cuts) refl
 
 pub begins : (kind : Kind) (text : List ℕ) (next : Attributes) (parts : List ℕ × Option (List ℕ)) → parts ≡ first_piece is_white text
     → with_word kind no_attributes parts.0 ≡ Ok next → with_words kind next (pieces is_white parts.1) ≡ attributes_in kind text

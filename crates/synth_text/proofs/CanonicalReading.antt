@@ -25,13 +25,15 @@ use Rattle.synth_text.specs.Numbers.{number_in}
 use Rattle.synth_text.specs.Cuts.{cut, first_piece, without_front}
 use Rattle.synth_text.specs.Sizes.{size_of}
 use Rattle.synth_text.specs.IndexTexts.{index_of, loop_of, entries_of, indexes_of}
-use Rattle.synth_text.specs.Attributes.{key_of, takes, no_attributes, with_word, with_next, with_first, attributes_in, enclosed, attributes_of}
+use Rattle.synth_text.specs.Attributes.{key_of, takes, no_attributes, attributes_in, enclosed, attributes_of}
+use Rattle.synth_text.specs.AttributeSteps.{with_word, with_next, with_first}
 use Rattle.synth_text.specs.Parts.{level_name, head_of, level_part, level_of, memory_in_brackets, memory_of}
 use Rattle.synth_text.specs.Canonical.{loop_text, size_texts, indexes_text, indexes_texts, in_parentheses, level_text, memory_text}
 use Rattle.synth_text.specs.Sound.{IsSoundLoop, AreSoundIndexes, IsSoundLevel, IsSoundMemory}
 use Rattle.synth_text.proofs.KindLaws.{same_kind-true, same_kind-equal}
 use Rattle.synth_text.proofs.Numerals.{in_range}
 use Rattle.synth_text.proofs.CutLaws.{cut-at, prefix_len-is, first_piece-none}
+use Rattle.synth_text.proofs.AttributeFold.{attributes_read}
 use Rattle.synth_text.proofs.Texts.{each_append, each_weaker, each_at, each_joined, IsSolid, is_solid, IsInner, IsDigit, Lacks, solid_test, solid_not_white, solid_is_inner, digit_is_solid, decimal_digits, lacks, split_joined}
 
 -- ---- numbers
@@ -170,7 +172,7 @@ size_solid key h (Some n) small = (each_append IsSolid key (61 ∷ decimal n) h 
 -- what is written in parentheses is read as its words
 pub reads_parentheses : (kind : Kind) (first : List ℕ) (texts : List (List ℕ)) → AllByRecursion (AllByRecursion IsSolid) (first ∷ texts)
     → attributes_of kind (Some (join_with_byte 32 (first ∷ texts) ++ 41 ∷ [])) ≡ with_first kind (first ∷ texts)
-unfolding enclosed attributes_in
+unfolding enclosed
 reads_parentheses kind first texts h =
     let joined = join_with_byte 32 (first ∷ texts) in
     let inner : AllByRecursion IsInner joined =
@@ -181,7 +183,7 @@ reads_parentheses kind first texts h =
     let split : slice_split is_white joined ≡ first ∷ texts =
     split_joined is_white 32 first texts refl (each_weaker (AllByRecursion IsSolid) (Lacks is_white) (λ text t. each_weaker IsSolid (λ b. is_white b ≡ false) solid_not_white text t) (first ∷ texts) h)
     in
-    rw (cuts, split) refl
+    rw (cuts, attributes_read kind joined, split) refl
 
 reads_size_word : (kind : Kind) (a : Attributes) (n : ℕ) → n < 2 ^ 64 → is_cache kind ≡ true → a.size ≡ None → with_word kind a (codes "size" ++ 61 ∷ decimal n) ≡ Ok (record a { size = Some n })
 unfolding with_word key_of

@@ -1,6 +1,7 @@
 pub mod Numerals
 pub mod CutLaws
 pub mod Entries
+pub mod AttributeFold
 pub mod AttributeLaws
 pub mod RuleLaws
 pub mod PartLaws

@@ -25,9 +25,11 @@ use Rattle.synth_text.specs.Cuts.{cut, first_piece, without_front}
 use Rattle.synth_text.specs.Flaws.{◌>>=◌, or_flaw, fault_at, placed}
 use Rattle.synth_text.specs.Sizes.{size_of}
 use Rattle.synth_text.specs.IndexTexts.{indexes_of}
-use Rattle.synth_text.specs.Attributes.{key_of, takes, has, no_attributes, with_value, with_word, with_next, with_words, with_first, is_empty, attributes_in, closed, enclosed, attributes_of}
+use Rattle.synth_text.specs.Attributes.{key_of, takes, no_attributes, is_empty, attributes_in, closed, enclosed, attributes_of}
+use Rattle.synth_text.specs.AttributeSteps.{has, with_value, with_word, with_next, with_words, with_first}
 use Rattle.synth_text.specs.Parts.{untyped_kind, level_name, head_kind, head_arity, with_arity, head_of, level_part, level_of, node_name, opened, memory_part, named_memory, memory_in_brackets, cut_memory, memory_of}
-use Rattle.synth_text.specs.Rules.{levels_of, first_again, from_last, wrong_end, when, first_of, is_large, broken, unless_broken, description_of}
+use Rattle.synth_text.specs.Rules.{levels_of, first_again, from_last, wrong_end, when, first_of, is_large, broken, broken_items, unless_broken, description_of}
+use Rattle.synth_text.proofs.AttributeFold.{attributes_read}
 use Rattle.synth_text.specs.Descriptions.{level_items, part_of, placed_part, parts_of, meaning}
 
 -- ---- readings of one item
@@ -97,10 +99,10 @@ closed_spared None = λ e. absurd cc
 closed_spared (Some parts) = cond_spared (list_all is_white parts.1) (Ok parts.0) (Err flaws.Attribute) (ok_spared parts.0) (λ e. absurd cc)
 
 attributes_spared : (kind : Kind) (text : Option (List ℕ)) → IsSpared (attributes_of kind text)
-unfolding enclosed attributes_in
+unfolding enclosed
 attributes_spared kind None = ok_spared no_attributes
 attributes_spared kind (Some text) =
-    bind_spared (enclosed text) (λ inner. attributes_in kind inner) (closed_spared (cut (λ byte. byte == 41) text)) (λ inner. first_spared kind (slice_split is_white inner))
+    bind_spared (enclosed text) (λ inner. attributes_in kind inner) (closed_spared (cut (λ byte. byte == 41) text)) (λ inner. rw (attributes_read kind inner) (first_spared kind (slice_split is_white inner)))
 
 level_name_spared : (name : Option Name) → IsSpared (level_name name)
 level_name_spared None = λ e. absurd cc
@@ -242,28 +244,30 @@ place_spared : (f : ℕ → SynthFault) → ((at : ℕ) → f at ≡ faults.OutO
 place_spared f h None = λ e. absurd cc
 place_spared f h (Some at) = λ e. h at (same_rule (f at) faults.OutOfMemory e)
 
-broken_spared : (parts : List Placed) → IsSparedRule (broken parts)
-unfolding broken
-broken_spared parts =
+items_rules_spared : (parts : List Placed) → IsSparedRule (broken_items parts)
+unfolding broken_items
+items_rules_spared parts =
     rules_spared
     (when (length (levels_of parts) == 0) faults.Empty
     ∷ option_map (λ at. faults.RepeatedType at) (first_again [] parts)
     ∷ option_map (λ at. faults.LastNotPu at) (wrong_end (from_last parts))
     ∷ when (nat_lt 16 (length (levels_of parts))) faults.TooManyLevels
-    ∷ when (is_large (description_of parts)) faults.TooManyObjects
     ∷ []) (
       when_spared (length (levels_of parts) == 0) faults.Empty (λ e. absurd cc),
       (
         place_spared (λ at. faults.RepeatedType at) (λ at e. absurd cc) (first_again [] parts),
         (
           place_spared (λ at. faults.LastNotPu at) (λ at e. absurd cc) (wrong_end (from_last parts)),
-          (
-            when_spared (nat_lt 16 (length (levels_of parts))) faults.TooManyLevels (λ e. absurd cc),
-            (when_spared (is_large (description_of parts)) faults.TooManyObjects (λ e. absurd cc), tt),
-          ),
+          (when_spared (nat_lt 16 (length (levels_of parts))) faults.TooManyLevels (λ e. absurd cc), tt),
         ),
       ),
     )
+
+broken_spared : (parts : List Placed) → IsSparedRule (broken parts)
+unfolding broken
+broken_spared parts =
+    rules_spared (broken_items parts ∷ when (is_large (description_of parts)) faults.TooManyObjects ∷ [])
+    (items_rules_spared parts, (when_spared (is_large (description_of parts)) faults.TooManyObjects (λ e. absurd cc), tt))
 
 outcome_spared : (o : Option SynthFault) (described : Description) → IsSparedRule o → IsSparedFault (unless_broken o described)
 outcome_spared None described h = no_failure described faults.OutOfMemory

@@ -59,20 +59,9 @@ some_each-take (level ∷ levels) (suc n) h = (h.0, some_each-take levels n h.1)
 
 -- ---- the first broken rule
 
-first_of-last : (a b c d e : Option SynthFault) → first_of (a ∷ b ∷ c ∷ d ∷ e ∷ []) ≡ first_of (first_of (a ∷ b ∷ c ∷ d ∷ []) ∷ e ∷ [])
-first_of-last (Some f) b c d e = refl
-first_of-last None (Some f) c d e = refl
-first_of-last None None (Some f) d e = refl
-first_of-last None None None (Some f) e = refl
-first_of-last None None None None e = refl
-
 pub broken-last : (parts : List Placed) → broken parts ≡ first_of (broken_items parts ∷ when (is_large (description_of parts)) faults.TooManyObjects ∷ [])
-unfolding broken broken_items
-broken-last parts =
-    first_of-last
-    (when (length (levels_of parts) == 0) faults.Empty) (option_map (λ at. faults.RepeatedType at) (first_again [] parts))
-    (option_map (λ at. faults.LastNotPu at) (wrong_end (from_last parts))) (when (nat_lt 16 (length (levels_of parts))) faults.TooManyLevels)
-    (when (is_large (description_of parts)) faults.TooManyObjects)
+unfolding broken
+broken-last parts = refl
 
 -- which rules an unbroken list keeps
 pub record KeepsAll (a b c d : Option SynthFault) : Type 0 where

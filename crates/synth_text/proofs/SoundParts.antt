@@ -1,5 +1,5 @@
 -- What an item says is sound.
-use Rattle.std.proofs.Common.{◌≡◌, ◌≢◌, ℕ, zero, suc, ◌*◌, ◌-◌, ◌^◌, ◌<◌, ◌≤◌, Bool, true, ◌&&◌, cond, List, [], ◌∷◌, length, drop, Option, Some, None, Result, Ok, Err, refl, ap, subst, arith, inl, inr}
+use Rattle.std.proofs.Common.{◌≡◌, ◌≢◌, ℕ, zero, suc, ◌*◌, ◌-◌, ◌^◌, ◌<◌, ◌≤◌, Bool, true, ◌&&◌, cond, List, [], ◌∷◌, length, drop, Option, Some, None, Result, Ok, Err, refl, sym, ap, subst, ◌∙◌, arith, inl, inr}
 use Rattle.std.specs.Prelude.{IfSome, IsSome, ◌==◌, nat_le, nat_lt, not, option_map}
 use Rattle.std.specs.Char.{is_ascii_digit, is_ascii_alphanumeric}
 use Rattle.std.specs.Str.Parse.{digits_value}
@@ -28,11 +28,13 @@ use Rattle.synth_text.specs.Cuts.{cut, first_piece, without_front}
 use Rattle.synth_text.specs.Flaws.{◌>>=◌, or_flaw}
 use Rattle.synth_text.specs.Sizes.{small_size, size_of}
 use Rattle.synth_text.specs.IndexTexts.{index_of, loop_of, entries_of, indexes_of}
-use Rattle.synth_text.specs.Attributes.{key_of, takes, has, no_attributes, with_value, with_word, with_next, with_words, with_first, is_empty, attributes_in, enclosed, attributes_of}
+use Rattle.synth_text.specs.Attributes.{key_of, takes, no_attributes, is_empty, attributes_in, enclosed, attributes_of}
+use Rattle.synth_text.specs.AttributeSteps.{has, with_value, with_word, with_next, with_words, with_first}
 use Rattle.synth_text.specs.Parts.{untyped_kind, level_name, head_kind, head_arity, with_arity, head_of, level_part, level_of, node_name, opened, memory_part, named_memory, memory_in_brackets, cut_memory, memory_of}
 use Rattle.synth_text.specs.Sound.{IsSoundLoop, AreSoundIndexes, IsSoundLevel}
 use Rattle.synth_text.proofs.Bound.{ok_is, some_is, bind_ok, or_flaw-ok, guard_ok, guard_some, and_then_some, option_map_some}
 use Rattle.synth_text.proofs.CutLaws.{slice_split-first_piece}
+use Rattle.synth_text.proofs.AttributeFold.{attributes_read}
 
 -- ---- numbers and sizes
 
@@ -177,11 +179,10 @@ first_sound kind (word ∷ words) b e =
     words_sound kind first.0 words b (word_sound kind no_attributes word first.0 (none_sound kind) first.1) first.2
 
 pub attributes_sound : (kind : Kind) (text : Option (List ℕ)) (b : Attributes) → attributes_of kind text ≡ Ok b → SoundAttributes kind b
-unfolding attributes_in
 attributes_sound kind None b e = subst (SoundAttributes kind) (ok_is no_attributes b e) (none_sound kind)
 attributes_sound kind (Some text) b e =
     let inner = bind_ok (enclosed text) (λ inner. attributes_in kind inner) b e in
-    first_sound kind (slice_split is_white inner.0) b inner.2
+    first_sound kind (slice_split is_white inner.0) b (sym (attributes_read kind inner.0) ∙ inner.2)
 
 -- ---- items
 

@@ -1,5 +1,6 @@
 -- Attributes of an item: `key=value` words in parentheses, with white space between them.
-use Rattle.std.specs.Prelude.{ℕ, Bool, true, false, ◌&&◌, not, ◌==◌, List, [], ◌∷◌, codes, Option, Some, None, Result, Ok, Err, is_some, if◌then◌else◌}
+use Rattle.std.specs.Prelude.{ℕ, Bool, true, false, ◌&&◌, not, ◌==◌, List, [], ◌∷◌, ◌++◌, codes, Option, Some, None, option_map, Result, Ok, Err, is_some, if◌then◌else◌}
+use Rattle.std.specs.Option.{option_and_then, option_or}
 use Rattle.std.specs.List.{list_all, slice_split}
 use Rattle.std.specs.Str.{bytes_eq}
 use Rattle.synth_text.specs.declared.kind.Kind.{Kind}
@@ -14,7 +15,7 @@ use Rattle.synth_text.specs.declared.fault.Flaw.TheVariants as flaws
 use Rattle.synth_text.specs.Kinds.{is_cache}
 use Rattle.synth_text.specs.Items.{is_white}
 use Rattle.synth_text.specs.Cuts.{cut}
-use Rattle.synth_text.specs.Flaws.{◌>>=◌, or_flaw}
+use Rattle.synth_text.specs.Flaws.{◌>>=◌}
 use Rattle.synth_text.specs.Sizes.{size_of}
 use Rattle.synth_text.specs.IndexTexts.{indexes_of}
 
@@ -35,56 +36,92 @@ takes Pu keys.Indexes = true
 takes NumaNode keys.Indexes = true
 takes kind keys.Indexes = false
 
--- no attribute
-abbrev pub no_attributes : Attributes
-no_attributes = record { size = None; memory = None; indexes = indexes.Ordered }
-
--- whether indexes are given
-abbrev pub are_given : Indexes → Bool
-are_given indexes.Ordered = false
-are_given (indexes.List numbers) = true
-are_given (indexes.Loops loops) = true
-
--- whether a key is among the attributes
-abbrev pub has : Attributes → Key → Bool
-has attributes keys.Size = is_some attributes.size
-has attributes keys.Memory = is_some attributes.memory
-has attributes keys.Indexes = are_given attributes.indexes
-
--- the attributes with the value of a key
-abbrev pub with_value : Attributes → Key → List ℕ → Result Attributes Flaw
-with_value attributes keys.Size value = or_flaw flaws.Attribute (size_of value) >>= λ size. Ok (record attributes { size = Some size })
-with_value attributes keys.Memory value = or_flaw flaws.Attribute (size_of value) >>= λ size. Ok (record attributes { memory = Some size })
-with_value attributes keys.Indexes value = or_flaw flaws.Indexes (indexes_of value) >>= λ given. Ok (record attributes { indexes = given })
-
--- the attributes with one more word of a kind's item, whose key isn't among them yet
-unfoldable pub with_word : Kind → Attributes → List ℕ → Result Attributes Flaw
-with_word kind attributes word = do
-  parts ← or_flaw flaws.Attribute (cut (λ byte. byte == 61) word)
-  key ← or_flaw flaws.Attribute (key_of parts.0)
-  if takes kind key && not (has attributes key) then with_value attributes key parts.1 else Err flaws.Attribute
+-- ---- the words
 
 -- whether a list has no element
 abbrev pub is_empty : {X : Type 0} → List X → Bool
 is_empty [] = true
 is_empty (x ∷ xs) = false
 
--- the attributes with a word behind the first; an empty one with more behind it lies in a gap of several white bytes
-unfoldable pub with_next : Kind → Attributes → List ℕ → Bool → Result Attributes Flaw
-with_next kind attributes word is_more = if is_empty word && is_more then Ok attributes else with_word kind attributes word
+-- The words are the pieces between white bytes. A piece without a byte that has others on both sides lies in a gap of several
+-- white bytes and is no word; at either end it is one, and a wrong one.
+abbrev pub words_behind : List (List ℕ) → List (List ℕ)
+words_behind [] = []
+words_behind (piece ∷ pieces) = if is_empty piece && not (is_empty pieces) then words_behind pieces else piece ∷ words_behind pieces
 
--- the words behind the first, from the left
-abbrev pub with_words : Kind → Attributes → List (List ℕ) → Result Attributes Flaw
-with_words kind attributes [] = Ok attributes
-with_words kind attributes (word ∷ words) = with_next kind attributes word (not (is_empty words)) >>= λ next. with_words kind next words
+abbrev pub words_of : List (List ℕ) → List (List ℕ)
+words_of [] = []
+words_of (piece ∷ pieces) = piece ∷ words_behind pieces
 
--- what stands in parentheses; white space at either end makes an empty word, which is no attribute
-abbrev pub with_first : Kind → List (List ℕ) → Result Attributes Flaw
-with_first kind [] = Ok no_attributes
-with_first kind (word ∷ words) = with_word kind no_attributes word >>= λ attributes. with_words kind attributes words
+-- the key and the value of a word `key=value`
+abbrev pub entry_at : Option (List ℕ × List ℕ) → Option (Key × List ℕ)
+entry_at None = None
+entry_at (Some parts) = option_map (λ key. (key, parts.1)) (key_of parts.0)
 
+unfoldable pub entry_in : List ℕ → Option (Key × List ℕ)
+entry_in word = entry_at (cut (λ byte. byte == 61) word)
+
+abbrev pub same_key : Key → Key → Bool
+same_key keys.Size keys.Size = true
+same_key keys.Memory keys.Memory = true
+same_key keys.Indexes keys.Indexes = true
+same_key _ _ = false
+
+-- the value of a key among words, where one of them has it
+abbrev pub value_if : Key → Option (Key × List ℕ) → Option (List ℕ) → Option (List ℕ)
+value_if key None others = others
+value_if key (Some entry) others = if same_key entry.0 key then Some entry.1 else others
+
+abbrev pub value_of : Key → List (List ℕ) → Option (List ℕ)
+value_of key [] = None
+value_of key (word ∷ words) = value_if key (entry_in word) (value_of key words)
+
+-- ---- what words say
+
+abbrev pub indexes_or_none : Option Indexes → Indexes
+indexes_or_none None = indexes.Ordered
+indexes_or_none (Some given) = given
+
+-- the attributes that words give: for each key what its value says
+abbrev pub said_by : List (List ℕ) → Attributes
+said_by words =
+    record {
+      size = option_and_then size_of (value_of keys.Size words);
+      memory = option_and_then size_of (value_of keys.Memory words);
+      indexes = indexes_or_none (option_and_then indexes_of (value_of keys.Indexes words));
+    }
+
+-- ---- what is wrong with words
+
+abbrev pub flaw_unless : {X : Type 0} → Flaw → Option X → Option Flaw
+flaw_unless flaw None = Some flaw
+flaw_unless flaw (Some x) = None
+
+-- a value that is no size, or neither a list nor loops
+abbrev pub flaw_in_value : Key → List ℕ → Option Flaw
+flaw_in_value keys.Size value = flaw_unless flaws.Attribute (size_of value)
+flaw_in_value keys.Memory value = flaw_unless flaws.Attribute (size_of value)
+flaw_in_value keys.Indexes value = flaw_unless flaws.Indexes (indexes_of value)
+
+-- A word is `key=value` with a key that the kind takes and that no word before it has; then its value can be wrong.
+abbrev pub flaw_in_word : Kind → List (List ℕ) → Option (Key × List ℕ) → Option Flaw
+flaw_in_word kind before None = Some flaws.Attribute
+flaw_in_word kind before (Some entry) = if takes kind entry.0 && not (is_some (value_of entry.0 before)) then flaw_in_value entry.0 entry.1 else Some flaws.Attribute
+
+-- the flaw of the first wrong word behind others
+abbrev pub first_flaw : Kind → List (List ℕ) → List (List ℕ) → Option Flaw
+first_flaw kind before [] = None
+first_flaw kind before (word ∷ words) = option_or (flaw_in_word kind before (entry_in word)) (first_flaw kind (before ++ word ∷ []) words)
+
+abbrev pub unless_flawed : Option Flaw → Attributes → Result Attributes Flaw
+unless_flawed None attributes = Ok attributes
+unless_flawed (Some flaw) attributes = Err flaw
+
+-- what stands in parentheses: the attributes that its words give, or the flaw of the first wrong word
 unfoldable pub attributes_in : Kind → List ℕ → Result Attributes Flaw
-attributes_in kind text = with_first kind (slice_split is_white text)
+attributes_in kind text = unless_flawed (first_flaw kind [] (words_of (slice_split is_white text))) (said_by (words_of (slice_split is_white text)))
+
+-- ---- the parentheses
 
 -- what stands up to the first `)`, which has at most white space behind it
 abbrev pub closed : Option (List ℕ × List ℕ) → Result (List ℕ) Flaw
@@ -93,6 +130,10 @@ closed (Some parts) = if list_all is_white parts.1 then Ok parts.0 else Err flaw
 
 unfoldable pub enclosed : List ℕ → Result (List ℕ) Flaw
 enclosed text = closed (cut (λ byte. byte == 41) text)
+
+-- no attribute
+abbrev pub no_attributes : Attributes
+no_attributes = record { size = None; memory = None; indexes = indexes.Ordered }
 
 -- the attributes behind a `(`, if there is one
 abbrev pub attributes_of : Kind → Option (List ℕ) → Result Attributes Flaw

@@ -120,18 +120,7 @@ first_of (Some fault ∷ rules) = Some fault
 abbrev pub is_large : Description → Bool
 is_large described = nat_lt 4096 (pu_count described) || nat_lt 16384 (object_count described)
 
--- the first broken rule
-unfoldable pub broken : List Placed → Option SynthFault
-broken parts =
-    first_of
-    (when (length (levels_of parts) == 0) faults.Empty
-    ∷ option_map (λ at. faults.RepeatedType at) (first_again [] parts)
-    ∷ option_map (λ at. faults.LastNotPu at) (wrong_end (from_last parts))
-    ∷ when (nat_lt 16 (length (levels_of parts))) faults.TooManyLevels
-    ∷ when (is_large (description_of parts)) faults.TooManyObjects
-    ∷ [])
-
--- the first broken rule but the last
+-- the first broken rule on the items themselves
 unfoldable pub broken_items : List Placed → Option SynthFault
 broken_items parts =
     first_of
@@ -140,6 +129,10 @@ broken_items parts =
     ∷ option_map (λ at. faults.LastNotPu at) (wrong_end (from_last parts))
     ∷ when (nat_lt 16 (length (levels_of parts))) faults.TooManyLevels
     ∷ [])
+
+-- the first broken rule: those on the items go before the one on what they describe
+unfoldable pub broken : List Placed → Option SynthFault
+broken parts = first_of (broken_items parts ∷ when (is_large (description_of parts)) faults.TooManyObjects ∷ [])
 
 -- the fault of a check, if it found one
 abbrev pub fault_of : {A : Type 0} → Result A SynthFault → Option SynthFault

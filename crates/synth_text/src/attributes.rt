@@ -2,7 +2,8 @@
 ghost use Rattle.std.specs.Prelude.{◌≡◌, ◌==◌, Result};
 ghost use Rattle.synth_text.specs.declared.fault.Flaw.TheVariants as flaws;
 ghost use Rattle.synth_text.specs.Flaws.{Gives, GivesAs};
-ghost use Rattle.synth_text.specs.Attributes.{key_of, takes, no_attributes, has, with_value, with_word, with_next, attributes_in, enclosed, attributes_of};
+ghost use Rattle.synth_text.specs.Attributes.{key_of, takes, no_attributes, attributes_in, enclosed, attributes_of};
+ghost use Rattle.synth_text.specs.AttributeSteps.{has, with_value, with_word, with_next};
 ghost use Rattle.synth_text.specs.Views.{text_at};
 
 use crate::cuts::{cut_at, first_word, is_blank};
@@ -71,7 +72,7 @@ fn read_words(alloc: Global, kind: Kind, text: &[u8]) -> Result<Attributes, Flaw
 }
 
 // The attributes with a word behind the first. An empty one with more behind it lies in a gap of several white bytes.
-#[tactic(auto, unfolding(crate::specs::Attributes::with_next))]
+#[tactic(auto, unfolding(crate::specs::AttributeSteps::with_next))]
 fn with_next(
     alloc: Global,
     kind: Kind,
@@ -88,7 +89,7 @@ fn with_next(
 }
 
 // The attributes with one more word.
-#[tactic(auto, unfolding(crate::specs::Attributes::with_word))]
+#[tactic(auto, unfolding(crate::specs::AttributeSteps::with_word))]
 fn with_word(
     alloc: Global,
     kind: Kind,
