@@ -87,7 +87,7 @@ fn number_of(indexes: &Indexes, object: u32) -> u32
 fn loops_number(loops: &[Loop], object: u32) -> u32
     requires sound { AllByRecursion IsSoundLoop loops.now }
     requires few { loop_product loops.now ≤ 4096 }
-    ensures { result ≡ loops_number 1 loops.now object }
+    ensures { result ≡ loops_number loops.now object }
 {
     let mut number = 0;
     let mut factor = 1;
