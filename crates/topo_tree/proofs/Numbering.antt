@@ -1,6 +1,6 @@
 -- Steps of the loops that find physical numbers.
 use Rattle.std.proofs.Common.{◌≡◌, ℕ, zero, suc, ◌+◌, ◌*◌, ◌/◌, ◌%◌, ◌<◌, ◌≤◌, min, List, [], ◌∷◌, length, map, take, get_or, sym, ap, ◌∙◌, inl, inr, arith}
-use Rattle.std.proofs.Math.Nat.{mul_comm, mul_assoc, mul-one, one-le-mul, mul-le-mul_left}
+use Rattle.std.proofs.Math.Nat.{mul_comm, mul-one, one-le-mul, mul-le-mul_left}
 use Rattle.std.proofs.lemmas.Nat.{mod_below}
 use Rattle.std.proofs.lemmas.Bool.{cases_lt}
 use Rattle.std.proofs.lemmas.List.{map_more, get_or-map}

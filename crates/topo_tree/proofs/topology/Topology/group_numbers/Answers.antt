@@ -19,9 +19,9 @@ loop-depth-preserved c =
     let within : depth < length (kinds now) = omega (arith, c.depths-depth-end.ensures.count, c.loop-depth-test.true, length-map now.levels (λ (level : Level). level.kind)) in
     let tested = ap (λ kind. same_kind kind Group) (sym c.kind.ensures) ∙ sym c.is_same.ensures in
     let pushed =
-        c.in_ok-push.ensures.items ∙ ap (λ numbers. numbers ++ c.loop-depth.number ∷ []) so_far.numbers
-        ∙ ap (λ number. map (group_number now) (range_with_len 0 depth) ++ number ∷ []) so_far.number
-        ∙ sym (map-range_with_len_more (group_number now) 0 depth depth (omega arith)) in
+    c.in_ok-push.ensures.items ∙ ap (λ numbers. numbers ++ c.loop-depth.number ∷ []) so_far.numbers
+    ∙ ap (λ number. map (group_number now) (range_with_len 0 depth) ++ number ∷ []) so_far.number
+    ∙ sym (map-range_with_len_more (group_number now) 0 depth depth (omega arith)) in
     elim c.if-is_same.branch [
       | then-is_same w ↦ record {
         few = omega (arith, w.number-is, so_far.few);
