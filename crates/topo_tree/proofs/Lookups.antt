@@ -77,6 +77,12 @@ table_at items table numbers levels depth found same within here =
     ap items here ∙ sym (get_or-map items table depth found (items found) (subst (λ n. depth < n) (sym long) within))
     ∙ ap (λ sets. get_or sets depth (items found)) same ∙ depth_sets-at numbers levels depth (items found) within
 
+-- how many sets the table has at a depth
+pub depth_length : {V : Type 0} (items : V → List (List ℕ)) (table : List V) (described : Description) (depth : ℕ) (found : V) → map items table ≡ depth_sets (pu_numbers described) described.levels → depth < length described.levels + 1 → found ≡ get_or table depth found → length (items found) ≡ product (take depth (arities described.levels))
+depth_length items table described depth found same within here =
+    ap length (table_at items table (pu_numbers described) described.levels depth found same within here)
+    ∙ length-sets_covered (pu_numbers described) (product (take depth (arities described.levels)))
+
 -- ---- the places of objects
 
 place_in : (levels : List Level) (memory : Option Memory) (index : ℕ) → IfSome memory (IsSoundMemory (length levels)) → index < node_count levels memory → (unwrap_or (option_map (λ m. m.above) memory) 0 < length levels + 1) × (index < product (take (unwrap_or (option_map (λ m. m.above) memory) 0) (arities levels)))

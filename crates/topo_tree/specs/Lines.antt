@@ -9,13 +9,17 @@ use Rattle.synth_text.specs.declared.description.Description.{Description}
 use Rattle.synth_text.specs.Kinds.{same_kind, short_name_of}
 use Rattle.synth_text.specs.Rules.{arities}
 use Rattle.topo_tree.specs.declared.layer.Layer.TheVariants as layers
-use Rattle.topo_tree.specs.Objects.{kinds, kind_at}
+use Rattle.topo_tree.specs.Objects.{depth_count, kinds, kind_at}
 use Rattle.topo_tree.specs.Coverage.{physical_of}
 use Rattle.topo_tree.specs.Sizes.{size_text}
 
 -- the number of a Group level: how many Group levels stand above it
 abbrev pub group_number : Description → ℕ → ℕ
 group_number described depth = count_by (λ kind. same_kind kind Group) (take depth (kinds described))
+
+-- the numbers of all depths
+unfoldable pub group_numbers : Description → List ℕ
+group_numbers described = map (group_number described) (range_with_len 0 (depth_count described))
 
 -- the short name of an object; a Group has its level's number behind it
 abbrev pub short_name : Kind → ℕ → List ℕ

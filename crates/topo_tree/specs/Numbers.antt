@@ -1,5 +1,5 @@
 -- Physical numbers of objects, as `indexes` gives them, and what is wrong with them.
-use Rattle.std.specs.Prelude.{ℕ, ◌+◌, ◌-◌, ◌*◌, ◌/◌, ◌%◌, ◌^◌, ◌==◌, ◌||◌, Bool, nat_le, min, List, [], ◌∷◌, length, map, take, slice_index, Option, Some, option_map, find, if◌then◌else◌}
+use Rattle.std.specs.Prelude.{ℕ, ◌-◌, ◌*◌, ◌/◌, ◌%◌, ◌^◌, ◌==◌, ◌||◌, Bool, nat_le, min, sum, List, length, map, take, slice_index, Option, Some, option_map, find, if◌then◌else◌}
 use Rattle.std.specs.List.{range_with_len}
 use Rattle.cpu_set.specs.Sets.{has}
 use Rattle.synth_text.specs.declared.description.Loop.{Loop}
@@ -9,25 +9,29 @@ use Rattle.synth_text.specs.Rules.{product}
 use Rattle.topo_tree.specs.declared.fault.BuildFault.{BuildFault}
 use Rattle.topo_tree.specs.declared.fault.BuildFault.TheVariants as faults
 
--- Object j gets the sum over the loops of ((j / step) mod count) times the product of the counts of the earlier loops,
--- which is `factor` before these.
-abbrev pub loops_number : ℕ → List Loop → ℕ → ℕ
-loops_number factor [] object = 0
-loops_number factor (given ∷ later) object = (object / given.step) % given.count * factor + loops_number (factor * given.count) later object
+-- the product of the counts of loops
+abbrev pub loop_product : List Loop → ℕ
+loop_product loops = product (map (λ given. given.count) loops)
+
+-- What the loop at a place adds to the number of object j: ((j / step) mod count) times the product of the counts of the
+-- loops before it.
+abbrev pub loop_part : List Loop → ℕ → ℕ → ℕ
+loop_part loops object place =
+    object / slice_index (map (λ given. given.step) loops) place % slice_index (map (λ given. given.count) loops) place * loop_product (take place loops)
+
+-- the number that loops give an object: the sum of what each of them adds
+unfoldable pub loops_number : List Loop → ℕ → ℕ
+loops_number loops object = sum (map (loop_part loops object) (range_with_len 0 (length loops)))
 
 -- the physical number of an object
 abbrev pub number_of : Indexes → ℕ → ℕ
 number_of indexes.Ordered object = object
 number_of (indexes.List numbers) object = slice_index numbers object
-number_of (indexes.Loops loops) object = loops_number 1 loops object
+number_of (indexes.Loops loops) object = loops_number loops object
 
 -- the physical numbers of so many objects, in order
 unfoldable pub numbers_of : Indexes → ℕ → List ℕ
 numbers_of given count = map (number_of given) (range_with_len 0 count)
-
--- the product of the counts of loops
-abbrev pub loop_product : List Loop → ℕ
-loop_product loops = product (map (λ given. given.count) loops)
 
 -- how many objects the indexes are for, where there are so many
 abbrev pub index_count : Indexes → ℕ → ℕ

@@ -4,10 +4,8 @@ ghost use Rattle.cpu_set.specs.Sets.{has};
 ghost use Rattle.topo_tree.specs.Numbers.{is_bad};
 ghost use Rattle.topo_tree.specs.TableLists.{leaf_table};
 
+use crate::numbers::NUMBER_LIMIT;
 use std::alloc::{AllocError, Global};
-
-// The physical numbers are below this.
-const NUMBERS: usize = 4096;
 
 /// For each number below 4,096 the position of the PU that has it.
 pub fn leaf_table(alloc: Global, numbers: &[u32]) -> Result<Vec<Option<u32>>, AllocError>
@@ -26,8 +24,8 @@ pub fn leaf_table(alloc: Global, numbers: &[u32]) -> Result<Vec<Option<u32>>, Al
 fn no_leaves(alloc: Global) -> Result<Vec<Option<u32>>, AllocError>
     ensures { IfOk result (λ leaves. leaves.items ≡ leaf_table []) }
 {
-    let mut leaves = Vec::with_capacity(alloc, NUMBERS)?;
-    for _ in 0..NUMBERS {
+    let mut leaves = Vec::with_capacity(alloc, NUMBER_LIMIT as usize)?;
+    for _ in 0..NUMBER_LIMIT {
         leaves.push(None)?;
     }
     Ok(leaves)

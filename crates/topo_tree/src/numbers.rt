@@ -10,6 +10,9 @@ use cpu_set::CpuSet;
 use std::alloc::Global;
 use synth_text::{Indexes, Loop};
 
+/// Physical numbers are below this, as the numbers of a set are.
+pub const NUMBER_LIMIT: u32 = 4096;
+
 /// The physical numbers of so many objects, or the first broken rule.
 pub fn physical_numbers(
     alloc: Global,
@@ -33,7 +36,7 @@ pub fn physical_numbers(
     let mut numbers = Vec::new(alloc);
     for object in 0..count {
         let number = number_of(indexes, object);
-        if number >= 4096 {
+        if number >= NUMBER_LIMIT {
             return Err(BuildFault::IndexRange { number });
         }
         if seen.has(number) {
@@ -87,7 +90,7 @@ fn number_of(indexes: &Indexes, object: u32) -> u32
 fn loops_number(loops: &[Loop], object: u32) -> u32
     requires sound { AllByRecursion IsSoundLoop loops.now }
     requires few { loop_product loops.now ≤ 4096 }
-    ensures { result ≡ loops_number 1 loops.now object }
+    ensures { result ≡ loops_number loops.now object }
 {
     let mut number = 0;
     let mut factor = 1;

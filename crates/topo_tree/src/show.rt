@@ -8,7 +8,7 @@ ghost use Rattle.topo_tree.specs.declared.layer.Layer.TheVariants as layers;
 ghost use Rattle.topo_tree.specs.Objects.{depth_count, count_at, count_of};
 ghost use Rattle.topo_tree.specs.Building.{IsBuilt};
 ghost use Rattle.topo_tree.specs.Coverage.{physical_of};
-ghost use Rattle.topo_tree.specs.Lines.{sizes, group_number, node_detail, line, object_line, own_lines, topology_text};
+ghost use Rattle.topo_tree.specs.Lines.{sizes, group_numbers, node_detail, line, object_line, own_lines, topology_text};
 ghost use Rattle.topo_tree.specs.Beginnings.{lines_at};
 
 use crate::layer::{Layer, Object};
@@ -32,9 +32,10 @@ impl Topology {
     pub fn show(&self, alloc: Global) -> Result<Vec<u8>, OutOfMemory>
         ensures { IfOk result (λ text. text.items ≡ topology_text self.now) }
     {
+        let groups = self.group_numbers(alloc)?;
         let mut out = Vec::new(alloc);
         for position in 0..self.count(self.pu_layer()) {
-            self.push_lines_at(&mut out, position)?;
+            self.push_lines_at(&mut out, &groups, position)?;
         }
         Ok(out)
     }
@@ -48,15 +49,21 @@ impl Topology {
     }
 
     // Appends the lines of all objects that have their first PU at a position, from the outermost in.
-    fn push_lines_at(&self, out: &mut Vec<u8>, position: u32) -> Result<(), AllocError>
-        requires { position < pu_count self.now }
+    fn push_lines_at(
+        &self,
+        out: &mut Vec<u8>,
+        groups: &[u32],
+        position: u32,
+    ) -> Result<(), AllocError>
+        requires groups { groups.now ≡ group_numbers self.now }
+        requires position { position < pu_count self.now }
         ensures { OnOk result (out.new.items ≡ out.old.items ++ lines_at self.now position) }
     {
         let pus = self.count(self.pu_layer());
         for depth in 0..self.depths() {
             let width = pus / self.count(Layer::Depth(depth));
             if position % width == 0 {
-                self.push_own_lines(out, depth, position / width)?;
+                self.push_own_lines(out, groups, depth, position / width)?;
             }
         }
         Ok(())
@@ -64,12 +71,19 @@ impl Topology {
 
     // Appends the line of an object, and of the NUMANode that it carries.
     #[tactic(auto, unfolding(crate::specs::Lines::own_lines))]
-    fn push_own_lines(&self, out: &mut Vec<u8>, depth: u32, index: u32) -> Result<(), AllocError>
+    fn push_own_lines(
+        &self,
+        out: &mut Vec<u8>,
+        groups: &[u32],
+        depth: u32,
+        index: u32,
+    ) -> Result<(), AllocError>
+        requires groups { groups.now ≡ group_numbers self.now }
         requires depth { depth < depth_count self.now }
         requires index { index < count_at self.now depth }
         ensures { OnOk result (out.new.items ≡ out.old.items ++ own_lines self.now depth index) }
     {
-        self.push_object(out, depth, index)?;
+        self.push_object(out, groups, depth, index)?;
         match &self.description().memory {
             Some(memory) if memory.above == depth => {
                 self.push_node(out, depth + 1, index, memory.size)
@@ -79,7 +93,14 @@ impl Topology {
     }
 
     // Appends the line of an object.
-    fn push_object(&self, out: &mut Vec<u8>, depth: u32, index: u32) -> Result<(), AllocError>
+    fn push_object(
+        &self,
+        out: &mut Vec<u8>,
+        groups: &[u32],
+        depth: u32,
+        index: u32,
+    ) -> Result<(), AllocError>
+        requires groups { groups.now ≡ group_numbers self.now }
         requires depth { depth < depth_count self.now }
         requires index { index < count_at self.now depth }
         ensures { OnOk result (out.new.items ≡ out.old.items ++ object_line self.now depth index) }
@@ -90,7 +111,7 @@ impl Topology {
             index,
         };
         push_indent(out, depth)?;
-        push_short_name(out, kind, self.group_number(depth))?;
+        push_short_name(out, kind, groups[depth as usize])?;
         push_index(out, index)?;
         push_detail(out, kind, self.physical(object), self.size(depth))?;
         out.push(b'\n')?;
@@ -121,18 +142,19 @@ impl Topology {
         Ok(())
     }
 
-    // How many Group levels stand above a depth.
-    fn group_number(&self, depth: u32) -> u32
-        requires { depth < depth_count self.now }
-        ensures { result ≡ group_number self.now depth }
+    // For each depth, how many Group levels stand above it.
+    fn group_numbers(&self, alloc: Global) -> Result<Vec<u32>, AllocError>
+        ensures { IfOk result (λ numbers. numbers.items ≡ group_numbers self.now) }
     {
         let mut number = 0;
-        for above in 0..depth {
-            if self.kind(above).is_same(Kind::Group) {
+        let mut numbers = Vec::new(alloc);
+        for depth in 0..self.depths() {
+            numbers.push(number)?;
+            if self.kind(depth).is_same(Kind::Group) {
                 number += 1;
             }
         }
-        number
+        Ok(numbers)
     }
 
     // The size that the level of a depth gives.

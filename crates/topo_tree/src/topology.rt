@@ -10,6 +10,7 @@ use crate::building::{node_numbers, pu_numbers};
 use crate::fault::BuildFault;
 use crate::layer::{Layer, Object};
 use crate::leaves::leaf_table;
+use crate::numbers::NUMBER_LIMIT;
 use crate::sets::depth_sets;
 use cpu_set::CpuSet;
 use std::alloc::Global;
@@ -168,7 +169,7 @@ impl Topology {
         ensures { result ≡ leaf_of self.now physical }
     {
         let leaves = &self.leaves;
-        if physical < 4096 {
+        if physical < NUMBER_LIMIT {
             leaves[physical as usize]
         } else {
             None

@@ -23,11 +23,11 @@ loop-object-init c =
       good = λ place below. absurd (omega arith);
     }
 
-pub returns-then-number-ge4096-clause-fault : goal.returns-then-number-ge4096-clause-fault
-returns-then-number-ge4096-clause-fault c =
+pub returns-then-number-ge-NUMBER_LIMIT-clause-fault : goal.returns-then-number-ge-NUMBER_LIMIT-clause-fault
+returns-then-number-ge-NUMBER_LIMIT-clause-fault c =
     let same = uncapped (index_count c.args.indexes.now c.args.count) c.args.count c.requires.few (sym c.capped_count-found.ensures ∙ c.if-found-count.false) in
     range_fault c.args.indexes.now c.args.count c.loop-object.object same c.loop-object-test.true c.loop-object.invariant.good
-    (omega (arith, c.if-number-ge4096.true, c.number_of-number.ensures))
+    (omega (arith, c.if-number-ge-NUMBER_LIMIT.true, c.number_of-number.ensures))
     ∙ ap (λ number. Some (faults.IndexRange number)) (sym c.number_of-number.ensures)
 
 pub returns-then-has-clause-fault : goal.returns-then-has-clause-fault
@@ -37,7 +37,7 @@ returns-then-has-clause-fault c =
     let same = uncapped (index_count given c.args.count) c.args.count c.requires.few (sym c.capped_count-found.ensures ∙ c.if-found-count.false) in
     let before = seen_before c.has.result c.loop-object.seen c.loop-object.numbers.items c.number_of-number.result c.has.ensures.found so_far.seen (omega arith) in
     twice_fault given c.args.count c.loop-object.object same c.loop-object-test.true so_far.good
-    (omega (arith, c.if-number-ge4096.false, c.number_of-number.ensures))
+    (omega (arith, c.if-number-ge-NUMBER_LIMIT.false, c.number_of-number.ensures))
     (ap (λ n. has (map (number_of given) (range_with_len 0 c.loop-object.object)) n) (sym c.number_of-number.ensures)
     ∙ ap (λ numbers. has numbers c.number_of-number.result) (sym so_far.numbers) ∙ before ∙ c.if-has.true)
     ∙ ap (λ number. Some (faults.IndexTwice number)) (sym c.number_of-number.ensures)
@@ -59,7 +59,7 @@ loop-object-preserved c =
           ∙ ap (λ numbers. numbers_where (has numbers)) (sym c.in_ok-push.ensures.items);
       good =
           good_more given c.args.count object c.loop-object-test.true so_far.good
-          (omega (arith, c.if-number-ge4096.false, c.number_of-number.ensures))
+          (omega (arith, c.if-number-ge-NUMBER_LIMIT.false, c.number_of-number.ensures))
           (ap (λ n. has (map (number_of given) (range_with_len 0 object)) n) (sym c.number_of-number.ensures)
           ∙ ap (λ numbers. has numbers number) (sym so_far.numbers) ∙ before ∙ c.if-has.false);
     }

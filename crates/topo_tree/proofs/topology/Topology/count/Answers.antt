@@ -3,7 +3,7 @@ use Rattle.synth_text.specs.Rules.{arities, product, node_count}
 use Rattle.topo_tree.specs.Objects.{count_of, IsLayer}
 use Rattle.topo_tree.specs.Building.{pu_numbers}
 use Rattle.topo_tree.specs.CountLaws.{few_objects, few_nodes}
-use Rattle.topo_tree.proofs.Lookups.{tables, table_length, table_at, length-sets_covered, length-node_numbers}
+use Rattle.topo_tree.proofs.Lookups.{tables, table_length, depth_length, length-node_numbers}
 use Rattle.topo_tree.proofs.topology.Topology.count.Goals as goal
 
 pub index-requires : goal.index-requires
@@ -17,8 +17,8 @@ overflow_cast-result c =
     let now = c.args.self.now in
     let depth = c.in-Depth.depth in
     let here = tables c.self.inside now c.self.invariant c.self.view_is in
-    let found = table_at (λ d. d.items) c.self.inside.sets.items (pu_numbers now) now.levels depth c.index.result.now here.sets (subst (IsLayer now) c.in-Depth.is c.requires) c.index.ensures in
-    omega (arith, ap length found, length-sets_covered (pu_numbers now) (product (take depth (arities now.levels))), few_objects now depth here.built.sound)
+    let long = depth_length (λ d. d.items) c.self.inside.sets.items now depth c.index.result.now here.sets (subst (IsLayer now) c.in-Depth.is c.requires) c.index.ensures in
+    omega (arith, long, few_objects now depth here.built.sound)
 
 pub overflow_cast-result-in-Memory : goal.overflow_cast-result-in-Memory
 overflow_cast-result-in-Memory c =
@@ -31,8 +31,8 @@ returns-in-Depth-clause-count c =
     let now = c.args.self.now in
     let depth = c.in-Depth.depth in
     let here = tables c.self.inside now c.self.invariant c.self.view_is in
-    let found = table_at (λ d. d.items) c.self.inside.sets.items (pu_numbers now) now.levels depth c.index.result.now here.sets (subst (IsLayer now) c.in-Depth.is c.requires) c.index.ensures in
-    let counted : c.len.result ≡ product (take depth (arities now.levels)) = omega (arith, ap length found, length-sets_covered (pu_numbers now) (product (take depth (arities now.levels)))) in
+    let long = depth_length (λ d. d.items) c.self.inside.sets.items now depth c.index.result.now here.sets (subst (IsLayer now) c.in-Depth.is c.requires) c.index.ensures in
+    let counted : c.len.result ≡ product (take depth (arities now.levels)) = omega (arith, long) in
     counted ∙ ap (count_of now) (sym c.in-Depth.is)
 
 pub returns-in-Memory-clause-count : goal.returns-in-Memory-clause-count
@@ -47,8 +47,8 @@ returns-in-Depth-clause-few c =
     let now = c.args.self.now in
     let depth = c.in-Depth.depth in
     let here = tables c.self.inside now c.self.invariant c.self.view_is in
-    let found = table_at (λ d. d.items) c.self.inside.sets.items (pu_numbers now) now.levels depth c.index.result.now here.sets (subst (IsLayer now) c.in-Depth.is c.requires) c.index.ensures in
-    omega (arith, ap length found, length-sets_covered (pu_numbers now) (product (take depth (arities now.levels))), few_objects now depth here.built.sound)
+    let long = depth_length (λ d. d.items) c.self.inside.sets.items now depth c.index.result.now here.sets (subst (IsLayer now) c.in-Depth.is c.requires) c.index.ensures in
+    omega (arith, long, few_objects now depth here.built.sound)
 
 pub returns-in-Memory-clause-few : goal.returns-in-Memory-clause-few
 returns-in-Memory-clause-few c =

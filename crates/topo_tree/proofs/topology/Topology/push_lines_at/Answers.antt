@@ -7,7 +7,7 @@ use Rattle.topo_tree.specs.Objects.{count_of}
 use Rattle.topo_tree.specs.Lines.{own_lines}
 use Rattle.topo_tree.specs.Beginnings.{lines_from, lines_at}
 use Rattle.topo_tree.specs.CountLaws.{have_arities, count_some, width_some, product_split, last_count}
-use Rattle.topo_tree.proofs.Shown.{found_width, lines_from-first, lines_from-later, lines_more}
+use Rattle.topo_tree.proofs.Shown.{found_width, some_width, lines_from-first, lines_from-later, lines_more}
 use Rattle.topo_tree.proofs.topology.Topology.push_lines_at.Goals as goal
 use Rattle.topo_tree.proofs.topology.Topology.push_lines_at.Goals.{then-position-width-eq0+in_ok-push_own_lines, else-position-width-eq0}
 
@@ -19,16 +19,14 @@ nonzero_div-width c =
 pub nonzero_rem-position : goal.nonzero_rem-position
 nonzero_rem-position c =
     let now = c.args.self.now in
-    let some = have_arities now c.depths-depth-end.ensures.built.sound in
-    let pus : c.count-pus.result ≡ product (arities now.levels) = c.count-pus.ensures.count ∙ ap (count_of now) c.pu_layer.ensures.layer ∙ last_count now.levels in
-    omega (arith, found_width now c.loop-depth.depth c.count-pus.result c.count.result some pus c.count.ensures.count, width_some c.loop-depth.depth now.levels some)
+    some_width now c.loop-depth.depth c.count-pus.result c.count.result (have_arities now c.depths-depth-end.ensures.built.sound)
+    (c.count-pus.ensures.count ∙ ap (count_of now) c.pu_layer.ensures.layer ∙ last_count now.levels) c.count.ensures.count
 
 pub nonzero_div-position : goal.nonzero_div-position
 nonzero_div-position c =
     let now = c.args.self.now in
-    let some = have_arities now c.depths-depth-end.ensures.built.sound in
-    let pus : c.count-pus.result ≡ product (arities now.levels) = c.count-pus.ensures.count ∙ ap (count_of now) c.pu_layer.ensures.layer ∙ last_count now.levels in
-    omega (arith, found_width now c.loop-depth.depth c.count-pus.result c.count.result some pus c.count.ensures.count, width_some c.loop-depth.depth now.levels some)
+    some_width now c.loop-depth.depth c.count-pus.result c.count.result (have_arities now c.depths-depth-end.ensures.built.sound)
+    (c.count-pus.ensures.count ∙ ap (count_of now) c.pu_layer.ensures.layer ∙ last_count now.levels) c.count.ensures.count
 
 pub push_own_lines-requires-clause-index : goal.push_own_lines-requires-clause-index
 push_own_lines-requires-clause-index c =
@@ -39,7 +37,7 @@ push_own_lines-requires-clause-index c =
     let width = found_width now depth c.count-pus.result c.count.result some pus c.count.ensures.count in
     let split = ap (λ w. product (take depth (arities now.levels)) * w) width ∙ product_split depth (arities now.levels) in
     div_below c.args.position (c.count-pus.result / c.count.result) (product (take depth (arities now.levels)))
-    (omega (arith, width, width_some depth now.levels some)) (omega (arith, split, c.requires))
+    (omega (arith, width, width_some depth now.levels some)) (omega (arith, split, c.requires.position))
 
 pub loop-depth-preserved : goal.loop-depth-preserved
 loop-depth-preserved c =

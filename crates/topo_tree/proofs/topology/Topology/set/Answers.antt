@@ -2,7 +2,7 @@ use Rattle.std.proofs.Common.{◌+◌, ◌<◌, length, take, get_or, ap, ◌∙
 use Rattle.synth_text.specs.Rules.{arities, product}
 use Rattle.topo_tree.specs.Building.{pu_numbers}
 use Rattle.topo_tree.specs.Coverage.{set_covered}
-use Rattle.topo_tree.proofs.Lookups.{tables, table_length, table_at, length-sets_covered, sets_covered-at, place_of_object}
+use Rattle.topo_tree.proofs.Lookups.{tables, table_length, table_at, depth_length, sets_covered-at, place_of_object}
 use Rattle.topo_tree.proofs.topology.Topology.set.Goals as goal
 
 pub index-requires : goal.index-requires
@@ -19,9 +19,9 @@ index-requires-2 c =
     let here = tables c.self.inside now c.self.invariant c.self.view_is in
     let place = place_of_object now c.args.object.layer c.args.object.index here.built.sound c.requires.layer c.requires.index in
     let within : depth < length now.levels + 1 = omega (arith, c.depth_of-depth.ensures, place.0) in
-    let found = table_at (λ d. d.items) c.self.inside.sets.items (pu_numbers now) now.levels depth c.index.result.now here.sets within c.index.ensures in
+    let long = depth_length (λ d. d.items) c.self.inside.sets.items now depth c.index.result.now here.sets within c.index.ensures in
     let counted = ap (λ d. product (take d (arities now.levels))) c.depth_of-depth.ensures in
-    omega (arith, ap length found, length-sets_covered (pu_numbers now) (product (take depth (arities now.levels))), counted, place.1)
+    omega (arith, long, counted, place.1)
 
 pub returns : goal.returns
 returns c =

@@ -7,6 +7,9 @@ use Rattle.topo_tree.specs.CountLaws.{have_arities, last_count}
 use Rattle.topo_tree.proofs.Trees.{flat_map-range_more, text-by_position}
 use Rattle.topo_tree.proofs.topology.Topology.show.Goals as goal
 
+pub push_lines_at-requires-clause-groups : goal.push_lines_at-requires-clause-groups
+push_lines_at-requires-clause-groups c = c.deref.ensures.value ∙ c.in_ok-groups.ensures
+
 pub loop-position-preserved : goal.loop-position-preserved
 loop-position-preserved c =
     let now = c.args.self.now in
