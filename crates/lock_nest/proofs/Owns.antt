@@ -1,5 +1,5 @@
 -- What a fit value of a level relies on.
-use Rattle.std.proofs.Common.{◌≡◌, Bool, true, false, ap, sym, ◌∙◌}
+use Rattle.std.proofs.Common.{◌≡◌, Bool, true, ap, sym, ◌∙◌}
 use Rattle.lock_rules.specs.Views.{answer_of}
 use Rattle.lock_rules.specs.declared.step.Answer.{Answer}
 use Rattle.lock_rules.specs.declared.step.Answer.TheVariants.{Yes}
