@@ -3,11 +3,13 @@
 //! The words are what to do (`adds`, `alone`, `two` or `four`) and how often each thread does it.
 #![tactic(auto)]
 
-use anyhow::Context;
+use anyhow::{Context, bail};
 use lock_trials::{Parcel, hold_alone, hold_by_four, hold_by_two};
 use std::env;
 use std::sync::atomic::{AtomicU64, Ordering};
 use ticket_lock::Ticket;
+
+const NO_MEMORY: &str = "there was no memory";
 
 /// Adds one to a word as often as asked, and gives the word.
 fn add_often(times: u32) -> u64 {
@@ -25,12 +27,21 @@ fn main(rt: HostRuntime) -> anyhow::Result<()> {
     let times: u32 = words.next().context("say how often")?.parse()?;
     let alloc = rt.alloc();
     let count = match what.as_str() {
-        "adds" => Some(add_often(times)),
-        "alone" => hold_alone::<Ticket<Parcel>, _>(&rt, alloc, (), times),
-        "two" => hold_by_two::<Ticket<Parcel>, _>(&rt, alloc, (), times),
-        _ => hold_by_four::<Ticket<Parcel>, _>(&rt, alloc, (), times, false),
+        "adds" => add_often(times),
+        "alone" => {
+            let parcel = hold_alone::<Ticket<Parcel>, _>(&rt, alloc, (), times);
+            parcel.context(NO_MEMORY)?.count
+        }
+        "two" => {
+            let parcel = hold_by_two::<Ticket<Parcel>, _>(&rt, alloc, (), times);
+            parcel.context(NO_MEMORY)?.count
+        }
+        "four" => {
+            let parcel = hold_by_four::<Ticket<Parcel>, _>(&rt, alloc, (), times, false);
+            parcel.context(NO_MEMORY)?.count
+        }
+        _ => bail!("the first word is {what}, and must be adds, alone, two or four"),
     };
-    let count = count.context("there was no memory")?;
     println!(rt; "{what} {count}")?;
     Ok(())
 }

@@ -1,12 +1,9 @@
 //! The value of a level: the pass of the higher lock, or the token that holds it.
-ghost use Rattle.std.specs.Prelude.{◌≡◌, Bool, true};
-ghost use Rattle.lock_rules.specs.Tag.{Tag};
 ghost use Rattle.lock_rules.specs.Meanings.{Place};
-ghost use Rattle.lock_rules.specs.Passes.{IsOf};
 ghost use Rattle.lock_rules.specs.Views.{answer_of};
 ghost use Rattle.lock_nest.specs.Owns.{own_tag, IsFit, is_kept};
 
-use lock_rules::{Cargo, Placed, Step};
+use lock_rules::{Cargo, Placed};
 
 /// A holder's token of a higher lock. How it stands is the lock's own affair.
 pub trait Kept: Drop {
@@ -15,18 +12,11 @@ pub trait Kept: Drop {
     ghost stands: { Self → Type 0 };
 }
 
-/// A higher lock, cut down to one call.
+/// The tokens of a higher lock, as a level keeps them.
 pub trait Higher: Sized {
     type Pass: Placed;
 
     type Held: Kept;
-
-    ghost name: { Self → Tag };
-
-    ghost tag: { Self → Tag };
-
-    fn begin(&self, pass: Self::Pass) -> Step<Self::Pass, Self::Held>
-        requires own { IsOf (name self.now) (tag self.now) (Self.Pass.place pass) };
 }
 
 #[derive(Drop)]

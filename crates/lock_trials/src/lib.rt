@@ -9,5 +9,5 @@ mod script;
 mod threads;
 
 pub use parcel::Parcel;
-pub use script::{Call, Holder, Move, Outcome, Token, Told, Who, carry_out};
+pub use script::{Call, Holder, Move, Outcome, START, Token, Told, Who, carry_out};
 pub use threads::{HOLDS, hold_alone, hold_by_four, hold_by_two};

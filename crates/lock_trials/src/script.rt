@@ -1,12 +1,16 @@
 //! Calls of two passes on one thread.
-ghost use Rattle.std.specs.Prelude.{◌≡◌, ◌+◌, IfSome, length, vec_len};
+ghost use Rattle.std.specs.Prelude.{◌≡◌, ◌+◌, false, cond, IfSome, length, vec_len};
 ghost use Rattle.lock_rules.specs.Tag.{leaf};
 ghost use Rattle.lock_rules.specs.Passes.{IsOf};
+ghost use Rattle.lock_trials.specs.declared.script.Told.TheVariants.{Yes, No};
 ghost use Rattle.lock_trials.specs.Tokens.{place_of_token, Stands, IsNoted, IsSound, ArePair, ArePasses};
 
 use crate::parcel::Parcel;
 use lock_rules::{Basic, Step};
 use std::alloc::Global;
+
+/// The number in the value of a script's lock, which no move changes.
+pub const START: u64 = 7;
 
 /// Which of the two passes makes a call.
 #[derive(Clone, Copy, Drop)]
@@ -44,6 +48,14 @@ pub enum Told {
     No,
 }
 
+impl Told {
+    fn of(yes: bool) -> Told
+        ensures { result ≡ cond yes Yes No }
+    {
+        if yes { Told::Yes } else { Told::No }
+    }
+}
+
 /// What the calls of a script answered, in order, and the number in the value at the end.
 #[derive(Drop)]
 pub struct Outcome {
@@ -67,6 +79,18 @@ pub struct Holder<H> {
     pub followed: bool,
 }
 
+impl<H> Holder<H> {
+    /// A holder that hasn't asked yet.
+    fn new(held: H) -> Holder<H>
+        ensures { result ≡ record { held = held; followed = false } }
+    {
+        Holder {
+            held,
+            followed: false,
+        }
+    }
+}
+
 fn play_idle<B: Basic<Parcel>>(
     lock: &B,
     pass: B::Pass,
@@ -78,13 +102,7 @@ fn play_idle<B: Basic<Parcel>>(
     let Call::Begin = call else { return None };
     match lock.begin(pass) {
         Step::Not(queue) => Some((Token::Queued(queue), Told::Not)),
-        Step::Got(held) => Some((
-            Token::Holding(Holder {
-                held,
-                followed: false,
-            }),
-            Told::Got,
-        )),
+        Step::Got(held) => Some((Token::Holding(Holder::new(held)), Told::Got)),
     }
 }
 
@@ -99,13 +117,7 @@ fn play_queued<B: Basic<Parcel>>(
     let Call::Poll = call else { return None };
     match lock.poll(queue) {
         Step::Not(queue) => Some((Token::Queued(queue), Told::Not)),
-        Step::Got(held) => Some((
-            Token::Holding(Holder {
-                held,
-                followed: false,
-            }),
-            Told::Got,
-        )),
+        Step::Got(held) => Some((Token::Holding(Holder::new(held)), Told::Got)),
     }
 }
 
@@ -138,8 +150,7 @@ fn ask<B: Basic<Parcel>>(lock: &B, holder: Holder<B::Held>) -> (Holder<B::Held>,
         followed: _,
     } = holder;
     let followed = lock.waiter(&mut held);
-    let told = if followed { Told::Yes } else { Told::No };
-    (Holder { held, followed }, told)
+    (Holder { held, followed }, Told::of(followed))
 }
 
 fn park<B: Basic<Parcel>>(holder: Holder<B::Held>) -> Holder<B::Held>
@@ -158,11 +169,7 @@ fn unpark<B: Basic<Parcel>>(holder: Holder<B::Held>) -> (Holder<B::Held>, Told)
     ensures said { IsNoted B.Held.grip result.0 }
 {
     let Holder { mut held, followed } = holder;
-    let told = if B::value(&held).parked {
-        Told::Yes
-    } else {
-        Told::No
-    };
+    let told = Told::of(B::value(&held).parked);
     B::value_mut(&mut held).parked = false;
     (Holder { held, followed }, told)
 }
@@ -296,7 +303,7 @@ pub fn carry_out<B: Basic<Parcel> + Drop>(
         recipe,
         2,
         Parcel {
-            count: 7,
+            count: START,
             parked: false,
         },
     )

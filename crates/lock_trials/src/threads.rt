@@ -1,5 +1,5 @@
 //! Holds by four threads.
-ghost use Rattle.std.specs.Prelude.{◌≡◌, IfSome};
+ghost use Rattle.std.specs.Prelude.{◌≡◌, false, [], IfSome};
 ghost use Rattle.std.specs.Thread.{IsSync};
 ghost use Rattle.lock_rules.specs.Tag.{leaf};
 ghost use Rattle.lock_rules.specs.Passes.{IsOf, AreAll};
@@ -134,13 +134,14 @@ fn by_four<P: Placed + Send, W: Works<P> + Sync, R: Threads + Sync>(
     )
 }
 
-/// The four passes of a lock.
+/// Takes the four passes of a lock out of their list, which is then empty.
 fn apart<B: Basic<Parcel>>(
     _lock: &B,
-    mut passes: Vec<B::Pass>,
+    passes: &mut Vec<B::Pass>,
 ) -> Option<((B::Pass, B::Pass), (B::Pass, B::Pass))>
-    requires { AreAll B.Pass.place (B.name _lock.now) (B.tag _lock.now) 4 passes.items }
-    ensures { IfSome result (λ t. AreFour B.Pass.place (B.name _lock.now) (B.tag _lock.now) t.0 t.1) }
+    requires { AreAll B.Pass.place (B.name _lock.now) (B.tag _lock.now) 4 passes.old.items }
+    ensures four { IfSome result (λ t. AreFour B.Pass.place (B.name _lock.now) (B.tag _lock.now) t.0 t.1) }
+    ensures emptied { IfSome result (λ _. passes.new.items ≡ []) }
 {
     let fourth = passes.pop()?;
     let third = passes.pop()?;
@@ -149,36 +150,20 @@ fn apart<B: Basic<Parcel>>(
     Some(((first, second), (third, fourth)))
 }
 
-/// Takes a lock apart with its four passes.
-fn close_with<B: Basic<Parcel> + Drop>(
-    alloc: Global,
-    lock: B,
-    front: (B::Pass, B::Pass),
-    back: (B::Pass, B::Pass),
-) -> Option<u64>
-    requires count { B.count lock ≡ 4 }
-    requires passes { AreFour B.Pass.place (B.name lock) (B.tag lock) front back }
-{
-    let mut passes = Vec::new(alloc);
-    passes.push(front.0).ok()?;
-    passes.push(front.1).ok()?;
-    passes.push(back.0).ok()?;
-    passes.push(back.1).ok()?;
-    Some(lock.close(passes).count)
-}
-
-/// One pass holds the lock as often as asked and adds one to the number in the value. The answer is the number at the end, or `None` for want of memory.
+/// One pass holds the lock as often as asked and adds one to the number in the value. The answer is the value at the end, or `None` for want of memory.
 pub fn hold_alone<B: Basic<Parcel> + Drop, R: Wait>(
     rt: &R,
     alloc: Global,
     recipe: B::Recipe,
     holds: u32,
-) -> Option<u64> {
+) -> Option<Parcel>
+    ensures unparked { IfSome result (λ p. p.parked ≡ false) }
+{
     let (lock, mut passes) = B::make(alloc, recipe, 1, Parcel::new()).ok()?;
     let pass = passes.pop()?;
     let pass = hold_often(rt, &lock, pass, holds, false);
     passes.push(pass).ok()?;
-    Some(lock.close(passes).count)
+    Some(lock.close(passes))
 }
 
 /// The same by two threads.
@@ -187,13 +172,14 @@ pub fn hold_by_two<B: Basic<Parcel> + Sync + Drop, R: Threads + Wait + Sync>(
     alloc: Global,
     recipe: B::Recipe,
     holds: u32,
-) -> Option<u64>
+) -> Option<Parcel>
 where
     B::Recipe: Send,
     B::Pass: Send,
     B::Queue: Send,
     B::Held: Send,
     B::Leave: Send,
+    ensures unparked { IfSome result (λ p. p.parked ≡ false) }
 {
     let (lock, mut passes) = B::make(alloc, recipe, 2, Parcel::new()).ok()?;
     let second = passes.pop()?;
@@ -207,27 +193,28 @@ where
     let (first, second) = by_two(rt, &shift, first, second);
     passes.push(first).ok()?;
     passes.push(second).ok()?;
-    Some(lock.close(passes).count)
+    Some(lock.close(passes))
 }
 
 /// Four threads each hold the lock as often as asked and add one to the number in the value. Where `parks` is true each holder unparks the value, and parks it
-/// where somebody is queued behind. The answer is the number at the end, or `None` for want of memory.
+/// where somebody is queued behind. The answer is the value at the end, or `None` for want of memory.
 pub fn hold_by_four<B: Basic<Parcel> + Sync + Drop, R: Threads + Wait + Sync>(
     rt: &R,
     alloc: Global,
     recipe: B::Recipe,
     holds: u32,
     parks: bool,
-) -> Option<u64>
+) -> Option<Parcel>
 where
     B::Recipe: Send,
     B::Pass: Send,
     B::Queue: Send,
     B::Held: Send,
     B::Leave: Send,
+    ensures unparked { IfSome result (λ p. p.parked ≡ false) }
 {
-    let (lock, passes) = B::make(alloc, recipe, 4, Parcel::new()).ok()?;
-    let (front, back) = apart(&lock, passes)?;
+    let (lock, mut passes) = B::make(alloc, recipe, 4, Parcel::new()).ok()?;
+    let (front, back) = apart(&lock, &mut passes)?;
     let shift = Shift {
         rt,
         lock: &lock,
@@ -235,5 +222,9 @@ where
         parks,
     };
     let (front, back) = by_four(rt, &shift, front, back);
-    close_with(alloc, lock, front, back)
+    passes.push(front.0).ok()?;
+    passes.push(front.1).ok()?;
+    passes.push(back.0).ok()?;
+    passes.push(back.1).ok()?;
+    Some(lock.close(passes))
 }

@@ -8,7 +8,7 @@ use mathlib.Core.Logic.{dite}
 use native.Mathlib.Decide.{ℕ_discrete}
 use lib.ListN.{get_elem?}
 use lib.Seq.{set-get_or}
-use Rattle.atomic_table.specs.Table.{State, Me, step, Act, keeps, takes, gives, stepped, Allows, Splits, Joins, opening, Final, Seen}
+use Rattle.atomic_table.specs.Table.{State, Me, step, Act, keeps, takes, gives, stepped, Valid, carried_after, Allows, Splits, Joins, opening, Final, Seen}
 use Rattle.atomic_table.proofs.Lists.{at_set, at_longer, at_last}
 use Rattle.lock_rules.specs.Tag.{Tag}
 use Rattle.lock_rules.specs.Queue.{IsIn, Enters, Takes, Leaves}
@@ -69,21 +69,20 @@ module _ {V : Type 0} (fit : V → Type 0) (tag_of : V → Tag) (parked : V → 
       queue_is fit tag_of parked n tag s' r' ∙ ap (λ (vs : List View). map (number_at vs) r'.seats) same
       ∙ names_stay (number_at (set s.views id w)) (number_at s.views) (numbers_stay s.views id v w at num) r'.seats
 
-  happens : (event : ℕ → List ℕ → List ℕ → Type 0) (word found now id : ℕ) (v w : View) (s : St) (words : List ℕ) (homes : Homes) → Rule s → Rule (after_step words homes s.views id w)
-      → get_elem? s.views id ≡ some v → slice_index s.words word ≡ found → slice_index words word ≡ now
-      → event v.number (queue_of s.words s.views) (queue_of words (set s.views id w)) → Happened fit tag_of parked event word found now v w
-  happens event word found now id v w s words homes r r' at was became did = record {
+  happens : (event : ℕ → List ℕ → List ℕ → Type 0) (act : Act (Option V)) (word now id : ℕ) (me me' : Me (Option V) View) (s : St) → Rule s → Rule (stepped s word now id me.1 me'.0 act)
+      → get_elem? s.views id ≡ some me.0 → me.0.tag.tag ≡ tag → Valid s.homes me.1 act → me'.1 ≡ carried_after me.1 act
+      → event me.0.number (queue_of s.words s.views) (queue_of (set s.words word now) (set s.views id me'.0))
+      → Happened fit tag_of parked event act word (slice_index s.words word) now me me'
+  happens event act word now id me me' s r r' at own acted carried did = record {
     n = n;
-    tag = tag;
     seat = id;
     state = s;
-    next_state = after_step words homes s.views id w;
-    allowed = r;
-    next_allowed = r';
+    allowed = subst (λ (t : Tag). IsTicket fit tag_of parked n t s) (sym own) r;
     knew = at;
-    knows = set_at s.views id v w at;
-    was = was;
-    became = became;
+    was = refl;
+    acted = acted;
+    carries = carried;
+    next_allowed = subst (λ (t : Tag). IsTicket fit tag_of parked n t (stepped s word now id me.1 me'.0 act)) (sym own) r';
     queue = did;
   }
 
@@ -166,7 +165,7 @@ module _ {V : Type 0} (fit : V → Type 0) (tag_of : V → Tag) (parked : V → 
         keeps,
         tt,
         r',
-        (refl, happens Enters 0 found ((found + 1) % 2 ^ 64) id v w s words s.homes r r' at refl (ap (λ (ws : List ℕ). slice_index ws 0) told ∙ sym more) (not_in s r id v at idle live, q ∙ m)),
+        (refl, happens Enters keeps 0 ((found + 1) % 2 ^ 64) id me (w, me.1) s r r' at ((r.each_seat id v at).tagged live) tt refl (not_in s r id v at idle live, q ∙ m)),
       )
 
   -- The first place is that of a holder, so nobody else holds beside a seat that is first
@@ -215,8 +214,8 @@ module _ {V : Type 0} (fit : V → Type 0) (tag_of : V → Tag) (parked : V → 
       r.slot)
 
   misses : (id : ℕ) (me : Me (Option V) View) (s : St) → me.0.phase ≡ Queued → Rule s → get_elem? s.views id ≡ some me.0
-      → (w : View) × (a : Act (Option V)) × Rattle.atomic_table.specs.Table.Valid s.homes me.1 a × Rule (stepped s 1 (slice_index s.words 1) id me.1 w a)
-      × missed fit tag_of parked me (slice_index s.words 1) (w, Rattle.atomic_table.specs.Table.carried_after me.1 a)
+      → (w : View) × (a : Act (Option V)) × Valid s.homes me.1 a × Rule (stepped s 1 (slice_index s.words 1) id me.1 w a)
+      × missed fit tag_of parked me (slice_index s.words 1) (w, carried_after me.1 a)
   misses id me s queued r at =
       let v : View = me.0 in
       let w : View = not_served v in
@@ -224,13 +223,14 @@ module _ {V : Type 0} (fit : V → Type 0) (tag_of : V → Tag) (parked : V → 
       let k' : Knows r.first r.seats id w v.phase = subst (Knows r.first r.seats id w) (sym queued) k in
       let r' : Rule (after_step (set s.words 1 (slice_index s.words 1)) s.homes s.views id w) = loads id v w s r 1 at refl refl refl refl refl (λ x. refl) k' in
       let q = same_queue s r (after_step (set s.words 1 (slice_index s.words 1)) s.homes s.views id w) r' id v w at refl refl refl in
-      let same = ap (λ (ws : List ℕ). slice_index ws 1) (set-get_or s.words 1 0) in
-      (w, keeps, tt, r', (refl, happens Nothing 1 (slice_index s.words 1) (slice_index s.words 1) id v w s (set s.words 1 (slice_index s.words 1)) s.homes r r' at refl same q))
+      let st = r.each_seat id v at in
+      let live : v.spent ≡ false = busy_lives tag r.first r.seats id v st (ap is_busy queued) in
+      (w, keeps, tt, r', (refl, happens Nothing keeps 1 (slice_index s.words 1) id me (w, me.1) s r r' at (st.tagged live) tt refl q))
 
   takes_it : (id : ℕ) (me : Me (Option V) View) (s : St) → me.0.phase ≡ Queued → (r : Rule s) → get_elem? s.views id ≡ some me.0 → get_elem? r.seats 0 ≡ some id → me.0.ticket ≡ r.first % 2 ^ 64
       → IsHome fit tag_of parked tag r.seats s.views s.homes
-      → (w : View) × (a : Act (Option V)) × Rattle.atomic_table.specs.Table.Valid s.homes me.1 a × Rule (stepped s 1 (slice_index s.words 1) id me.1 w a)
-      × took fit tag_of parked me (slice_index s.words 1) (w, Rattle.atomic_table.specs.Table.carried_after me.1 a)
+      → (w : View) × (a : Act (Option V)) × Valid s.homes me.1 a × Rule (stepped s 1 (slice_index s.words 1) id me.1 w a)
+      × took fit tag_of parked me (slice_index s.words 1) (w, carried_after me.1 a)
   takes_it id me s queued r at first ticket home =
       let v : View = me.0 in
       let w : View = served v in
@@ -248,12 +248,12 @@ module _ {V : Type 0} (fit : V → Type 0) (tag_of : V → Tag) (parked : V → 
       (λ i j e. place_same s.views id v w at (λ _. refl) refl r.first i j (r.each_place i j e))
       (inr (record { slot = slot; held = held })) in
       let q = same_queue s r (after_step words homes s.views id w) r' id v w at refl refl refl in
-      let same = ap (λ (ws : List ℕ). slice_index ws 1) (set-get_or s.words 1 0) in (
+      let away : get_elem? s.homes 0 ≡ some (some (Some home.value)) = ap (λ (hs : Homes). get_elem? hs 0) home.slot in (
         w,
         takes 0 (Some home.value),
-        ap (λ (hs : Homes). get_elem? hs 0) home.slot,
+        away,
         r',
-        (home.value, home.fits, home.tagged ∙ sym (st.tagged live), refl, happens Takes 1 (slice_index s.words 1) (slice_index s.words 1) id v w s words homes r r' at refl same (head_is s r id v at first, q)),
+        (home.value, home.fits, home.tagged ∙ sym (st.tagged live), refl, happens Takes (takes 0 (Some home.value)) 1 (slice_index s.words 1) id me (w, (0, Some home.value) ∷ me.1) s r r' at (st.tagged live) away refl (head_is s r id v at first, q)),
       )
 
   -- where the ticket is served, the pass is the head
@@ -299,14 +299,15 @@ module _ {V : Type 0} (fit : V → Type 0) (tag_of : V → Tag) (parked : V → 
   waits slots id me held s r count at low =
       let v : View = me.0 in
       let w : View = tested_by v (slice_index s.words 0) in
-      let k = knows_as r.first r.seats id v Holding held (r.each_seat id v at).knows in
+      let st = r.each_seat id v at in
+      let k = knows_as r.first r.seats id v Holding held st.knows in
       let busy_now : 0 < length r.seats = at_below r.seats 0 id k.0 in
       let known : Knows r.first r.seats id w Holding = (k.0, k.1, λ noted. others_behind s r v busy_now k.1 noted) in
       let words : List ℕ = set s.words 0 (slice_index s.words 0) in
       let r' : Rule (after_step words s.homes s.views id w) = loads id v w s r 0 at refl refl refl refl refl (λ x. refl) (subst (Knows r.first r.seats id w) (sym held) known) in
       let q = same_queue s r (after_step words s.homes s.views id w) r' id v w at refl refl refl in
-      let same = ap (λ (ws : List ℕ). slice_index ws 0) (set-get_or s.words 0 0) in
-      (w, keeps, tt, r', (refl, happens Nothing 0 (slice_index s.words 0) (slice_index s.words 0) id v w s words s.homes r r' at refl same q))
+      let live : v.spent ≡ false = busy_lives tag r.first r.seats id v st (ap is_busy held) in
+      (w, keeps, tt, r', (refl, happens Nothing keeps 0 (slice_index s.words 0) id me (w, me.1) s r r' at (st.tagged live) tt refl q))
 
   -- what a holder puts back
   abbrev pub Fits : View → V → Type 0
@@ -370,7 +371,7 @@ module _ {V : Type 0} (fit : V → Type 0) (tag_of : V → Tag) (parked : V → 
         r',
         (
           λ i. (w, Rattle.atomic_table.specs.Table.rest (carries i)),
-          (slice_index s.words 1, happens Leaves 1 (slice_index s.words 1) new id v w s words homes r r' at refl (ap (λ (ws : List ℕ). slice_index ws 1) told ∙ sym next) (before ∙ ap (λ (l : List ℕ). v.number ∷ l) (sym q))),
+          (slice_index s.words 1, happens Leaves gives 1 new id (v, c) (w, Rattle.atomic_table.specs.Table.rest c) s r r' at (st.tagged live) tt refl (before ∙ ap (λ (l : List ℕ). v.number ∷ l) (sym q))),
         ),
       )
 

@@ -1,7 +1,7 @@
 -- A seat after a step: its table and its number stay.
-use Rattle.std.proofs.Common.{◌≡◌, ℕ, ◌+◌, false, List, [], ◌∷◌, length, length-append, refl, ap, sym, ◌∙◌, subst, arith, Option, Some}
+use Rattle.std.proofs.Common.{◌≡◌, ℕ, ◌+◌, Bool, false, List, [], ◌∷◌, length, length-append, refl, ap, sym, ◌∙◌, subst, arith, Option, Some}
 use mathlib.Core.Option.{some, some-injective}
-use Rattle.atomic_table.specs.Table.{rest}
+use Rattle.atomic_table.specs.Table.{Me, Act, rest}
 use Rattle.atomic_table.specs.declared.badge.Badge.{Badge}
 use Rattle.atomic_table.specs.Seated.{TableId}
 use Rattle.lock_rules.specs.Tag.{Tag}
@@ -18,6 +18,7 @@ use Rattle.lock_rules.specs.declared.view.View.{View}
 use Rattle.ticket_lock.specs.Tokens.{first_or, view_of, IsSeated, badge_place}
 use Rattle.atomic_table.specs.declared.shared.Seat.{Seat}
 use Rattle.ticket_lock.specs.Seats.{seat_as}
+use Rattle.ticket_lock.specs.Kinds.{Happened}
 
 pub seat_is : {S V : Type 0} (a b : Seat S V) (view : V) (carried : List (ℕ × S)) → b.table_id ≡ a.table_id → b.id ≡ a.id → b.me ≡ (view, carried) → b ≡ seat_as a view carried
 seat_is a b view carried t d m = λ i. record { marker = b.marker; table_id = t i; id = d i; me = m i }
@@ -81,3 +82,9 @@ joined_size v w live p =
     let m = numbers_unspent (joined_view v w) live in
     let l : length w.joined ≡ 0 = ap length p.alone in
     omega (arith, n, m, l, length-append w.joined v.joined)
+
+-- a step is the same under equal words and views
+pub happened_as : {V : Type 0} (fit : V → Type 0) (tag_of : V → Tag) (parked : V → Bool) (event : ℕ → List ℕ → List ℕ → Type 0) (act : Act (Option V)) (word found now now' : ℕ) (a b a' b' : Me (Option V) View)
+    → now ≡ now' → a ≡ a' → b ≡ b' → Happened fit tag_of parked event act word found now a b → Happened fit tag_of parked event act word found now' a' b'
+happened_as {V} fit tag_of parked event act word found now now' a b a' b' n p q h =
+    subst (λ (x : ℕ × Me (Option V) View × Me (Option V) View). Happened fit tag_of parked event act word found x.0 x.1 x.2) (λ i. (n i, p i, q i)) h

@@ -1,11 +1,11 @@
 //! How a lock is made and taken apart.
-ghost use Rattle.std.specs.Prelude.{◌≡◌, ◌<◌, ◌≤◌, [], ◌∷◌, ◌^◌, false, IfOk, IfErr, vec_capacity};
+ghost use Rattle.std.specs.Prelude.{◌≡◌, ◌<◌, ◌≤◌, [], false, IfOk, IfErr, vec_capacity};
 ghost use Rattle.lock_rules.specs.Passes.{AreAll};
-ghost use Rattle.lock_rules.specs.Views.{IsPlain, first_view, numbers_of, lock_name};
+ghost use Rattle.lock_rules.specs.Views.{first_view, numbers_of, lock_name};
 ghost use Rattle.lock_rules.specs.declared.hold.Algorithm.TheVariants.{Ticket};
 ghost use Rattle.lock_rules.specs.declared.view.Phase.TheVariants.{Idle};
 ghost use Rattle.ticket_lock.specs.Seats.{IsSized};
-ghost use Rattle.ticket_lock.specs.Tokens.{view_of, badge_place, IsSeated};
+ghost use Rattle.ticket_lock.specs.Tokens.{badge_place};
 
 use crate::plays::TicketRule;
 use crate::steps::Words;

@@ -1,6 +1,6 @@
 //! The atomic steps on the lock's words, by their names in the published pseudo-code.
 ghost use Rattle.std.specs.Prelude.{◌≡◌, ◌≢◌, ◌+◌, ◌%◌, ◌^◌, [], ◌∷◌, true, false, Option, Some};
-ghost use Rattle.atomic_table.specs.Table.{rest};
+ghost use Rattle.atomic_table.specs.Table.{rest, keeps, takes, gives};
 ghost use Rattle.lock_rules.specs.Queue.{Enters, Takes, Leaves};
 ghost use Rattle.lock_rules.specs.declared.step.Answer.TheVariants.{Yes};
 ghost use Rattle.lock_rules.specs.declared.view.Phase.TheVariants.{Idle, Queued, Holding};
@@ -28,7 +28,7 @@ pub(crate) fn fetch_and_increment_next<V: Cargo>(
     requires idle { seat.old.me.0.phase ≡ Idle }
     requires unspent { seat.old.me.0.spent ≡ false }
     ensures seat { seat.new ≡ seat_as seat.old (queued_with seat.old.me.0 result) seat.old.me.1 }
-    ensures event { Happened V.fit V.tag V.parked Enters NEXT result ((result + 1) % 2 ^ 64) seat.old.me.0 seat.new.me.0 }
+    ensures event { Happened V.fit V.tag V.parked Enters keeps NEXT result ((result + 1) % 2 ^ 64) seat.old.me seat.new.me }
 {
     words.fetch_add::<AddNext>(seat, NEXT, 1)
 }
@@ -41,8 +41,8 @@ pub(crate) fn load_serving<V: Cargo>(words: &Words<V>, seat: &mut Seat<Option<V>
     ensures served { result ≡ seat.old.me.0.ticket → (x : V) × V.fit x × (V.tag x ≡ seat.old.me.0.tag.tag) × (seat.new ≡ seat_as seat.old (served seat.old.me.0) ((0, Some x) ∷ seat.old.me.1)) }
     ensures not_served { result ≢ seat.old.me.0.ticket → seat.new ≡ seat_as seat.old (not_served seat.old.me.0) seat.old.me.1 }
     ensures slot { result ≡ seat.old.me.0.ticket → (x : Option V) × (seat.new.me.1 ≡ (0, x) ∷ rest seat.new.me.1) }
-    ensures takes { result ≡ seat.old.me.0.ticket → Happened V.fit V.tag V.parked Takes SERVING result result seat.old.me.0 seat.new.me.0 }
-    ensures stays { result ≢ seat.old.me.0.ticket → Happened V.fit V.tag V.parked Nothing SERVING result result seat.old.me.0 seat.new.me.0 }
+    ensures takes { result ≡ seat.old.me.0.ticket → (x : V) × (seat.new.me.1 ≡ (0, Some x) ∷ seat.old.me.1) × Happened V.fit V.tag V.parked Takes (takes 0 (Some x)) SERVING result result seat.old.me seat.new.me }
+    ensures stays { result ≢ seat.old.me.0.ticket → Happened V.fit V.tag V.parked Nothing keeps SERVING result result seat.old.me seat.new.me }
 {
     words.load::<LoadServing>(seat, SERVING)
 }
@@ -53,7 +53,7 @@ pub(crate) fn load_next<V: Cargo>(words: &Words<V>, seat: &mut Seat<Option<V>, V
     requires size { IsSized words.now.table_id }
     requires holds { seat.old.me.0.phase ≡ Holding }
     ensures seat { seat.new ≡ seat_as seat.old (tested_by seat.old.me.0 result) seat.old.me.1 }
-    ensures event { Happened V.fit V.tag V.parked Nothing NEXT result result seat.old.me.0 seat.new.me.0 }
+    ensures event { Happened V.fit V.tag V.parked Nothing keeps NEXT result result seat.old.me seat.new.me }
 {
     words.load::<LoadNext>(seat, NEXT)
 }
@@ -70,7 +70,7 @@ pub(crate) fn store_serving<V: Cargo>(
     requires next { ticket ≡ (seat.old.me.0.ticket + 1) % 2 ^ 64 }
     requires home { (x : V) × (seat.old.me.1 ≡ (0, Some x) ∷ []) × V.fit x × (V.tag x ≡ seat.old.me.0.tag.tag) × (V.parked x ≡ true → seat.old.me.0.tested ≡ Yes) }
     ensures seat { seat.new ≡ seat_as seat.old (left seat.old.me.0) [] }
-    ensures event { (found : _) × Happened V.fit V.tag V.parked Leaves SERVING found ticket seat.old.me.0 seat.new.me.0 }
+    ensures event { (found : _) × Happened V.fit V.tag V.parked Leaves gives SERVING found ticket seat.old.me seat.new.me }
 {
     words.store::<StoreServing>(seat, SERVING, ticket);
 }

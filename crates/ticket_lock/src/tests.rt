@@ -1,5 +1,5 @@
 use crate::Ticket;
-use lock_trials::{Call, HOLDS, Move, Parcel, Told, Who, carry_out, hold_by_four};
+use lock_trials::{Call, HOLDS, Move, Parcel, START, Told, Who, carry_out, hold_by_four};
 
 const fn first(call: Call) -> Move {
     Move {
@@ -43,7 +43,7 @@ fn two_passes_take_turns(rt: HostRuntime) {
         Told::Got,
     ];
     assert!(rt; outcome.told.as_slice() == told.as_slice());
-    assert!(rt; outcome.count == 7);
+    assert!(rt; outcome.count == START);
 }
 
 #[test]
@@ -81,7 +81,10 @@ fn a_parked_value_is_handed_over(rt: HostRuntime) {
 #[test]
 fn four_threads_hold_in_turn(rt: HostRuntime) {
     for parks in [false, true] {
-        let count = hold_by_four::<Ticket<Parcel>, _>(&rt, rt.alloc(), (), HOLDS, parks);
-        assert!(rt; count == Some(4 * u64::from(HOLDS)));
+        let Some(parcel) = hold_by_four::<Ticket<Parcel>, _>(&rt, rt.alloc(), (), HOLDS, parks)
+        else {
+            panic!(rt; "there was no memory")
+        };
+        assert!(rt; parcel.count == 4 * u64::from(HOLDS));
     }
 }

@@ -14,3 +14,6 @@ returns-clause-not_served g c ne = let did = c.load.ensures in seat_is c.args.se
 
 pub returns-clause-slot : goal.returns-clause-slot
 returns-clause-slot g c e = let took = c.load.ensures.2.0 e in (Some took.0, in_hand _ _ _ _ (ap (λ m. m.1) took.3))
+
+pub returns-clause-takes : goal.returns-clause-takes
+returns-clause-takes g c e = let took = c.load.ensures.2.0 e in (took.0, ap (λ m. m.1) took.3, took.4)
