@@ -171,10 +171,16 @@ impl<'a> Write for Halting<'a> {
 fn adapters_make_an_interrupted_call_again(rt: HostRuntime) {
     let kinds = [ErrorKind::Interrupted, ErrorKind::Interrupted];
     let mut buf = [0; 2];
-    let mut source = StdSource::new(Halting { kinds: &kinds, written: None });
+    let mut source = StdSource::new(Halting {
+        kinds: &kinds,
+        written: None,
+    });
     assert_eq!(rt; source.read(&mut buf), Ok(1));
     assert_eq!(rt; buf, [b'x', 0]);
-    let mut stream = Halting { kinds: &kinds, written: None };
+    let mut stream = Halting {
+        kinds: &kinds,
+        written: None,
+    };
     assert_eq!(rt; StdSink::new(&mut stream).write(b"yz"), Ok(1));
     assert_eq!(rt; stream.written, Some(b'y'));
 }
@@ -182,10 +188,16 @@ fn adapters_make_an_interrupted_call_again(rt: HostRuntime) {
 #[test]
 fn adapters_tell_of_another_failure(rt: HostRuntime) {
     let kinds = [ErrorKind::Interrupted, ErrorKind::BrokenPipe];
-    let mut source = StdSource::new(Halting { kinds: &kinds, written: None });
+    let mut source = StdSource::new(Halting {
+        kinds: &kinds,
+        written: None,
+    });
     assert_eq!(rt; source.read(&mut [0]), Err(Failed));
     assert_eq!(rt; source.read(&mut [0]), Ok(1));
-    let mut sink = StdSink::new(Halting { kinds: &kinds, written: None });
+    let mut sink = StdSink::new(Halting {
+        kinds: &kinds,
+        written: None,
+    });
     assert_eq!(rt; sink.write(b"y"), Err(Failed));
     assert_eq!(rt; sink.write(b"y"), Ok(1));
 }

@@ -115,15 +115,27 @@ fn both_applied<'a>(
     let mut journal = Journal::reserve(alloc, &[writer, reader])?;
     let fresh = journal.entries();
     let Some(written) = Commands::new(writer).next() else {
-        return Ok(Both { journal, fresh, turns: None });
+        return Ok(Both {
+            journal,
+            fresh,
+            turns: None,
+        });
     };
     let first = journal.apply(0, written)?;
     let Some(read) = Commands::new(reader).next() else {
-        return Ok(Both { journal, fresh, turns: None });
+        return Ok(Both {
+            journal,
+            fresh,
+            turns: None,
+        });
     };
     let second = journal.apply(1, read)?;
     let turns = Some((first.turn, second.turn));
-    Ok(Both { journal, fresh, turns })
+    Ok(Both {
+        journal,
+        fresh,
+        turns,
+    })
 }
 
 #[test]
