@@ -85,3 +85,11 @@ loop_turn loops place number factor object within sound few so_far is below =
       factor = more;
       below = omega (arith, turn);
     }
+
+-- a loop of one step adds nothing
+pub single_turn : (loops : List Loop) (place so_far product object : ℕ) (given : Loop) → given.count ≡ 1 → LoopTurn loops place so_far product object given → (so_far ≡ sum (map (loop_part loops object) (range_with_len 0 (place + 1)))) × (product ≡ loop_product (take (place + 1) loops))
+single_turn loops place so_far product object given one turn =
+    let digit : (object / given.step) % 1 ≡ 0 = omega (arith, mod_below (object / given.step) 1 (omega arith)) in
+    let none : (object / given.step) % given.count * product ≡ 0 = ap (λ n. (object / given.step) % n * product) one ∙ ap (λ d. d * product) digit ∙ omega arith in
+    let same : product * given.count ≡ product = ap (λ n. product * n) one ∙ mul-one product in
+    (omega (arith, none, turn.number), sym same ∙ turn.factor)

@@ -95,8 +95,11 @@ fn loops_number(loops: &[Loop], object: u32) -> u32
     let mut number = 0;
     let mut factor = 1;
     for given in loops {
-        number += object / given.step % given.count * factor;
-        factor *= given.count;
+        // Others add nothing, and a text may have thousands of them.
+        if given.count > 1 {
+            number += object / given.step % given.count * factor;
+            factor *= given.count;
+        }
     }
     number
 }
