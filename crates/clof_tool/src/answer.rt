@@ -1,7 +1,7 @@
 // What the program does, without a runtime: nothing waits yet.
 ghost use Rattle.std.specs.Prelude.{◌≡◌, ◌≢◌, ◌<◌, ◌+◌, ◌⊎◌, ◌↔◌, ℕ, List, length, take, IfErr, IfOk, IfSome};
 ghost use Rattle.edge_io.specs.Counts.{Rose, RisesBy};
-ghost use Rattle.edge_io.specs.Contents.{Gains, IsAtEnd};
+ghost use Rattle.edge_io.specs.Contents.{Gains, IsDrained};
 ghost use Rattle.clof_tool.specs.declared.status.Status.{Status as AnyStatus};
 ghost use Rattle.clof_tool.specs.declared.status.Fault.{Fault as AnyFault};
 ghost use Rattle.clof_tool.specs.Words.{Asked, Says, IsUsage};
@@ -31,14 +31,14 @@ pub(crate) fn answer<S: Source, K: Sink, E: Sink>(
     // What is printed, and that the input was read to its end.
     ensures printed { (asked : Asked) (input : List ℕ) → Says words.now asked → IsInput asked (S.left source.old) input → result ≡ Status.Ok →
         (text : List ℕ) × IsAnswer asked input text × Gains (K.held out.old) (K.held out.new) text }
-    ensures at_end { (asked : Asked) → Says words.now asked → ReadsInput asked → result ≡ Status.Ok → IsAtEnd (S.left source.new) }
+    ensures at_end { (asked : Asked) → Says words.now asked → ReadsInput asked → result ≡ Status.Ok → IsDrained (S.left source.old) (S.left source.new) }
 
     // What is refused.
     ensures refusal { (asked : Asked) (input : List ℕ) → Says words.now asked → IsInput asked (S.left source.old) input → IsRefusal result → Refuses asked input result }
     ensures limit { (asked : Asked) (fault : AnyFault) → Says words.now asked → ReadsInput asked → result ≡ Status.Limit fault →
         RisesBy (input_limit + 1) (S.given source.old) (S.given source.new) }
     ensures refused { (asked : Asked) (input : List ℕ) (status : AnyStatus) → Says words.now asked → IsInput asked (S.left source.old) input → Refuses asked input status →
-        (Rose (S.faults source.old) (S.faults source.new) → ⊥) → (result ≡ status) ⊎ (result ≡ Status.OutOfMemory) }
+        (ReadsInput asked → Rose (S.faults source.old) (S.faults source.new) → ⊥) → (result ≡ status) ⊎ (result ≡ Status.OutOfMemory) }
 
     // Faults of the source and of the output.
     ensures read_fault { result ≡ Status.ReadFault → Rose (S.faults source.old) (S.faults source.new) }
@@ -54,7 +54,7 @@ pub(crate) fn answer<S: Source, K: Sink, E: Sink>(
 
     // Where nothing goes wrong, the text is printed.
     ensures complete { (asked : Asked) (input text : List ℕ) → Says words.now asked → IsInput asked (S.left source.old) input → IsAnswer asked input text →
-        (Rose (S.faults source.old) (S.faults source.new) → ⊥) → (Rose (K.faults out.old) (K.faults out.new) → ⊥) → (Rose (K.stalls out.old) (K.stalls out.new) → ⊥) →
+        (ReadsInput asked → Rose (S.faults source.old) (S.faults source.new) → ⊥) → (Rose (K.faults out.old) (K.faults out.new) → ⊥) → (Rose (K.stalls out.old) (K.stalls out.new) → ⊥) →
         (result ≡ Status.Ok) ⊎ (result ≡ Status.OutOfMemory) }
 {
     match read_words(words) {

@@ -1,6 +1,7 @@
 // What `run` prints.
 ghost use Rattle.std.specs.Prelude.{◌≡◌, ◌⊎◌, ◌≤◌, length, IfOk, IfErr};
 ghost use Rattle.placed_runner.specs.declared.fault.SectionFault.TheVariants.{NotYet};
+ghost use Rattle.mc_text.specs.Reading.{commands_of, rest_of};
 ghost use Rattle.placed_runner.specs.Text.{section_text};
 ghost use Rattle.clof_tool.specs.declared.status.Fault.TheVariants.{Section as SectionOf};
 ghost use Rattle.clof_tool.specs.Run.{input_limit, Prints, IsNotYet};
@@ -26,7 +27,7 @@ pub(crate) fn run_text(alloc: Global, input: &[u8]) -> Result<Vec<u8>, Status>
 // The text of the run of a section.
 fn section_text(alloc: Global, section: &Section<'_>) -> Result<Vec<u8>, Status>
     requires { length section.now.bytes.now ≤ input_limit }
-    ensures ok { IfOk result (λ text. text.items ≡ section_text section.now.pu section.now.bytes.now) }
+    ensures ok { IfOk result (λ text. text.items ≡ section_text section.now.pu (commands_of section.now.bytes.now) (rest_of section.now.bytes.now)) }
     ensures err { IfErr result (λ status. status ≡ Status.OutOfMemory) }
 {
     let mut journal = Journal::reserve(alloc, &[section.bytes]).map_err(|_| Status::OutOfMemory)?;

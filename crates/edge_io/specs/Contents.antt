@@ -11,6 +11,11 @@ Loses (Some before) now bytes = (rest : List ℕ) × (now ≡ Some rest) × (bef
 abbrev pub IsAtEnd : Option (List ℕ) → Type 0
 IsAtEnd left = IfSome left (λ bytes. bytes ≡ [])
 
+-- all that was left, where it was told, is gone
+abbrev pub IsDrained : Option (List ℕ) → Option (List ℕ) → Type 0
+IsDrained None now = now ≡ None
+IsDrained (Some before) now = now ≡ Some []
+
 -- what is held is what was held, and then these bytes
 abbrev pub Gains : Option (List ℕ) → Option (List ℕ) → List ℕ → Type 0
 Gains None now bytes = now ≡ None

@@ -1,7 +1,7 @@
 // Reading a source to its end.
 ghost use Rattle.std.specs.Prelude.{◌≡◌, ◌≢◌, ◌≤◌, ◌<◌, ◌+◌, ◌-◌, length, vec_len, IfErr, IfOk, IfSome, OnOk, OnErr};
 ghost use Rattle.edge_io.specs.Counts.{Rose, RisesBy};
-ghost use Rattle.edge_io.specs.Contents.{Loses, IsAtEnd};
+ghost use Rattle.edge_io.specs.Contents.{Loses, IsAtEnd, IsDrained};
 ghost use Rattle.edge_io.specs.Reading.{HasGiven, ReadsMore};
 
 use crate::{ReadAllFault, Source};
@@ -20,7 +20,7 @@ pub fn read_all<S: Source>(
 ) -> Result<Vec<u8>, ReadAllFault>
     requires { limit < usize.MAX }
     ensures all { IfOk result (λ bytes. IfSome (S.left source.old) (λ left. bytes.items ≡ left)) }
-    ensures end { OnOk result (IsAtEnd (S.left source.new)) }
+    ensures end { OnOk result (IsDrained (S.left source.old) (S.left source.new)) }
     ensures within { IfOk result (λ bytes. vec_len bytes ≤ limit) }
     ensures given { IfOk result (λ bytes. RisesBy (vec_len bytes) (S.given source.old) (S.given source.new)) }
     ensures too_long { result ≡ Err ReadAllFault.TooLong → RisesBy (limit + 1) (S.given source.old) (S.given source.new) }

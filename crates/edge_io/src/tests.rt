@@ -113,6 +113,16 @@ fn writes_all_or_stops_behind_a_prefix(rt: HostRuntime) -> Result<(), Fail> {
     Ok(())
 }
 
+// Each write is handed all that is still to be written, so a sink that takes as much as fits has it after one call.
+#[test]
+fn writes_all_that_fits_in_one_call(rt: HostRuntime) -> Result<(), Fail> {
+    let bytes = vec![in rt.alloc(); b'x'; 100_000]?;
+    let mut sink = MemSink::new(rt.alloc(), 100_000, 100_000, [1].to_vec(rt.alloc())?)?;
+    assert_eq!(rt; write_all(&mut sink, &bytes), Ok(()));
+    assert_eq!(rt; sink.bytes(), bytes.as_slice());
+    Ok(())
+}
+
 #[test]
 fn adapters_pass_bytes_on(rt: HostRuntime) -> Result<(), Fail> {
     let mut source = StdSource::new(b"hello".as_slice());

@@ -5,8 +5,8 @@ ghost use Rattle.kv_history.specs.Answer.{written_item, line_end};
 ghost use Rattle.kv_history.specs.Views.{plain_item};
 
 use crate::item::Item;
+use byte_text::push_decimal;
 use edge_io::OutOfMemory;
-use itoa::Buffer;
 
 /// Appends an item to a reply, with its unique or without. Without memory only a part of it is appended.
 #[tactic(auto, unfolding(crate::specs::Answer::written_item))]
@@ -19,11 +19,10 @@ pub(crate) fn append_item(
     ensures ok { OnOk result (reply.new.items ≡ reply.old.items ++ written_item uniques key.now (plain_item item.now)) }
     ensures err { OnErr result ((part : List ℕ) × (reply.new.items ≡ reply.old.items ++ part)) }
 {
-    let mut flags = Buffer::new();
-    let flags = flags.format(item.flags).as_bytes();
-    let mut size = Buffer::new();
-    let size = size.format(item.block.len()).as_bytes();
-    append(reply, &[b"VALUE ", key, b" ", flags, b" ", size])?;
+    append(reply, &[b"VALUE ", key, b" "])?;
+    push_decimal(reply, u64::from(item.flags))?;
+    append(reply, &[b" "])?;
+    push_decimal(reply, item.block.len() as u64)?;
     append_block(reply, uniques, item)
 }
 
@@ -35,12 +34,10 @@ fn append_block(reply: &mut Vec<u8>, uniques: bool, item: &Item) -> Result<(), O
     ensures err { OnErr result ((part : List ℕ) × (reply.new.items ≡ reply.old.items ++ part)) }
 {
     if uniques {
-        let mut unique = Buffer::new();
-        let unique = unique.format(item.unique).as_bytes();
-        append(reply, &[b" ", unique, b"\r\n", &item.block, b"\r\n"])
-    } else {
-        append(reply, &[b"\r\n", &item.block, b"\r\n"])
+        append(reply, &[b" "])?;
+        push_decimal(reply, item.unique)?;
     }
+    append(reply, &[b"\r\n", &item.block, b"\r\n"])
 }
 
 // Appends pieces to a text, one behind the other. Without memory only a part of them is appended.

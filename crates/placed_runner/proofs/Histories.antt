@@ -1,9 +1,10 @@
 -- The history of one caller's commands.
-use Rattle.std.proofs.Common.{◌≡◌, List, [], ◌∷◌, ◌++◌, refl, ap, sym, ◌∙◌}
+use Rattle.std.proofs.Common.{◌≡◌, ℕ, false, List, [], ◌∷◌, ◌++◌, refl, ap, sym, ◌∙◌}
+use Rattle.std.proofs.lemmas.List.Elements.{All-nil, All-cons}
 use Rattle.mc_text.specs.Request.{WholeCommand}
 use Rattle.kv_history.specs.Contents.{Contents, empty_store}
-use Rattle.kv_history.specs.Answer.{reply_of, store_after, store_from, store_of}
-use Rattle.kv_history.specs.Log.{Logged, commands, applied, own, applied_entry, store_now}
+use Rattle.kv_history.specs.Answer.{reply_of, replies_from, store_after, store_from, store_of}
+use Rattle.kv_history.specs.Log.{Logged, NoneVoid, commands, replies, applied, own, applied_entry, store_now}
 use Rattle.placed_runner.specs.Running.{entry_of, history_from, history}
 
 -- one more command
@@ -33,3 +34,15 @@ history_store done = ap store_of (ap commands (history_applied empty_store done)
 pub history_next : (done : List WholeCommand) (command : WholeCommand) → history done ++ (applied_entry (history done) 0 command ∷ []) ≡ history (done ++ (command ∷ []))
 history_next done command =
     ap (λ (store : Contents). history done ++ (entry_of command (reply_of store command.request) ∷ [])) (history_store done) ∙ sym (history_push empty_store done command)
+
+-- none is void
+pub history_whole : (store : Contents) (done : List WholeCommand) → NoneVoid (history_from store done)
+history_whole store [] = All-nil (λ (entry : Logged). entry.void ≡ false)
+history_whole store (first ∷ done) =
+    All-cons (λ (entry : Logged). entry.void ≡ false) (entry_of first (reply_of store first.request)) (history_from (store_after store first.request) done) refl
+    (history_whole (store_after store first.request) done)
+
+-- the replies are those of the replay
+pub history_replies : (store : Contents) (done : List WholeCommand) → replies (history_from store done) ≡ replies_from store done
+history_replies store [] = refl
+history_replies store (first ∷ done) = ap (λ (rest : List (List ℕ)). reply_of store first.request ∷ rest) (history_replies (store_after store first.request) done)

@@ -2,6 +2,7 @@
 use Rattle.std.specs.Prelude.{ℕ, ◌+◌, ◌/◌, ◌%◌, ◌==◌, ◌&&◌, nat_lt, if◌then◌else◌, List, [], ◌∷◌, ◌++◌, length, codes, decimal}
 use Rattle.std.specs.List.{flat_map}
 use Rattle.byte_text.specs.Numerals.{lower_hex_digit}
+use Rattle.mc_text.specs.Request.{WholeCommand}
 use Rattle.mc_text.specs.Reading.{commands_of, rest_of}
 use Rattle.kv_history.specs.Log.{Logged}
 use Rattle.placed_runner.specs.Running.{history}
@@ -75,6 +76,6 @@ turn_lines pu number (entry ∷ entries) = turn_line (shown_entry pu number entr
 abbrev pub run_text : ℕ → List ℕ → List Logged → List ℕ
 run_text pu section entries = turn_lines pu 0 entries ++ caller_line 0 pu (length (commands_of section)) (length (rest_of section))
 
--- the text of a section whose caller stands on a PU: that of the history of its commands
-abbrev pub section_text : ℕ → List ℕ → List ℕ
-section_text pu section = run_text pu section (history (commands_of section))
+-- the text of a section that is these commands and this rest, whose caller stands on a PU: that of their history
+abbrev pub section_text : ℕ → List WholeCommand → List ℕ → List ℕ
+section_text pu commands rest = turn_lines pu 0 (history commands) ++ caller_line 0 pu (length commands) (length rest)

@@ -4,12 +4,14 @@
 mod escape;
 mod fault;
 mod input;
+mod laws;
 mod lines;
 mod printing;
 mod running;
 
 pub use fault::SectionFault;
 pub use input::{Section, read_first};
+pub use laws::history_is_one_thread;
 pub use printing::text;
 pub use running::run_in_order;
 

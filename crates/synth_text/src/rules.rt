@@ -86,12 +86,7 @@ fn is_again(before: &[Placed], item: &Placed) -> bool
 fn have_nodes(items: &[Placed]) -> bool
     ensures { result ≡ list_any has_nodes items.now }
 {
-    for item in items {
-        if item.part.nodes.is_some() {
-            return true;
-        }
-    }
-    false
+    items.iter().any(|item| item.part.nodes.is_some())
 }
 
 // Whether a level is of a kind other than Group that a level before it has.
@@ -108,12 +103,7 @@ fn is_kind_again(before: &[Placed], level: &Option<Level>) -> bool
 fn are_any_of_kind(items: &[Placed], kind: Kind) -> bool
     ensures { result ≡ any_of_kind kind items.now }
 {
-    for item in items {
-        if has_kind(&item.part.level, kind) {
-            return true;
-        }
-    }
-    false
+    items.iter().any(|item| has_kind(&item.part.level, kind))
 }
 
 // Whether there is a level, of this kind.
