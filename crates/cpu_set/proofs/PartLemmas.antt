@@ -12,7 +12,8 @@ use Rattle.std.proofs.lemmas.List.Elements.{All-from_get_or, Contains-get_or}
 use Rattle.std.proofs.lemmas.List.Splits.{slice_split_none, slice_split_at, length-slice_split}
 use Rattle.byte_text.specs.Cuts.{IsCutAt, IsFirstPart}
 use Rattle.cpu_set.specs.declared.fault.SetFault.{SetFault}
-use Rattle.cpu_set.specs.Readings.{parts_of, Rule, leftmost, is_numeral}
+use Rattle.byte_text.specs.Numerals.{is_numeral}
+use Rattle.cpu_set.specs.Readings.{parts_of, Rule, leftmost}
 
 -- no byte of a text that hasn't the byte is that byte
 pub none_is : (byte : ℕ) (text : List ℕ) → ¬ (Contains text byte) → All (λ other. (other == byte) ≡ false) text

@@ -5,10 +5,9 @@ use Rattle.std.specs.Str.Parse.{IsNumeral, digits_value}
 use Rattle.std.proofs.lemmas.Bool.Decides.{nat_tests}
 use Rattle.std.proofs.lemmas.Bool.{ltb-true, le-ltb, and_left, and_right, and_parts, false_from_ne_true, cond-false}
 use Rattle.std.proofs.lemmas.Str.Parse.{IsNumeralModel, numerals_by_value, tells_all_ascii_digits}
-use Rattle.byte_text.specs.Numerals.{Reads}
+use Rattle.byte_text.specs.Numerals.{Reads, number_below}
 use Rattle.byte_text.specs.declared.numerals.Numeral.{Numeral}
 use Rattle.byte_text.specs.declared.numerals.Numeral.TheVariants.{Number, TooLarge, NotNumeral}
-use Rattle.mc_text.specs.Field.{number_below}
 
 -- the test for decimal digits is right
 decimal_digits : IsNumeralModel (λ ds. all_ascii_digits ds ≡ true) (digits_value 10)

@@ -21,7 +21,7 @@ use Rattle.synth_text.specs.declared.parts.Part.{Part}
 use Rattle.synth_text.specs.Kinds.{is_cache, same_kind, long_name_of}
 use Rattle.synth_text.specs.Items.{is_white}
 use Rattle.synth_text.specs.Names.{kind_named, name_of}
-use Rattle.synth_text.specs.Numbers.{number_in}
+use Rattle.byte_text.specs.Numerals.{number_in}
 use Rattle.synth_text.specs.Cuts.{cut, first_piece, without_front}
 use Rattle.synth_text.specs.Sizes.{size_of}
 use Rattle.synth_text.specs.IndexTexts.{index_of, loop_of, entries_of, indexes_of}

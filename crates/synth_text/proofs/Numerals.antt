@@ -4,21 +4,21 @@ use Rattle.std.specs.Str.{all_ascii_digits}
 use Rattle.std.specs.Str.Parse.{IsNumeral, digits_value}
 use Rattle.std.proofs.lemmas.Bool.{lt-ltb, ltb-true, le-leb, lt-leb, and_parts, false_from_ne_true}
 use Rattle.std.proofs.lemmas.Str.Parse.{IsNumeralModel, numerals_by_value, tells_all_ascii_digits}
-use Rattle.synth_text.specs.Numbers.{is_numeral, number_in, number_capped}
+use Rattle.byte_text.specs.Numerals.{is_decimal, number_in, number_capped}
 
 digits_test : IsNumeralModel (λ ds. all_ascii_digits ds ≡ true) (digits_value 10)
 digits_test = numerals_by_value (λ ds. all_ascii_digits ds ≡ true) tells_all_ascii_digits
 
-pub numeral_test : (text : List ℕ) → IsNumeral 10 text → is_numeral text ≡ true
+pub numeral_test : (text : List ℕ) → IsNumeral 10 text → is_decimal text ≡ true
 numeral_test text h = rw (lt-ltb 0 (length text) h.0, digits_test.from text h.1) refl
 
-numeral_from_test : (text : List ℕ) → is_numeral text ≡ true → IsNumeral 10 text
+numeral_from_test : (text : List ℕ) → is_decimal text ≡ true → IsNumeral 10 text
 numeral_from_test text e =
     let p = and_parts _ _ e in
     (ltb-true 0 (length text) p.0, digits_test.to text p.1)
 
-no_numeral_test : (text : List ℕ) → ¬ (IsNumeral 10 text) → is_numeral text ≡ false
-no_numeral_test text h = false_from_ne_true (is_numeral text) (λ e. h (numeral_from_test text e))
+no_numeral_test : (text : List ℕ) → ¬ (IsNumeral 10 text) → is_decimal text ≡ false
+no_numeral_test text h = false_from_ne_true (is_decimal text) (λ e. h (numeral_from_test text e))
 
 pub in_range : (low high n : ℕ) (text : List ℕ) → IsNumeral 10 text → digits_value 10 text ≡ n → low ≤ n → n ≤ high → number_in low high text ≡ Some n
 unfolding number_in
