@@ -3,11 +3,9 @@ use Rattle.std.proofs.Common.{◌≡◌, ℕ, Bool, true, false, nat_lt, List, [
 use Rattle.std.specs.Bool.{Decides}
 use Rattle.std.specs.Char.{digit_value}
 use Rattle.std.specs.List.{list_all}
-use Rattle.std.specs.Str.{all_ascii_digits}
 use Rattle.std.specs.Str.Parse.{IsNumeral, AllDigits, digits_value}
 use Rattle.std.proofs.lemmas.Bool.{and_right, cond-false, false_from_ne_true}
 use Rattle.std.proofs.lemmas.Bool.Decides.{Decides-and, Decides-ltb}
-use Rattle.std.proofs.lemmas.Str.Parse.{IsNumeralModel, numerals_by_value, tells_all_ascii_digits}
 use Rattle.byte_text.specs.Numerals.{is_numeral, is_decimal, number_where}
 
 -- ---- numerals in a base
@@ -21,11 +19,8 @@ Decides-is_numeral radix text = Decides-and (nat_lt 0 (length text)) (list_all (
 
 -- ---- decimal numerals
 
-decimal_digits : IsNumeralModel (λ digits. all_ascii_digits digits ≡ true) (digits_value 10)
-decimal_digits = numerals_by_value (λ digits. all_ascii_digits digits ≡ true) tells_all_ascii_digits
-
 pub Decides-is_decimal : (text : List ℕ) → Decides (is_decimal text) (IsNumeral 10 text)
-Decides-is_decimal text = Decides-and (nat_lt 0 (length text)) (all_ascii_digits text) (Decides-ltb 0 (length text)) (decimal_digits.to text, decimal_digits.from text)
+Decides-is_decimal text = Decides-is_numeral 10 text
 
 pub no_decimal : (text : List ℕ) → ¬ (IsNumeral 10 text) → is_decimal text ≡ false
 no_decimal text lacks = false_from_ne_true (is_decimal text) (λ found. lacks ((Decides-is_decimal text).0 found))

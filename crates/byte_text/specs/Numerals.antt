@@ -2,7 +2,6 @@
 use Rattle.std.specs.Prelude.{◌≡◌, ◌≤◌, ◌<◌, ◌+◌, ◌-◌, ◌^◌, ℕ, Bool, ◌&&◌, List, length, Option, Some, None, nat_lt, nat_le, min, if◌then◌else◌}
 use Rattle.std.specs.Char.{digit_value}
 use Rattle.std.specs.List.{list_all}
-use Rattle.std.specs.Str.{all_ascii_digits}
 use Rattle.std.specs.Str.Parse.{IsNumeral, digits_value}
 use Rattle.byte_text.specs.declared.numerals.Numeral.{Numeral}
 use Rattle.byte_text.specs.declared.numerals.Numeral.TheVariants.{Number, TooLarge, NotNumeral}
@@ -19,7 +18,7 @@ is_numeral radix text = nat_lt 0 (length text) && list_all (λ byte. nat_lt (dig
 
 -- the test for a decimal numeral
 abbrev pub is_decimal : List ℕ → Bool
-is_decimal text = nat_lt 0 (length text) && all_ascii_digits text
+is_decimal text = is_numeral 10 text
 
 -- the number of a decimal numeral, where it passes a test
 abbrev pub number_where : (ℕ → Bool) → List ℕ → Option ℕ
