@@ -18,11 +18,13 @@ use Rattle.cpu_set.specs.SetLaws.{numbers_below-same, numbers_where-has, has-pas
 use Rattle.cpu_set.specs.Bits.{word_of}
 use Rattle.cpu_set.specs.WordLaws.{word_of-below, is_bit-word_of}
 use Rattle.cpu_set.specs.Texts.{hex_digits, hex_text, word_text, places_down, highest}
-use Rattle.cpu_set.specs.Readings.{parts_of, leftmost, is_numeral, word_value, is_word, is_gap, hex_rule, hex_fault, word_at, is_in_hex, ReadsHex}
+use Rattle.byte_text.specs.Numerals.{is_numeral}
+use Rattle.byte_text.specs.NumeralLaws.{Decides-is_numeral}
+use Rattle.cpu_set.specs.Readings.{parts_of, leftmost, word_value, is_word, is_gap, hex_rule, hex_fault, word_at, is_in_hex, ReadsHex}
 use Rattle.cpu_set.proofs.Ends.{highest-among, highest-above}
 use Rattle.cpu_set.proofs.HexSteps.{word_at-past}
 use Rattle.cpu_set.proofs.HexText.{hex_digits-none, hex_digits-suc, length-hex_digits, join_first}
-use Rattle.cpu_set.proofs.PartLemmas.{Decides-is_numeral, leftmost-good}
+use Rattle.cpu_set.proofs.PartLemmas.{leftmost-good}
 
 -- ---- parts joined and split again
 

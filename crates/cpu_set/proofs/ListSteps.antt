@@ -11,13 +11,14 @@ use Rattle.std.proofs.lemmas.List.Sums.{position_or_len_is}
 use Rattle.byte_text.specs.Cuts.{IsCutAt}
 use Rattle.byte_text.specs.declared.numerals.Numeral.{Numeral}
 use Rattle.byte_text.specs.declared.numerals.Numeral.TheVariants.{Number, TooLarge as Over}
-use Rattle.byte_text.specs.Numerals.{Reads}
+use Rattle.byte_text.specs.Numerals.{Reads, is_numeral}
+use Rattle.byte_text.specs.NumeralLaws.{Decides-is_numeral}
 use Rattle.cpu_set.specs.declared.fault.SetFault.{SetFault}
 use Rattle.cpu_set.specs.declared.fault.SetFault.TheVariants.{Form, TooLarge, Infinite}
-use Rattle.cpu_set.specs.Readings.{is_numeral, is_range, range_fault, has_dash, low_end, high_end, low_value, high_value, is_open, list_rule, parts_of, items_of, leftmost, list_fault, covers, is_in_list, ReadsList}
+use Rattle.cpu_set.specs.Readings.{is_range, range_fault, has_dash, low_end, high_end, low_value, high_value, is_open, list_rule, parts_of, items_of, leftmost, list_fault, covers, is_in_list, ReadsList}
 use Rattle.cpu_set.specs.Sets.{has, numbers_where, IsSet}
 use Rattle.cpu_set.specs.SetLaws.{has-numbers_below, numbers_below-same, IsSet-numbers_where, numbers_where-has}
-use Rattle.cpu_set.proofs.PartLemmas.{parts_left, Decides-is_numeral, none_is, spanned, spanned-parts_of, leftmost-good}
+use Rattle.cpu_set.proofs.PartLemmas.{parts_left, none_is, spanned, spanned-parts_of, leftmost-good}
 use Rattle.cpu_set.proofs.SetSteps.{and_true, or_false, or_assoc}
 
 -- ---- numerals of an item

@@ -1,18 +1,14 @@
 -- The parts of a text between commas, one after another.
-use Rattle.std.proofs.Common.{◌≡◌, ℕ, suc, ◌+◌, ◌<◌, Bool, true, false, cond, ◌==◌, nat_lt, List, [], ◌∷◌, length, get_or, Option, Some, None, refl, sym, ap, ◌∙◌, arith}
-use Rattle.std.specs.Bool.{Decides}
+use Rattle.std.proofs.Common.{◌≡◌, ℕ, suc, ◌+◌, ◌<◌, Bool, true, false, cond, ◌==◌, List, [], ◌∷◌, length, get_or, Option, Some, None, refl, sym, ap, ◌∙◌, arith}
 use Rattle.std.specs.Borrow.{Bor}
-use Rattle.std.specs.Char.{digit_value}
-use Rattle.std.specs.List.{All, Contains, onto_first, count_by, list_all}
+use Rattle.std.specs.List.{All, Contains, onto_first, count_by}
 use Rattle.std.specs.Option.{option_or}
-use Rattle.std.specs.Str.Parse.{IsNumeral, AllDigits}
 use Rattle.std.proofs.lemmas.Bool.{ne_eqb}
-use Rattle.std.proofs.lemmas.Bool.Decides.{Decides-and, Decides-ltb}
 use Rattle.std.proofs.lemmas.List.Elements.{All-from_get_or, Contains-get_or}
 use Rattle.std.proofs.lemmas.List.Splits.{slice_split_none, slice_split_at, length-slice_split}
 use Rattle.byte_text.specs.Cuts.{IsCutAt, IsFirstPart}
 use Rattle.cpu_set.specs.declared.fault.SetFault.{SetFault}
-use Rattle.cpu_set.specs.Readings.{parts_of, Rule, leftmost, is_numeral}
+use Rattle.cpu_set.specs.Readings.{parts_of, Rule, leftmost}
 
 -- no byte of a text that hasn't the byte is that byte
 pub none_is : (byte : ℕ) (text : List ℕ) → ¬ (Contains text byte) → All (λ other. (other == byte) ≡ false) text
@@ -65,12 +61,3 @@ leftmost-good rule at part parts good = ap (λ fault. option_or fault (leftmost 
 
 pub leftmost-bad : (rule : Rule) (at : ℕ) (part : List ℕ) (parts : List (List ℕ)) (fault : SetFault) → rule at (length parts) part ≡ Some fault → leftmost rule at (part ∷ parts) ≡ Some fault
 leftmost-bad rule at part parts fault bad = ap (λ found. option_or found (leftmost rule (at + length part + 1) parts)) bad
-
--- ---- numerals
-
-all_digits : (radix : ℕ) (text : List ℕ) → Decides (list_all (λ byte. nat_lt (digit_value byte) radix) text) (AllDigits radix text)
-all_digits radix [] = (λ _. tt, λ _. refl)
-all_digits radix (byte ∷ bytes) = Decides-and (nat_lt (digit_value byte) radix) (list_all (λ b. nat_lt (digit_value b) radix) bytes) (Decides-ltb (digit_value byte) radix) (all_digits radix bytes)
-
-pub Decides-is_numeral : (radix : ℕ) (text : List ℕ) → Decides (is_numeral radix text) (IsNumeral radix text)
-Decides-is_numeral radix text = Decides-and (nat_lt 0 (length text)) (list_all (λ byte. nat_lt (digit_value byte) radix) text) (Decides-ltb 0 (length text)) (all_digits radix text)

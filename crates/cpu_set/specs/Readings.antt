@@ -1,10 +1,10 @@
 -- What the hexadecimal and the list text of a set mean, and which fault a text has. 44 is a comma, 45 a dash.
 use Rattle.std.specs.Prelude.{ℕ, ◌≡◌, ◌+◌, ◌/◌, ◌%◌, Bool, not, ◌&&◌, ◌||◌, ◌==◌, nat_eq, nat_lt, nat_le, if◌then◌else◌, List, [], ◌∷◌, length, drop, codes, Option, Some, None}
-use Rattle.std.specs.Char.{digit_value}
 use Rattle.std.specs.Int.{bit_at}
-use Rattle.std.specs.List.{list_any, list_all, starts_with, slice_split, before_first, after_first}
+use Rattle.std.specs.List.{list_any, starts_with, slice_split, before_first, after_first}
 use Rattle.std.specs.Option.{option_or}
 use Rattle.std.specs.Str.Parse.{digits_value}
+use Rattle.byte_text.specs.Numerals.{is_numeral}
 use Rattle.cpu_set.specs.declared.fault.SetFault.{SetFault}
 use Rattle.cpu_set.specs.declared.fault.SetFault.TheVariants.{Form, TooLarge, Infinite}
 use Rattle.cpu_set.specs.Sets.{set_limit, numbers_where}
@@ -24,10 +24,6 @@ leftmost rule at (part ∷ parts) =
 
 abbrev pub parts_of : List ℕ → List (List ℕ)
 parts_of text = slice_split (λ byte. byte == 44) text
-
--- one digit or more of the base, and nothing else
-abbrev pub is_numeral : ℕ → List ℕ → Bool
-is_numeral radix text = nat_lt 0 (length text) && list_all (λ byte. nat_lt (digit_value byte) radix) text
 
 -- ---- hexadecimal
 

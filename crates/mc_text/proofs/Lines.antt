@@ -4,7 +4,8 @@ use Rattle.std.specs.List.{list_all, AllByRecursion}
 use Rattle.std.specs.Str.{bytes_eq}
 use Rattle.mc_text.specs.declared.command.How.{How}
 use Rattle.mc_text.specs.declared.command.How.TheVariants.{Set}
-use Rattle.mc_text.specs.Field.{is_key, number_below, exptime_of, noreply}
+use Rattle.byte_text.specs.Numerals.{number_below}
+use Rattle.mc_text.specs.Field.{is_key, exptime_of, noreply}
 use Rattle.mc_text.specs.Line.{Header, Line, Storage, Retrieval, IsStorage, IsRetrieval, Says, storage_name}
 use Rattle.mc_text.specs.Reading.{Fields, quiet_of, fields_of, header_of, storage_of, retrieval_of, said_by, only_if}
 use Rattle.std.proofs.lemmas.Slice.Eq.{bytes_eq-Decides}

@@ -1,43 +1,26 @@
 -- Numbers with a limit.
-use Rattle.std.proofs.Common.{◌≡◌, ℕ, ◌+◌, ◌<◌, ◌≤◌, List, length, true, ◌&&◌, ltb, Option, Some, None, sym, ap, arith}
-use Rattle.std.specs.Str.{all_ascii_digits}
+use Rattle.std.proofs.Common.{◌≡◌, ℕ, ◌+◌, ◌<◌, ◌≤◌, nat_lt, List, Option, Some, None, sym, arith}
 use Rattle.std.specs.Str.Parse.{IsNumeral, digits_value}
-use Rattle.std.proofs.lemmas.Bool.Decides.{nat_tests}
-use Rattle.std.proofs.lemmas.Bool.{ltb-true, le-ltb, and_left, and_right, and_parts, false_from_ne_true, cond-false}
-use Rattle.std.proofs.lemmas.Str.Parse.{IsNumeralModel, numerals_by_value, tells_all_ascii_digits}
-use Rattle.byte_text.specs.Numerals.{Reads}
+use Rattle.std.proofs.lemmas.Bool.{lt-ltb, le-ltb}
+use Rattle.byte_text.specs.Numerals.{Reads, number_below}
+use Rattle.byte_text.specs.NumeralLaws.{number_passes, number_fails, number_lacks}
 use Rattle.byte_text.specs.declared.numerals.Numeral.{Numeral}
 use Rattle.byte_text.specs.declared.numerals.Numeral.TheVariants.{Number, TooLarge, NotNumeral}
-use Rattle.mc_text.specs.Field.{number_below}
-
--- the test for decimal digits is right
-decimal_digits : IsNumeralModel (λ ds. all_ascii_digits ds ≡ true) (digits_value 10)
-decimal_digits = numerals_by_value (λ ds. all_ascii_digits ds ≡ true) tells_all_ascii_digits
 
 -- a numeral of a number below the limit
 pub number_below_is : (limit : ℕ) (word : List ℕ) (n : ℕ) → IsNumeral 10 word → digits_value 10 word ≡ n → n < limit → number_below limit word ≡ Some n
 unfolding number_below
-number_below_is limit word n numeral value below =
-    let digits : all_ascii_digits word ≡ true = decimal_digits.from word numeral.1 in
-    let some : ltb 0 (length word) ≡ true = grind (arith, nat_tests, numeral.0) in
-    let small : ltb (digits_value 10 word) limit ≡ true = grind (arith, nat_tests) in
-    rw (some, digits, small) (ap Some value)
+number_below_is limit word n numeral value below = number_passes (λ m. nat_lt m limit) n word numeral value (lt-ltb n limit below)
 
 -- a numeral of a number from the limit on
 pub number_below_over : (limit : ℕ) (word : List ℕ) → limit ≤ digits_value 10 word → number_below limit word ≡ None
 unfolding number_below
-number_below_over limit word over =
-    cond-false _ (Some (digits_value 10 word)) None (and_right (ltb 0 (length word) && all_ascii_digits word) (ltb (digits_value 10 word) limit) (le-ltb (digits_value 10 word) limit over))
+number_below_over limit word over = number_fails (λ m. nat_lt m limit) word (le-ltb (digits_value 10 word) limit over)
 
 -- no numeral
 pub number_below_none : (limit : ℕ) (word : List ℕ) → ¬ (IsNumeral 10 word) → number_below limit word ≡ None
 unfolding number_below
-number_below_none limit word wrong =
-    let is : (ltb 0 (length word) && all_ascii_digits word) ≡ true → ⊥ =
-    λ e. let parts = and_parts (ltb 0 (length word)) (all_ascii_digits word) e in
-    wrong (ltb-true 0 (length word) parts.0, decimal_digits.to word parts.1) in
-    cond-false _ (Some (digits_value 10 word)) None
-    (and_left (ltb 0 (length word) && all_ascii_digits word) (ltb (digits_value 10 word) limit) (false_from_ne_true _ is))
+number_below_none limit word wrong = number_lacks (λ m. nat_lt m limit) word wrong
 
 -- the number that a reader's answer has
 abbrev pub number_in : Numeral → Option ℕ

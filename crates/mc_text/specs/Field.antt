@@ -1,17 +1,11 @@
 -- The words of a line that carry a value. By memcached's protocol.txt, with the limits of this project's profile.
-use Rattle.std.specs.Prelude.{ℕ, ◌+◌, ◌^◌, ℤ, pos, neg_ℤ, Bool, true, false, not, ◌&&◌, List, [], ◌∷◌, length, Option, Some, None, option_map, codes, nat_lt, nat_le, ◌==◌, if◌then◌else◌}
+use Rattle.std.specs.Prelude.{ℕ, ◌+◌, ◌^◌, ℤ, pos, neg_ℤ, Bool, true, false, not, ◌&&◌, List, [], ◌∷◌, length, Option, None, option_map, codes, nat_lt, nat_le, ◌==◌, if◌then◌else◌}
 use Rattle.std.specs.List.{list_all}
-use Rattle.std.specs.Str.{all_ascii_digits}
-use Rattle.std.specs.Str.Parse.{digits_value}
+use Rattle.byte_text.specs.Numerals.{number_below}
 
 -- a key has at most 250 bytes, none of them a space, a control character or 127
 abbrev pub is_key : List ℕ → Bool
 is_key word = nat_le (length word) 250 && list_all (λ byte. nat_lt 32 byte && not (byte == 127)) word
-
--- a decimal number below a limit: one or more digits, leading zeros allowed, no sign
-unfoldable pub number_below : ℕ → List ℕ → Option ℕ
-number_below limit word =
-    if (nat_lt 0 (length word) && all_ascii_digits word) && nat_lt (digits_value 10 word) limit then Some (digits_value 10 word) else None
 
 -- an expiry time: a decimal number with an optional `-`, whose value has at most 32 bits with its sign
 abbrev pub exptime_of : List ℕ → Option ℤ

@@ -4,7 +4,8 @@ use Rattle.std.specs.List.{AllByRecursion}
 use Rattle.byte_text.specs.Words.{words}
 use Rattle.mc_text.specs.declared.command.How.{How}
 use Rattle.mc_text.specs.declared.command.How.TheVariants.{Set}
-use Rattle.mc_text.specs.Field.{is_key, number_below, exptime_of, noreply}
+use Rattle.byte_text.specs.Numerals.{number_below}
+use Rattle.mc_text.specs.Field.{is_key, exptime_of, noreply}
 
 -- a text without a `\r` at its end
 abbrev pub without_return : List ℕ → List ℕ

@@ -6,7 +6,8 @@ use Rattle.std.specs.Str.{bytes_eq}
 use Rattle.mc_text.specs.declared.command.How.{How}
 use Rattle.mc_text.specs.declared.command.How.TheVariants.{Set}
 use Rattle.mc_text.specs.Request.{Request, Store, Get, WholeCommand}
-use Rattle.mc_text.specs.Field.{is_key, number_below, exptime_of}
+use Rattle.byte_text.specs.Numerals.{number_below}
+use Rattle.mc_text.specs.Field.{is_key, exptime_of}
 use Rattle.mc_text.specs.Line.{words_of_line, Header, Line, Storage, Retrieval}
 use Rattle.mc_text.specs.Begins.{value_limit, storing}
 

@@ -1,6 +1,7 @@
 // The words of a line that carry a value.
 ghost use Rattle.std.specs.Prelude.{◌≡◌, ◌+◌, ◌^◌, ◌≤◌, IfSome};
-ghost use Rattle.mc_text.specs.Field.{is_key, number_below, exptime_of};
+ghost use Rattle.byte_text.specs.Numerals.{number_below};
+ghost use Rattle.mc_text.specs.Field.{is_key, exptime_of};
 
 use byte_text::{Numeral, read_numeral};
 

@@ -1,8 +1,8 @@
 -- Reading the words one after the other comes to what they say.
 use Rattle.std.proofs.Common.{◌≡◌, ℕ, Bool, true, false, ◌&&◌, cond, List, [], ◌∷◌, ◌++◌, Option, Some, None, Result, Ok, Err, refl, sym, ap, ◌∙◌, inl, inr}
 use Rattle.std.specs.Prelude.{◌==◌, is_some, not, option_map}
-use Rattle.std.specs.Option.{option_and_then, option_or}
-use Rattle.std.specs.List.{slice_split, list_any}
+use Rattle.std.specs.Option.{option_or}
+use Rattle.std.specs.List.{slice_split}
 use Rattle.std.proofs.lemmas.Bool.{cases_Bool}
 use Rattle.std.proofs.lemmas.List.{append-nil, append_assoc}
 use Rattle.synth_text.specs.declared.kind.Kind.{Kind}
@@ -18,8 +18,8 @@ use Rattle.synth_text.specs.Items.{is_white}
 use Rattle.synth_text.specs.Cuts.{cut}
 use Rattle.synth_text.specs.Flaws.{◌>>=◌, or_flaw}
 use Rattle.synth_text.specs.Sizes.{size_of}
-use Rattle.synth_text.specs.IndexTexts.{index_of, loop_of, entries_of, indexes_of}
-use Rattle.synth_text.specs.Attributes.{key_of, takes, is_empty, words_behind, words_of, entry_at, entry_in, same_key, value_if, value_of, indexes_or_none, said_by, flaw_unless, flaw_in_value, flaw_in_word, first_flaw, unless_flawed, attributes_in, no_attributes}
+use Rattle.synth_text.specs.IndexTexts.{indexes_of}
+use Rattle.synth_text.specs.Attributes.{key_of, takes, is_empty, words_behind, words_of, entry_at, entry_in, same_key, value_if, value_of, said_by, flaw_unless, flaw_in_value, flaw_in_word, first_flaw, unless_flawed, attributes_in, no_attributes}
 use Rattle.synth_text.specs.AttributeSteps.{are_given, has, with_value, with_word, with_next, with_words, with_first}
 use Rattle.synth_text.proofs.Bound.{some_is}
 

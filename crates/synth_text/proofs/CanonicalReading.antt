@@ -21,11 +21,11 @@ use Rattle.synth_text.specs.declared.parts.Part.{Part}
 use Rattle.synth_text.specs.Kinds.{is_cache, same_kind, long_name_of}
 use Rattle.synth_text.specs.Items.{is_white}
 use Rattle.synth_text.specs.Names.{kind_named, name_of}
-use Rattle.synth_text.specs.Numbers.{number_in}
+use Rattle.byte_text.specs.Numerals.{number_in}
 use Rattle.synth_text.specs.Cuts.{cut, first_piece, without_front}
 use Rattle.synth_text.specs.Sizes.{size_of}
 use Rattle.synth_text.specs.IndexTexts.{index_of, loop_of, entries_of, indexes_of}
-use Rattle.synth_text.specs.Attributes.{key_of, takes, no_attributes, attributes_in, enclosed, attributes_of}
+use Rattle.synth_text.specs.Attributes.{key_of, takes, no_attributes, enclosed, attributes_of}
 use Rattle.synth_text.specs.AttributeSteps.{with_word, with_next, with_first}
 use Rattle.synth_text.specs.Parts.{level_name, head_of, level_part, level_of, memory_in_brackets, memory_of}
 use Rattle.synth_text.specs.Canonical.{loop_text, size_texts, indexes_text, indexes_texts, in_parentheses, level_text, memory_text}

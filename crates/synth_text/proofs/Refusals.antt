@@ -20,7 +20,7 @@ use Rattle.synth_text.specs.declared.fault.SynthFault.{SynthFault}
 use Rattle.synth_text.specs.declared.fault.SynthFault.TheVariants as faults
 use Rattle.synth_text.specs.Items.{is_white, body_of}
 use Rattle.synth_text.specs.Names.{name_of}
-use Rattle.synth_text.specs.Numbers.{number_in}
+use Rattle.byte_text.specs.Numerals.{number_in}
 use Rattle.synth_text.specs.Cuts.{cut, first_piece, without_front}
 use Rattle.synth_text.specs.Flaws.{◌>>=◌, or_flaw, fault_at, placed}
 use Rattle.synth_text.specs.Sizes.{size_of}

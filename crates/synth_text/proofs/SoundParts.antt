@@ -23,7 +23,7 @@ use Rattle.synth_text.specs.declared.fault.Flaw.TheVariants as flaws
 use Rattle.synth_text.specs.Kinds.{is_cache}
 use Rattle.synth_text.specs.Items.{is_white}
 use Rattle.synth_text.specs.Names.{name_of}
-use Rattle.synth_text.specs.Numbers.{is_numeral, number_in}
+use Rattle.byte_text.specs.Numerals.{is_decimal, number_in}
 use Rattle.synth_text.specs.Cuts.{cut, first_piece, without_front}
 use Rattle.synth_text.specs.Flaws.{◌>>=◌, or_flaw}
 use Rattle.synth_text.specs.Sizes.{small_size, size_of}
@@ -42,7 +42,7 @@ pub number_in-bounds : (low high : ℕ) (text : List ℕ) (n : ℕ) → number_i
 unfolding number_in
 number_in-bounds low high text n e =
     let g = guard_some _ _ n e in
-    let tests = (and_parts (is_numeral text) _ g.0).1 in
+    let tests = (and_parts (is_decimal text) _ g.0).1 in
     let bounds = and_parts (nat_le low (digits_value 10 text)) (nat_le (digits_value 10 text) high) tests in
     (rw (← g.1) (leb-true _ _ bounds.0), rw (← g.1) (leb-true _ _ bounds.1))
 

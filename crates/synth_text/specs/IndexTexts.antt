@@ -6,7 +6,7 @@ use Rattle.synth_text.specs.declared.description.Loop.{Loop}
 use Rattle.synth_text.specs.declared.description.Indexes.{Indexes}
 use Rattle.synth_text.specs.declared.description.Indexes.TheVariants as indexes
 use Rattle.synth_text.specs.Cuts.{cut}
-use Rattle.synth_text.specs.Numbers.{number_in}
+use Rattle.byte_text.specs.Numerals.{number_in}
 
 -- one number of a list
 unfoldable pub index_of : List ℕ → Option ℕ

@@ -1,6 +1,5 @@
 pub mod Kinds
 pub mod Names
-pub mod Numbers
 pub mod Tables
 pub mod Items
 pub mod Views

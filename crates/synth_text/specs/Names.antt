@@ -5,7 +5,7 @@ use Rattle.synth_text.specs.declared.kind.Kind.{Kind}
 use Rattle.synth_text.specs.declared.kind.Kind.TheVariants.{Machine, Package, Die, Group, L5, L4, L3, L2, L1d, L1i, Core, Pu, NumaNode}
 use Rattle.synth_text.specs.declared.name.Name.{Name}
 use Rattle.synth_text.specs.declared.name.Name.TheVariants as names
-use Rattle.synth_text.specs.Numbers.{number_capped}
+use Rattle.byte_text.specs.Numerals.{number_capped}
 use Rattle.synth_text.specs.Tables.{entry_of}
 
 -- the names, in lower case

@@ -4,7 +4,7 @@ use Rattle.std.specs.Option.{option_and_then}
 use Rattle.std.specs.List.{take_while}
 use Rattle.std.specs.Char.{is_ascii_digit}
 use Rattle.synth_text.specs.Cuts.{without_front}
-use Rattle.synth_text.specs.Numbers.{number_in}
+use Rattle.byte_text.specs.Numerals.{number_in}
 use Rattle.synth_text.specs.Tables.{entry_of}
 
 -- the suffixes, in lower case, with the bytes that each stands for

@@ -1,6 +1,6 @@
 // Decimal numbers.
 ghost use Rattle.std.specs.Prelude.{◌≡◌, ◌≤◌, IfSome};
-ghost use Rattle.synth_text.specs.Numbers.{number_in, number_capped};
+ghost use Rattle.byte_text.specs.Numerals.{number_in, number_capped};
 
 use byte_text::{Numeral, read_numeral};
 
