@@ -1,4 +1,5 @@
--- What the hexadecimal and the list text of a set mean, and which fault a text has. 44 is a comma, 45 a dash.
+-- What the hexadecimal and the list text of a set mean, and which fault a text has. The forms are those of hwloc 2's manual, "The
+-- bitmap API"; the limit of 4,096, the digits of a word, the faults and their order are this project's profile. 44 is a comma, 45 a dash.
 use Rattle.std.specs.Prelude.{ℕ, ◌≡◌, ◌+◌, ◌/◌, ◌%◌, Bool, not, ◌&&◌, ◌||◌, ◌==◌, nat_eq, nat_lt, nat_le, if◌then◌else◌, List, [], ◌∷◌, length, drop, codes, Option, Some, None}
 use Rattle.std.specs.Int.{bit_at}
 use Rattle.std.specs.List.{list_any, starts_with, slice_split, before_first, after_first}
@@ -25,7 +26,7 @@ leftmost rule at (part ∷ parts) =
 abbrev pub parts_of : List ℕ → List (List ℕ)
 parts_of text = slice_split (λ byte. byte == 44) text
 
--- ---- hexadecimal
+-- ---- hexadecimal (`hwloc_bitmap_sscanf`)
 
 -- a word without the `0x` or `0X` that it may begin with
 abbrev pub without_prefix : List ℕ → List ℕ
@@ -71,7 +72,7 @@ pub record ReadsHex (text set : List ℕ) : Type 0 where
 abbrev pub HexRefused : List ℕ → SetFault → Type 0
 HexRefused text fault = hex_fault text ≡ Some fault
 
--- ---- lists
+-- ---- lists (`hwloc_bitmap_list_sscanf`)
 
 abbrev pub has_dash : List ℕ → Bool
 has_dash item = list_any (λ byte. byte == 45) item

@@ -1,4 +1,5 @@
--- The printed texts of a set. 44 is a comma, 45 a dash, and `0x` stands before hexadecimal digits.
+-- The printed texts of a set: those of hwloc 2's manual, "The bitmap API", in this project's profile, which is of finite sets.
+-- 44 is a comma, 45 a dash, and `0x` stands before hexadecimal digits.
 use Rattle.std.specs.Prelude.{ℕ, ◌+◌, ◌/◌, ◌%◌, suc, zero, if◌then◌else◌, ◌==◌, nat_le, List, [], ◌∷◌, ◌++◌, map, codes, None, unwrap_or}
 use Rattle.std.specs.Char.{digit_char}
 use Rattle.std.specs.Fmt.{decimal}
@@ -25,7 +26,7 @@ abbrev pub places_down : ℕ → List ℕ
 places_down zero = []
 places_down (suc place) = place ∷ places_down place
 
--- hexadecimal, in this project's profile of hwloc's text: the words from the highest that isn't zero down to word 0
+-- hexadecimal (`hwloc_bitmap_snprintf`): the words from the highest that isn't zero down to word 0
 abbrev pub hex_text : List ℕ → List ℕ
 hex_text set =
     join_with_byte 44 (map (λ place. word_text place (word_of set place)) (places_down (highest set / 32 + 1)))
@@ -50,7 +51,7 @@ numbers_from first numbers = filter (λ number. nat_le first number) numbers
 abbrev pub run_text : ℕ × ℕ → List ℕ
 run_text run = if run.0 == run.1 then decimal run.0 else decimal run.0 ++ 45 ∷ decimal run.1
 
--- the list form of hwloc: the runs, ascending
+-- the list form (`hwloc_bitmap_list_snprintf`): the runs, ascending
 abbrev pub list_text : List ℕ → List ℕ
 list_text set = join_with_byte 44 (map run_text (runs_of set))
 
@@ -58,6 +59,6 @@ list_text set = join_with_byte 44 (map run_text (runs_of set))
 abbrev pub hex_number : ℕ → List ℕ
 hex_number number = if number == 0 then codes "0" else map digit_char (digits_of 16 number)
 
--- the taskset form of hwloc: the whole set as one number in base 16
+-- the taskset form (`hwloc_bitmap_taskset_snprintf`): the whole set as one number in base 16
 abbrev pub taskset_text : List ℕ → List ℕ
 taskset_text set = codes "0x" ++ hex_number (mask_of set)

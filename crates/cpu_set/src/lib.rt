@@ -17,7 +17,7 @@ pub use laws::{
     hex_is_read_back, hex_is_read_or_refused, list_is_read_back, list_is_read_or_refused,
     runs_are_maximal, sets_are_fixed_by_members, sets_combine_by_membership, sets_have_what_passes,
 };
-pub use set::CpuSet;
+pub use set::{CpuSet, LIMIT};
 
 #[cfg(test)]
 mod tests;

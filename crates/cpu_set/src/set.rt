@@ -14,8 +14,8 @@ pub(crate) const WORDS: usize = 128;
 // How many numbers a word has.
 pub(crate) const WIDTH: u32 = u32::BITS;
 
-// The numbers of a set are below this.
-pub(crate) const LIMIT: u32 = 4096;
+/// The numbers of a set are below this.
+pub const LIMIT: u32 = 4096;
 
 /// A set of numbers below 4,096, which contracts see as the ascending list of its numbers.
 #[derive(Clone, Copy)]

@@ -24,10 +24,16 @@ fn expect_printed(
     set: &CpuSet,
     wanted: &Texts,
 ) -> Result<(), Fail> {
-    assert_eq!(rt; set.write_hex(alloc)?.as_slice(), wanted.hex);
-    assert_eq!(rt; set.write_list(alloc)?.as_slice(), wanted.list);
-    assert_eq!(rt; set.write_taskset(alloc)?.as_slice(), wanted.taskset);
+    expect_text(rt, set.write_hex(alloc)?, wanted.hex);
+    expect_text(rt, set.write_list(alloc)?, wanted.list);
+    expect_text(rt, set.write_taskset(alloc)?, wanted.taskset);
     Ok(())
+}
+
+// The text is the wanted one, and no room was taken beyond it.
+fn expect_text(rt: &impl Abort, text: Vec<u8>, wanted: &[u8]) {
+    assert_eq!(rt; text.as_slice(), wanted);
+    assert_eq!(rt; text.capacity(), wanted.len());
 }
 
 fn expect_hex(rt: &impl Abort, alloc: Global, cases: &[(&[u8], Texts)]) -> Result<(), Fail> {
@@ -84,6 +90,7 @@ fn one_word_is_printed_in_three_forms(rt: HostRuntime) -> Result<(), Fail> {
             (b"00000000", printed(b"0x0", b"", b"0x0")),
             (b"0x0,,0X00", printed(b"0x0", b"", b"0x0")),
             (b"1", printed(b"0x00000001", b"0", b"0x1")),
+            (b"10", printed(b"0x00000010", b"4", b"0x10")),
             (b"00000001", printed(b"0x00000001", b"0", b"0x1")),
             (
                 b"0XfFfFfFfF",
@@ -424,5 +431,41 @@ fn long_ends_are_compared_as_numbers(rt: HostRuntime) -> Result<(), Fail> {
         text.extend_from_slice(&with_digits(rt.alloc(), b"", b'9', high)?)?;
         assert_eq!(rt; CpuSet::read_list(&text).err(), Some(fault));
     }
+    Ok(())
+}
+
+// Each second number, which makes the longest list.
+#[test]
+fn prints_the_longest_list(rt: HostRuntime) -> Result<(), Fail> {
+    let mut set = CpuSet::empty();
+    for half in 0..2048 {
+        set.with(2 * half);
+    }
+    assert_eq!(rt; set.weight(), 2048);
+    assert_eq!(rt; set.first(), Some(0));
+    let list = set.write_list(rt.alloc())?;
+    assert_eq!(rt; list.len(), 9684);
+    assert!(rt; list.starts_with(b"0,2,4,6,8,10,12,"));
+    assert!(rt; list.ends_with(b",4090,4092,4094"));
+    assert!(rt;
+        CpuSet::read_list(&list)
+            .ok()
+            .is_some_and(|read| read.weight() == 2048)
+    );
+    Ok(())
+}
+
+#[test]
+fn combines_sets(rt: HostRuntime) -> Result<(), Fail> {
+    let one = CpuSet::read_list(b"0,31-33,4095").ok().ok_or("refused")?;
+    let other = CpuSet::read_list(b"1,32,4095").ok().ok_or("refused")?;
+    let alloc = rt.alloc();
+    expect_text(&rt, one.union(&other).write_list(alloc)?, b"0-1,31-33,4095");
+    expect_text(&rt, one.minus(&other).write_list(alloc)?, b"0,31,33");
+    expect_text(&rt, one.meet(&other).write_list(alloc)?, b"32,4095");
+    expect_text(&rt, one.xor(&other).write_list(alloc)?, b"0-1,31,33");
+    assert!(rt; one.meet(&other).inside(&one) && !one.inside(&other));
+    assert!(rt; one.has(4095) && !one.has(34) && !one.has(4096));
+    assert_eq!(rt; CpuSet::empty().first(), None);
     Ok(())
 }

@@ -1,4 +1,4 @@
-// Examples from outside the definitions: memcached's answers to these lines, within the profile's limits.
+// Examples from outside the definitions, by memcached's protocol.txt and this project's profile.
 use crate::{Command, Commands, count, unbuilt};
 use std::test::Fail;
 

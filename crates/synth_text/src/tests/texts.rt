@@ -11,6 +11,8 @@ const CANONICAL: &[&str] = &[
     "PU:3(indexes=7)",
     "PU:1(indexes=4294967295,0)",
     "PU:4(indexes=1*4)",
+    "PU:8(indexes=0,4,1,5,2,6,3,7)",
+    "Core:1 Package:1 [NUMANode(memory=1)] PU:2",
     "PU:8(indexes=2*4:1*2)",
     "PU:1(indexes=4294967295*4294967295:1*1:3*2)",
     "PU:4096",
@@ -54,7 +56,9 @@ const NAMES: &[&str] = &[
 // nodes: a Group level and memory.
 const LEVELS: &[&str] = &[
     "3 => PU:3",
+    "PU:010 => PU:10",
     "2 3 => Core:2 PU:3",
+    "2 3 2 => Group:2 Core:3 PU:2",
     "2 3 2 07 => Group:2 Group:3 Core:2 PU:7",
     "2 PU:3 => Core:2 PU:3",
     "2 Core:1 1 => Group:2 Core:1 PU:1",
