@@ -1,5 +1,5 @@
 -- The numbers of a lock's passes at each kind of step.
-use Rattle.std.proofs.Common.{◌≡◌, ◌≢◌, ℕ, ◌+◌, ◌-◌, ◌<◌, ◌≤◌, true, false, cond, ◌&&◌, List, [], ◌∷◌, ◌++◌, length, set, nat_le, nat_lt, ◌==◌, refl, sym, arith, length-append}
+use Rattle.std.proofs.Common.{◌≡◌, ◌≢◌, ℕ, ◌+◌, ◌-◌, ◌<◌, ◌≤◌, true, false, cond, ◌&&◌, List, [], ◌∷◌, ◌++◌, length, set, nat_le, nat_lt, ◌==◌, eq-eqb, refl, ap, sym, arith, length-append}
 use Rattle.std.specs.List.{sum_by, count_by}
 use Rattle.std.proofs.lemmas.List.Sums.{sum_by-cons, sum_by-append, sum_by_push}
 use Rattle.std.proofs.lemmas.Bool.Decides.{nat_tests}
@@ -32,6 +32,17 @@ numbers_unspent v e = rw e refl
 
 pub stands_unspent : (k : ℕ) (v : View) → v.spent ≡ false → stands_in k v ≡ hits v.number k + span v.from v.to k + count_by (λ x. x == k) v.joined
 stands_unspent k v e = rw e refl
+
+-- a plain seat has one number, and one that takes it over has one more
+pub plain_size : (v : View) → IsPlain v → numbers_of v ≡ 1
+plain_size v p = let n = numbers_unspent v p.unspent in let l : length v.joined ≡ 0 = ap length p.alone in omega (arith, n, l, p.split)
+
+pub joined_size : (v w : View) → v.spent ≡ false → IsPlain w → numbers_of (joined_view v w) ≡ numbers_of v + 1
+joined_size v w live p =
+    let n = numbers_unspent v live in
+    let m = numbers_unspent (joined_view v w) live in
+    let l : length w.joined ≡ 0 = ap length p.alone in
+    omega (arith, n, m, l, length-append w.joined v.joined)
 
 -- the first seat alone
 pub numbers_first : (n : ℕ) (tag : Tag) → 0 < n → HasNumbers n (first_view n tag ∷ [])
@@ -98,6 +109,18 @@ numbers_join n views id v other w at at' live plain had = record {
       let h : sum_by (stands_in k) views ≡ d = had.once k in
       let goal : sum_by (stands_in k) (set (set views id (joined_view v w)) other spent_view) ≡ d = omega (arith, s, t, a, b, c, l, m, z, h) in goal;
 }
+
+-- two seats that are not spent do not have one number
+pub one_number : (n : ℕ) (views : List View) → HasNumbers n views → (id j : ℕ) (v u : View) → get_elem? views id ≡ some v → get_elem? views j ≡ some u → v.spent ≡ false → u.spent ≡ false → j ≢ id → ¬ (u.number ≡ v.number)
+one_number n views had id j v u at at' live live' ne e =
+    let p = parts_le (stands_in v.number) views id j v u (λ q. ne (sym q)) at at' in
+    let a : (v.number == v.number) ≡ true = eq-eqb v.number v.number refl in
+    let b : (u.number == v.number) ≡ true = eq-eqb u.number v.number e in
+    let x : 1 ≤ stands_in v.number v = rw (live, a) (omega arith) in
+    let y : 1 ≤ stands_in v.number u = rw (live', b) (omega arith) in
+    let c = had.once v.number in
+    let d : cond (nat_lt v.number n) 1 0 ≤ 1 = elim (nat_lt v.number n) as (λ b. cond b 1 0 ≤ 1) [ true ↦ omega arith | false ↦ omega arith ] in
+    omega (arith, p, x, y, c, d)
 
 -- beside a seat that has all numbers each other one is spent
 pub others_spent : (n : ℕ) (views : List View) (id : ℕ) (v : View) (j : ℕ) (u : View) → HasNumbers n views → get_elem? views id ≡ some v → numbers_of v ≡ n → j ≢ id → get_elem? views j ≡ some u → u.spent ≡ true

@@ -39,6 +39,7 @@ is_queued _ = false
 abbrev pub place_of : Tag → View → Place
 place_of name v = record { lock = name; tag = v.tag.tag; number = v.number }
 
+-- `preceded` is for MCS and Hemlock, whose predecessors are never 0: a predecessor of CLH may be the node 0, and a Ticket lock has none
 abbrev pub waiting_of : Tag → View → Waiting
 waiting_of name v = record { place = place_of name v; loads = v.loads; ready = v.ready; entered = is_queued v.phase; preceded = not (v.predecessor == 0); followed = v.followed }
 

@@ -10,16 +10,23 @@ use lock_rules::Cargo;
 pub struct Parcel {
     pub count: u64,
     pub parked: bool,
+    /// How often the holders of `hold_by_four` parked it.
+    pub parkings: u64,
+    /// How often they found it parked.
+    pub unparkings: u64,
 }
 
 impl Parcel {
-    /// A parcel with the number 0.
-    pub fn new() -> Parcel
-        ensures { (result.count ≡ 0) × (result.parked ≡ false) }
+    /// A parcel with this number that nobody has parked.
+    pub fn new(count: u64) -> Parcel
+        ensures number { result.count ≡ count }
+        ensures unparked { (result.parked ≡ false) × (result.parkings ≡ 0) × (result.unparkings ≡ 0) }
     {
         Parcel {
-            count: 0,
+            count,
             parked: false,
+            parkings: 0,
+            unparkings: 0,
         }
     }
 }

@@ -298,16 +298,7 @@ pub fn carry_out<B: Basic<Parcel> + Drop>(
 ) -> Option<Outcome>
     ensures { IfSome result (λ o. vec_len o.told ≡ length moves.now) }
 {
-    let (lock, mut passes) = B::make(
-        alloc,
-        recipe,
-        2,
-        Parcel {
-            count: START,
-            parked: false,
-        },
-    )
-    .ok()?;
+    let (lock, mut passes) = B::make(alloc, recipe, 2, Parcel::new(START)).ok()?;
     let second = Token::Idle(passes.pop()?);
     let first = Token::Idle(passes.pop()?);
     let mut told = Vec::new(alloc);

@@ -14,15 +14,18 @@ use std::thread::{Threads, join};
 /// How often each thread holds the lock in the tests of the locks.
 pub const HOLDS: u32 = 100;
 
-/// Adds one to the number in the value. Where `parks` is true the value is unparked first, and is parked again where somebody is queued behind.
+/// Adds one to the number in the value. Where `parks` is true the value is unparked first, and is parked again where `waiter`, which is asked only then, says that
+/// somebody is queued behind.
 fn hold<B: Basic<Parcel>, R: Wait>(rt: &R, lock: &B, pass: B::Pass, parks: bool) -> B::Pass
     requires own { IsOf (B.name lock.now) (B.tag lock.now) (B.Pass.place pass) }
     requires tag { B.tag lock.now ≡ leaf 0 }
     ensures { B.Pass.place result ≡ B.Pass.place pass }
 {
     let mut held = lock.acquire(rt, pass);
-    let parked = lock.waiter(&mut held) && parks;
+    let parked = parks && lock.waiter(&mut held);
     let parcel = B::value_mut(&mut held);
+    parcel.unparkings = parcel.unparkings.wrapping_add(u64::from(parcel.parked));
+    parcel.parkings = parcel.parkings.wrapping_add(u64::from(parked));
     parcel.parked = parked;
     parcel.count = parcel.count.wrapping_add(1);
     lock.release(rt, held)
@@ -159,7 +162,7 @@ pub fn hold_alone<B: Basic<Parcel> + Drop, R: Wait>(
 ) -> Option<Parcel>
     ensures unparked { IfSome result (λ p. p.parked ≡ false) }
 {
-    let (lock, mut passes) = B::make(alloc, recipe, 1, Parcel::new()).ok()?;
+    let (lock, mut passes) = B::make(alloc, recipe, 1, Parcel::new(0)).ok()?;
     let pass = passes.pop()?;
     let pass = hold_often(rt, &lock, pass, holds, false);
     passes.push(pass).ok()?;
@@ -181,7 +184,7 @@ where
     B::Leave: Send,
     ensures unparked { IfSome result (λ p. p.parked ≡ false) }
 {
-    let (lock, mut passes) = B::make(alloc, recipe, 2, Parcel::new()).ok()?;
+    let (lock, mut passes) = B::make(alloc, recipe, 2, Parcel::new(0)).ok()?;
     let second = passes.pop()?;
     let first = passes.pop()?;
     let shift = Shift {
@@ -213,7 +216,7 @@ where
     B::Leave: Send,
     ensures unparked { IfSome result (λ p. p.parked ≡ false) }
 {
-    let (lock, mut passes) = B::make(alloc, recipe, 4, Parcel::new()).ok()?;
+    let (lock, mut passes) = B::make(alloc, recipe, 4, Parcel::new(0)).ok()?;
     let (front, back) = apart(&lock, &mut passes)?;
     let shift = Shift {
         rt,

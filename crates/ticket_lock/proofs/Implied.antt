@@ -13,23 +13,20 @@ use Rattle.lock_rules.specs.Views.{IsPlain, is_queued, without_next, next_split,
 use Rattle.lock_rules.specs.declared.view.Phase.{Phase}
 use Rattle.lock_rules.specs.declared.view.Phase.TheVariants.{Idle, Queued, Holding, Leaving}
 use Rattle.lock_rules.specs.declared.view.View.{View}
+use Rattle.lock_rules.proofs.Numbers.{one_number}
 use Rattle.lock_rules.proofs.Points.{one_seat}
 use Rattle.ticket_lock.specs.Queue.{is_busy, is_holding, queue_of, tickets_out}
 use Rattle.ticket_lock.specs.Rule.{Knows, PlaceStands, IsHome, IsAway, IsTicket}
 use Rattle.ticket_lock.specs.Implied.{distance, HasDistances}
 use Rattle.ticket_lock.proofs.Rounds.{out_is, one_place, busy_lives, few_seats}
-use Rattle.ticket_lock.proofs.Queues.{number_at, number_is, numbers_stay, place_of_busy, queue_is, at_below}
-use Rattle.ticket_lock.proofs.Kept.{one_number, holder_first, splits, joins}
+use Rattle.ticket_lock.proofs.Queues.{number_at, number_is, numbers_stay, names_stay, place_of_busy, queue_is, at_below}
+use Rattle.ticket_lock.proofs.Kept.{holder_first, splits, joins}
 use Rattle.ticket_lock.proofs.Standing.{mapped, knows_as, place_same, there}
 
 mapped_at : (f : ℕ → ℕ) (l : List ℕ) (i j : ℕ) → get_elem? l i ≡ some j → slice_get (map f l) i ≡ Some (f j)
 mapped_at f [] i j e = absurd (some-ne-none j (sym e))
 mapped_at f (x ∷ xs) zero j e = ap (λ (y : ℕ). Some (f y)) (some-injective x j e)
 mapped_at f (x ∷ xs) (suc i) j e = mapped_at f xs i j e
-
-names_same : (f g : ℕ → ℕ) (l : List ℕ) → ((i j : ℕ) → get_elem? l i ≡ some j → f j ≡ g j) → map f l ≡ map g l
-names_same f g [] h = refl
-names_same f g (x ∷ xs) h = λ k. h 0 x refl k ∷ names_same f g xs (λ i. h (suc i)) k
 
 -- busy is queued or holding
 busy_either : (p : Phase) → (is_queued p || is_holding p) ≡ is_busy p
@@ -62,7 +59,7 @@ module _ {V : Type 0} (fit : V → Type 0) (tag_of : V → Tag) (parked : V → 
   below i j e = let a = at_below r.seats i j e in let f = few_seats fit tag_of parked n tag s r in let g = r.few in omega arith
 
   same_seat : (a b : ℕ) (u w : View) → get_elem? s.views a ≡ some u → get_elem? s.views b ≡ some w → u.spent ≡ false → w.spent ≡ false → w.number ≡ u.number → b ≡ a
-  same_seat a b u w at at' live live' e = dite (ℕ_discrete b a) (λ q. q) (λ ne. absurd (one_number fit tag_of parked n tag s r a b u w at at' live live' ne e))
+  same_seat a b u w at at' live live' e = dite (ℕ_discrete b a) (λ q. q) (λ ne. absurd (one_number n s.views r.numbers a b u w at at' live live' ne e))
 
   no_repeats : (i j p : ℕ) → slice_get queue i ≡ Some p → slice_get queue j ≡ Some p → i ≡ j
   no_repeats i j p e e' =
@@ -160,7 +157,7 @@ module _ {V : Type 0} (fit : V → Type 0) (tag_of : V → Tag) (parked : V → 
       let w : View = without_next v in
       let after : State (Option V) View = record { words = s.words; homes = s.homes; views = set s.views id w ++ next_split v ∷ [] } in
       let r' : IsTicket fit tag_of parked n tag after = splits fit tag_of parked n tag id v live more s r at in
-      let same = names_same (number_at after.views) (number_at s.views) r.seats (λ i j e.
+      let same = names_stay (number_at after.views) (number_at s.views) r.seats (λ i j e.
       let p : PlaceStands (set s.views id w) r.first i j = place_same s.views id v w at (λ b. b) refl r.first i j (r.each_place i j e) in
       number_is after.views j p.view (at_longer (set s.views id w) (next_split v ∷ []) j p.view p.at) ∙ sym (number_is (set s.views id w) j p.view p.at) ∙ numbers_stay s.views id v w at refl j) in
       queue_is fit tag_of parked n tag after r' ∙ same ∙ sym (queue_is fit tag_of parked n tag s r)
@@ -172,7 +169,7 @@ module _ {V : Type 0} (fit : V → Type 0) (tag_of : V → Tag) (parked : V → 
       let mid : List View = set s.views id both in
       let after : State (Option V) View = record { words = s.words; homes = s.homes; views = set mid other spent_view } in
       let r' : IsTicket fit tag_of parked n tag after = joins fit tag_of parked n tag id v other w live idle plain s r at apart at' in
-      let same = names_same (number_at after.views) (number_at s.views) r.seats (λ i j e.
+      let same = names_stay (number_at after.views) (number_at s.views) r.seats (λ i j e.
       let p : PlaceStands mid r.first i j = place_same s.views id v both at (λ b. b) refl r.first i j (r.each_place i j e) in
       let ne : j ≢ other = λ q. (
       let one : p.view ≡ w = some-injective p.view w (sym p.at ∙ ap (get_elem? mid) q ∙ at') in

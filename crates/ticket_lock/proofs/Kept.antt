@@ -1,5 +1,5 @@
 -- Each kind of step keeps the rule, and is the event that it is said to be.
-use Rattle.std.proofs.Common.{◌≡◌, ◌≢◌, ◌⊎◌, ℕ, suc, ◌+◌, ◌-◌, ◌%◌, ◌^◌, ◌<◌, ◌≤◌, Bool, true, false, cond, not, ◌==◌, eq-eqb, List, [], ◌∷◌, ◌++◌, length, map, set, slice_index, slice_get, refl, ap, sym, ◌∙◌, subst, inl, inr, ⊎_elim, arith, Option, Some, length-append}
+use Rattle.std.proofs.Common.{◌≡◌, ◌≢◌, ◌⊎◌, ℕ, suc, ◌+◌, ◌%◌, ◌^◌, ◌<◌, Bool, true, false, cond, not, ◌==◌, eq-eqb, List, [], ◌∷◌, ◌++◌, length, map, set, slice_index, slice_get, refl, ap, sym, ◌∙◌, subst, inl, inr, ⊎_elim, arith, Option, Some, length-append}
 use Rattle.std.proofs.lemmas.List.{map-append}
 use Rattle.std.proofs.lemmas.List.Sums.{sum_by_push}
 use Rattle.std.specs.List.{sum_by}
@@ -17,8 +17,8 @@ use Rattle.lock_rules.specs.declared.step.Answer.TheVariants.{No, Yes}
 use Rattle.lock_rules.specs.declared.view.Phase.{Phase}
 use Rattle.lock_rules.specs.declared.view.Phase.TheVariants.{Idle, Queued, Holding}
 use Rattle.lock_rules.specs.declared.view.View.{View}
-use Rattle.lock_rules.proofs.Sums.{sum_set, part_le, parts_le, some_part}
-use Rattle.lock_rules.proofs.Numbers.{numbers_first, numbers_step, numbers_split, numbers_join, others_spent}
+use Rattle.lock_rules.proofs.Sums.{sum_set, part_le, some_part}
+use Rattle.lock_rules.proofs.Numbers.{numbers_first, numbers_step, numbers_split, numbers_join, one_number, others_spent}
 use Rattle.ticket_lock.specs.Queue.{is_busy, is_holding, queue_of}
 use Rattle.ticket_lock.specs.Rule.{words_of, busy, holds, Knows, SeatStands, PlaceStands, IsHome, IsAway, IsTicket}
 use Rattle.ticket_lock.specs.Kinds.{queued_with, not_served, served, others_wait, tested_by, left, Happened, Nothing, entered, missed, took, polled, tested, gave}
@@ -67,7 +67,7 @@ module _ {V : Type 0} (fit : V → Type 0) (tag_of : V → Tag) (parked : V → 
       → queue_of s'.words s'.views ≡ map (number_at s.views) r'.seats
   queue_after s s' r' id v w at same num =
       queue_is fit tag_of parked n tag s' r' ∙ ap (λ (vs : List View). map (number_at vs) r'.seats) same
-      ∙ names_stay (number_at (set s.views id w)) (number_at s.views) (numbers_stay s.views id v w at num) r'.seats
+      ∙ names_stay (number_at (set s.views id w)) (number_at s.views) r'.seats (λ _ j _. numbers_stay s.views id v w at num j)
 
   happens : (event : ℕ → List ℕ → List ℕ → Type 0) (act : Act (Option V)) (word now id : ℕ) (me me' : Me (Option V) View) (s : St) → Rule s → Rule (stepped s word now id me.1 me'.0 act)
       → get_elem? s.views id ≡ some me.0 → me.0.tag.tag ≡ tag → Valid s.homes me.1 act → me'.1 ≡ carried_after me.1 act
@@ -93,18 +93,6 @@ module _ {V : Type 0} (fit : V → Type 0) (tag_of : V → Tag) (parked : V → 
   reread : (s : St) (r : Rule s) (i : ℕ) → set s.words i (slice_index s.words i) ≡ words_of r.first (length r.seats)
   reread s r i = set-get_or s.words i 0 ∙ r.words
 
-  -- Two seats that are not spent do not have one number
-  pub one_number : (s : St) (r : Rule s) (id j : ℕ) (v u : View) → get_elem? s.views id ≡ some v → get_elem? s.views j ≡ some u → v.spent ≡ false → u.spent ≡ false → j ≢ id → ¬ (u.number ≡ v.number)
-  one_number s r id j v u at at' live live' ne e =
-      let p = parts_le (stands_in v.number) s.views id j v u (λ q. ne (sym q)) at at' in
-      let a : (v.number == v.number) ≡ true = eq-eqb v.number v.number refl in
-      let b : (u.number == v.number) ≡ true = eq-eqb u.number v.number e in
-      let x : 1 ≤ stands_in v.number v = rw (live, a) (omega arith) in
-      let y : 1 ≤ stands_in v.number u = rw (live', b) (omega arith) in
-      let c = r.numbers.once v.number in
-      let d : cond (Rattle.std.proofs.Common.nat_lt v.number n) 1 0 ≤ 1 = elim (Rattle.std.proofs.Common.nat_lt v.number n) as (λ b. cond b 1 0 ≤ 1) [ true ↦ omega arith | false ↦ omega arith ] in
-      omega (arith, p, x, y, c, d)
-
   -- an idle pass is not in the queue
   not_in : (s : St) (r : Rule s) (id : ℕ) (v : View) → get_elem? s.views id ≡ some v → v.phase ≡ Idle → v.spent ≡ false → ¬ IsIn v.number (queue_of s.words s.views)
   not_in s r id v at idle live (i, e) =
@@ -115,7 +103,7 @@ module _ {V : Type 0} (fit : V → Type 0) (tag_of : V → Tag) (parked : V → 
       let ne : m.0 ≢ id = λ q. (let same : p.view ≡ v = some-injective p.view v (sym p.at ∙ ap (get_elem? s.views) q ∙ at) in
       let f : is_busy v.phase ≡ true = sym (ap (λ (x : View). is_busy x.phase) same) ∙ p.in_queue in
       let g : is_busy v.phase ≡ false = ap is_busy idle in absurd cc) in
-      one_number s r id m.0 v p.view at p.at live b ne (sym (number_is s.views m.0 p.view p.at) ∙ m.2)
+      one_number n s.views r.numbers id m.0 v p.view at p.at live b ne (sym (number_is s.views m.0 p.view p.at) ∙ m.2)
 
   pub adds : (slots id : ℕ) (me : Me (Option V) View) → me.0.phase ≡ Idle → me.0.spent ≡ false → Allows Rule slots id me 0 (λ x. (x + 1) % 2 ^ 64) (entered fit tag_of parked (step slots 0 1 0 none) me)
   adds slots id me idle live s r count at low =

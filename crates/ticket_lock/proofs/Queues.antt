@@ -32,9 +32,10 @@ numbers_stay (u ∷ us) zero v w e n (suc j) = refl
 numbers_stay (u ∷ us) (suc id) v w e n zero = refl
 numbers_stay (u ∷ us) (suc id) v w e n (suc j) = numbers_stay us id v w e n j
 
-pub names_stay : (f g : ℕ → ℕ) → ((j : ℕ) → f j ≡ g j) → (seats : List ℕ) → map f seats ≡ map g seats
-names_stay f g h [] = refl
-names_stay f g h (j ∷ js) = λ i. h j i ∷ names_stay f g h js i
+-- names that are the same at each seat of a list
+pub names_stay : (f g : ℕ → ℕ) (seats : List ℕ) → ((i j : ℕ) → get_elem? seats i ≡ some j → f j ≡ g j) → map f seats ≡ map g seats
+names_stay f g [] h = refl
+names_stay f g (j ∷ js) h = λ k. h 0 j refl k ∷ names_stay f g js (λ i. h (suc i)) k
 
 -- no two busy seats have one ticket
 abbrev pub AreApart : List View → Type 0

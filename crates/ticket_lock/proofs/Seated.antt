@@ -1,18 +1,17 @@
 -- A seat after a step: its table and its number stay.
-use Rattle.std.proofs.Common.{◌≡◌, ℕ, ◌+◌, Bool, false, List, [], ◌∷◌, length, length-append, refl, ap, sym, ◌∙◌, subst, arith, Option, Some}
+use Rattle.std.proofs.Common.{◌≡◌, ℕ, Bool, List, [], ◌∷◌, length, refl, ap, sym, ◌∙◌, subst, arith, Option, Some}
 use mathlib.Core.Option.{some, some-injective}
 use Rattle.atomic_table.specs.Table.{Me, Act, rest}
 use Rattle.atomic_table.specs.declared.badge.Badge.{Badge}
 use Rattle.atomic_table.specs.Seated.{TableId}
 use Rattle.lock_rules.specs.Tag.{Tag}
 use Rattle.lock_rules.specs.Passes.{IsOf}
-use Rattle.lock_rules.specs.Views.{IsPlain, numbers_of, joined_view, lock_name, place_of, mark_of}
+use Rattle.lock_rules.specs.Views.{IsPlain, lock_name, place_of, mark_of}
 use Rattle.lock_rules.specs.Holds.{grip_of}
 use Rattle.lock_rules.specs.declared.hold.Algorithm.{Algorithm}
 use Rattle.lock_rules.specs.declared.hold.Algorithm.TheVariants.{Ticket}
 use Rattle.lock_rules.specs.declared.hold.Hold.{Hold}
 use Rattle.lock_rules.proofs.Names.{lock_name-tells}
-use Rattle.lock_rules.proofs.Numbers.{numbers_unspent}
 use Rattle.lock_rules.specs.declared.view.Phase.{Phase}
 use Rattle.lock_rules.specs.declared.view.View.{View}
 use Rattle.ticket_lock.specs.Tokens.{first_or, view_of, IsSeated, badge_place}
@@ -71,17 +70,6 @@ module _ {V : Type 0} where
 
   pub held_place : (h : Hold V) → h.grasp.algorithm ≡ Ticket → place_of (lock_name Ticket h.grasp.seat.table_id) h.grasp.seat.me.0 ≡ (grip_of h).place
   held_place h a = ap (λ (x : Algorithm). place_of (lock_name x h.grasp.seat.table_id) h.grasp.seat.me.0) (sym a)
-
--- a plain seat has one number, and one that takes it over has one more
-pub plain_size : (v : View) → IsPlain v → numbers_of v ≡ 1
-plain_size v p = let n = numbers_unspent v p.unspent in let l : length v.joined ≡ 0 = ap length p.alone in omega (arith, n, l, p.split)
-
-pub joined_size : (v w : View) → v.spent ≡ false → IsPlain w → numbers_of (joined_view v w) ≡ numbers_of v + 1
-joined_size v w live p =
-    let n = numbers_unspent v live in
-    let m = numbers_unspent (joined_view v w) live in
-    let l : length w.joined ≡ 0 = ap length p.alone in
-    omega (arith, n, m, l, length-append w.joined v.joined)
 
 -- a step is the same under equal words and views
 pub happened_as : {V : Type 0} (fit : V → Type 0) (tag_of : V → Tag) (parked : V → Bool) (event : ℕ → List ℕ → List ℕ → Type 0) (act : Act (Option V)) (word found now now' : ℕ) (a b a' b' : Me (Option V) View)

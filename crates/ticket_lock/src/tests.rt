@@ -76,6 +76,7 @@ fn a_parked_value_is_handed_over(rt: HostRuntime) {
         Told::Got,
     ];
     assert!(rt; outcome.told.as_slice() == told.as_slice());
+    assert!(rt; outcome.count == START);
 }
 
 #[test]
@@ -86,5 +87,6 @@ fn four_threads_hold_in_turn(rt: HostRuntime) {
             panic!(rt; "there was no memory")
         };
         assert!(rt; parcel.count == 4 * u64::from(HOLDS));
+        assert!(rt; parcel.parkings == parcel.unparkings);
     }
 }

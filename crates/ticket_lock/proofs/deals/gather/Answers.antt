@@ -3,7 +3,8 @@ use Rattle.lock_rules.specs.Views.{IsPlain, numbers_of}
 use Rattle.lock_rules.proofs.Passes.{one_less}
 use Rattle.lock_rules.proofs.Names.{lock_name-tells}
 use Rattle.ticket_lock.proofs.Kept.{joins}
-use Rattle.ticket_lock.proofs.Seated.{view_is, plain_size, joined_size}
+use Rattle.lock_rules.proofs.Numbers.{plain_size, joined_size}
+use Rattle.ticket_lock.proofs.Seated.{view_is}
 use Rattle.ticket_lock.proofs.deals.gather.Goals as goal
 
 pub loop-pass-init : goal.loop-pass-init
