@@ -1,12 +1,12 @@
 -- How the shares of a trail are given out, one after another.
-use Rattle.std.proofs.Common.{◌≡◌, ℕ, zero, suc, ◌+◌, ◌<◌, ◌≤◌, List, [], ◌∷◌, ◌++◌, map, length, take, drop, get_or, slice_index, refl, ap, sym, ◌∙◌, arith, add-one, drop-cons}
+use Rattle.std.proofs.Common.{◌≡◌, ℕ, suc, ◌+◌, ◌<◌, ◌≤◌, List, [], ◌∷◌, ◌++◌, map, length, take, drop, slice_index, ap, sym, ◌∙◌, arith, add-one, drop-cons}
 use Rattle.std.specs.List.{enumerate_from}
 use Rattle.std.proofs.lemmas.List.{map-append, take_more, length-take-le}
 use Rattle.atomic_table.specs.Seated.{TableId}
 use Rattle.keep_local.specs.declared.view.Tally.{Tally}
-use Rattle.keep_local.specs.Views.{home_view, new_tally, first_alone, behind_first, without_first, first_split, share_view}
+use Rattle.keep_local.specs.Views.{home_view, new_tally, behind_first, without_first, first_split, share_view}
 use Rattle.keep_local.specs.Steps.{Seated}
-use Rattle.keep_local.specs.States.{ShareState, new_share, new_shares}
+use Rattle.keep_local.specs.States.{new_share, new_shares}
 
 -- the tallies of the callers from this one on
 abbrev pub tallies_from : ℕ → List ℕ → List Tally

@@ -3,3 +3,7 @@ pub mod Tied
 pub mod Seated
 pub mod Dealt
 pub mod Runs
+pub mod Trails
+pub mod Logs
+pub mod Steps
+pub mod Lawful

@@ -1,9 +1,9 @@
 -- Each kind of step keeps the rule of a trail's table, and tells what it is said to tell.
-use Rattle.std.proofs.Common.{◌≡◌, ◌≢◌, ◌⊎◌, ℕ, zero, suc, ◌+◌, ◌%◌, ◌^◌, ◌<◌, ◌≤◌, Bool, true, false, cond, List, [], ◌∷◌, ◌++◌, map, length, get_or, set, slice_index, nat_le, nat_lt, ◌==◌, ◌&&◌, eq-eqb, refl, ap, sym, ◌∙◌, subst, ⊎_elim, arith, length-append}
+use Rattle.std.proofs.Common.{◌≡◌, ◌≢◌, ℕ, zero, suc, ◌+◌, ◌%◌, ◌^◌, ◌<◌, ◌≤◌, Bool, true, false, List, [], ◌∷◌, ◌++◌, length, get_or, set, slice_index, nat_le, nat_lt, ◌==◌, ◌&&◌, eq-eqb, refl, ap, sym, ◌∙◌, subst, ⊎_elim, arith, length-append}
 use Rattle.std.specs.Prelude.{sum, All}
 use Rattle.std.specs.List.{sum_by, enumerate_from}
 use Rattle.std.proofs.lemmas.List.Sums.{sum_by_push, sum_by-cons}
-use Rattle.std.proofs.lemmas.List.Elements.{All-nil, All-cons, All-head, All-tail, All-push, All-append, All-same, All-map, All-weaker}
+use Rattle.std.proofs.lemmas.List.Elements.{All-nil, All-cons, All-head, All-tail, All-push, All-append, All-map}
 use Rattle.std.proofs.lemmas.List.FromFn.{length-enumerate_from, get_or-enumerate_from}
 use Rattle.std.proofs.lemmas.Grind.{get_or_default_zero}
 use Rattle.std.proofs.lemmas.Bool.Decides.{nat_tests}
@@ -12,14 +12,14 @@ use mathlib.Core.Logic.{dite}
 use native.Mathlib.Decide.{ℕ_discrete}
 use lib.ListN.{get_elem?}
 use lib.Seq.{set-get_or}
-use Rattle.atomic_table.specs.Table.{State, Me, step, keeps, stepped, Allows, Splits, Joins, opening}
+use Rattle.atomic_table.specs.Table.{State, step, keeps, stepped, Allows, Splits, Joins, opening}
 use Rattle.atomic_table.proofs.Lists.{at_set, set_else, set_again, at_longer, at_snoc}
 use Rattle.lock_rules.proofs.Sums.{sum_set, part_le, parts_le}
 use Rattle.keep_local.specs.declared.view.Tally.{Tally}
 use Rattle.keep_local.specs.declared.view.View.{View}
 use Rattle.keep_local.specs.Views.{times, stands_in, new_tally, first_view, first_alone, behind_first, without_first, first_split, joined_view, spent_view, with_turn, with_turn_of}
 use Rattle.keep_local.specs.Tie.{IsTallyOf, IsHome, SeatStands, HasHome, IsTied}
-use Rattle.keep_local.specs.Steps.{Seated, IsTold, Appended, appended, Looked, looked}
+use Rattle.keep_local.specs.Steps.{Seated, IsTold, appended, looked}
 use Rattle.keep_local.proofs.Counts.{one_if, times_same, times_other, turns_fit, tallied, tallied-cons, tallied-append, tallied_cut, none_tallied, span_tallied}
 
 abbrev St : Type 0

@@ -1,5 +1,5 @@
 -- What lawful turns imply, in words of their own.
-use Rattle.std.specs.Prelude.{◌≡◌, ℕ, ◌<◌, ◌≤◌, Bool, List, ◌++◌, ◌==◌, nat_lt, ◌&&◌, All, slice_index}
+use Rattle.std.specs.Prelude.{◌≡◌, ℕ, ◌<◌, ◌≤◌, List, ◌++◌, ◌==◌, nat_lt, ◌&&◌, All, slice_index}
 use Rattle.std.specs.Int.{bit_at}
 use Rattle.std.specs.List.{count_by, enumerate_from, position_or_len}
 use Rattle.keep_local.specs.declared.shape.Shape.{Shape}

@@ -7,3 +7,4 @@ pub mod Steps
 pub mod States
 pub mod Shares
 pub mod Ties
+pub mod Trails

@@ -7,7 +7,7 @@ use Rattle.keep_local.specs.declared.shape.Shape.{Shape}
 use Rattle.keep_local.specs.declared.turn.Turn.{Turn}
 use Rattle.keep_local.specs.Views.{times}
 use Rattle.keep_local.specs.Shapes.{top_of, callers_of, IsWellFormed}
-use Rattle.keep_local.specs.Turns.{turns_of, climb_after, AreUnderOneNode, Begins, IsLeft, IsLawful, IsLawfulTrail, last_turn}
+use Rattle.keep_local.specs.Turns.{turns_of, IsLeft, IsLawfulTrail}
 
 -- A trail: what tells its table from all others, its shape, the callers' quotas, the closed turns, the open turn, and how many levels were noted for it
 pub record TrailState : Type 0 where
@@ -38,12 +38,12 @@ new_share name at = record { name = name; caller = at.0; made = 0; quota = at.1 
 abbrev pub new_shares : TableId → List ℕ → List ShareState
 new_shares name quotas = map (new_share name) (enumerate_from 0 quotas)
 
--- what the table's rule says of a share of this trail: its caller is one of those with quotas, its quota is that one, and as many turns are its caller's as it has made
-pub record IsShareOf (name : TableId) (quotas callers : List ℕ) (s : ShareState) : Type 0 where
-  pub own : s.name ≡ name
-  pub known : s.caller < length quotas
-  pub quota : s.quota ≡ slice_index quotas s.caller
-  pub made : s.made ≡ times s.caller callers
+-- what the table's rule says of a share: its caller is one of those with quotas, its quota is that one, and it has made as many turns as its number stands in the list
+pub record IsCounted (t : TieState) (share : ShareState) : Type 0 where
+  pub own : share.name ≡ t.name
+  pub known : share.caller < length t.quotas
+  pub quota : share.quota ≡ slice_index t.quotas share.caller
+  pub made : share.made ≡ times share.caller t.callers
 
 abbrev pub option_list : Option Turn → List Turn
 option_list None = []
@@ -56,6 +56,17 @@ all_turns s = s.closed ++ option_list s.current
 abbrev pub callers_in : List Turn → List ℕ
 callers_in turns = map (λ t. t.caller) turns
 
+-- a share of this trail: its caller is one of the shape's, with its quota, and `made` is the number of this caller's turns, an open one included
+pub record IsShareOf (s : TrailState) (share : ShareState) : Type 0 where
+  pub own : share.name ≡ s.name
+  pub known : share.caller < callers_of s.shape
+  pub quota : share.quota ≡ slice_index s.quotas share.caller
+  pub made : share.made ≡ turns_of share.caller (all_turns s)
+
+-- a trail before its first turn
+abbrev pub new_trail : TableId → Shape → List ℕ → TrailState
+new_trail name shape quotas = record { name = name; shape = shape; quotas = quotas; closed = []; current = None; noted = 0 }
+
 -- the turn as it is opened
 abbrev pub opened : TrailState → ℕ → ℕ → Turn
 opened s caller climb = record { caller = caller; climb = climb; tests = 0; left = top_of s.shape }
@@ -63,6 +74,17 @@ opened s caller climb = record { caller = caller; climb = climb; tests = 0; left
 -- the tests with this level's bit set where another caller was queued there
 abbrev pub with_test : ℕ → ℕ → Bool → ℕ
 with_test tests level queued = if queued then bit_or tests (2 ^ level) else tests
+
+abbrev pub tested : Turn → ℕ → Bool → Turn
+tested t level queued = record t { tests = with_test t.tests level queued }
+
+abbrev pub left_at : Turn → ℕ → Turn
+left_at t level = record t { left = level }
+
+-- the open turn may close at this level: the levels up to it that are below the top were noted, and it is where the turn leaves
+pub record MayLeave (s : TrailState) (level : ℕ) (t : Turn) : Type 0 where
+  pub noted : s.noted ≡ min (level + 1) (top_of s.shape)
+  pub left : IsLeft s.shape s.closed t.tests level
 
 -- an open turn has noted the levels from 0 up, all below the top
 pub record IsNoting (shape : Shape) (noted : ℕ) (t : Turn) : Type 0 where
@@ -80,5 +102,6 @@ pub record IsTrail (s : TrailState) : Type 0 where
   pub lawful : IsLawfulTrail s.shape s.closed s.current
   pub noting : IfSome s.current (λ t. IsNoting s.shape s.noted t)
   pub closed : IfNone s.current (s.noted ≡ 0)
+  pub room : length (all_turns s) ≤ sum s.quotas
   -- each turn is of a caller of the shape
   pub known : All (λ t. t.caller < callers_of s.shape) (all_turns s)

@@ -1,5 +1,5 @@
 -- The kinds of step on the word of a trail's table, and what each tells the home seat. Splitting and joining seats are the table's own.
-use Rattle.std.specs.Prelude.{◌≡◌, ℕ, ◌<◌, ◌≤◌, List, length, sum, All}
+use Rattle.std.specs.Prelude.{◌≡◌, ℕ, ◌<◌, length, sum, All}
 use Rattle.atomic_table.specs.Table.{Me, Step}
 use Rattle.keep_local.specs.Tie.{IsTallyOf}
 use Rattle.keep_local.specs.Views.{with_turn}

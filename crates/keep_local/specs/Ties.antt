@@ -1,9 +1,7 @@
 -- What a trail keeps of its table.
-use Rattle.std.specs.Prelude.{◌≡◌, ℕ, ◌+◌, ◌<◌, List, [], ◌∷◌, length, slice_index, sum, map}
-use Rattle.std.specs.List.{enumerate_from}
-use Rattle.atomic_table.specs.Seated.{TableId}
-use Rattle.keep_local.specs.States.{ShareState, TieState}
-use Rattle.keep_local.specs.Views.{home_view, times}
+use Rattle.std.specs.Prelude.{◌≡◌, []}
+use Rattle.keep_local.specs.States.{TieState}
+use Rattle.keep_local.specs.Views.{home_view}
 use Rattle.keep_local.specs.declared.tie.Tie.TheInside.{Inside}
 
 abbrev pub tie_state : Inside → TieState

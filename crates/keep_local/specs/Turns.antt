@@ -1,5 +1,5 @@
 -- Turns, runs, and which lists of turns are lawful: the keep-local rule of CLoF, told over one flat list.
-use Rattle.std.specs.Prelude.{◌≡◌, ℕ, ◌+◌, ◌<◌, ◌≤◌, Bool, List, [], ◌∷◌, ◌++◌, ◌==◌, nat_lt, slice_index, slice_index_or, IfSome, Option, None}
+use Rattle.std.specs.Prelude.{◌≡◌, ℕ, ◌<◌, ◌≤◌, List, [], ◌∷◌, ◌++◌, ◌==◌, nat_lt, slice_index, IfSome, Option, None}
 use Rattle.std.specs.Int.{bit_at}
 use Rattle.std.specs.List.{count_by, after_last, last_or}
 use Rattle.std.specs.Option.{option_map_or}

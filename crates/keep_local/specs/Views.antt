@@ -1,5 +1,5 @@
 -- What the seats of a trail's table know, and how the steps change it.
-use Rattle.std.specs.Prelude.{◌≡◌, ℕ, ◌+◌, true, false, List, [], ◌∷◌, ◌++◌, ◌==◌, map}
+use Rattle.std.specs.Prelude.{ℕ, ◌+◌, true, false, List, [], ◌∷◌, ◌++◌, ◌==◌, map}
 use Rattle.std.specs.List.{count_by, enumerate_from}
 use Rattle.keep_local.specs.declared.view.Tally.{Tally}
 use Rattle.keep_local.specs.declared.view.View.{View}

@@ -1,5 +1,8 @@
 //! The tree of levels that the callers of a lock stand under.
 
+ghost use Rattle.std.specs.Prelude.{◌≡◌, ◌<◌, ◌^◌};
+ghost use Rattle.keep_local.specs.Shapes.{top_of};
+
 use sequence::Sequence;
 
 /// The nodes of each caller, from the lowest level up, and how often each level keeps the lock for its own callers.
@@ -9,4 +12,14 @@ pub struct Shape {
     pub paths: Sequence<Sequence<u32>>,
     /// For each level below the top, how many turns in a row may hand the lock over inside one of its nodes.
     pub keeps: Sequence<u32>,
+}
+
+impl Shape {
+    /// The top level, which is the number of the levels below it.
+    pub(crate) fn top(&self) -> u32
+        requires { top_of self.now < 2 ^ 32 }
+        ensures { result ≡ top_of self.now }
+    {
+        self.keeps.as_slice().len() as u32
+    }
 }

@@ -1,7 +1,7 @@
 //! The table that ties a trail and its shares.
 ghost use Rattle.std.specs.Prelude.{◌≡◌, ◌+◌, ◌^◌, ◌<◌, ◌≤◌, [], ◌∷◌, ◌++◌, length, map, sum, IfOk, vec_capacity};
 ghost use Rattle.std.specs.List.{enumerate_from};
-ghost use Rattle.keep_local.specs.States.{IsShareOf, new_shares};
+ghost use Rattle.keep_local.specs.States.{IsCounted, new_shares};
 ghost use Rattle.keep_local.specs.Views.{first_view, home_view};
 
 use crate::plays::{Append, Cut, Glue, Look, TieRule};
@@ -61,7 +61,7 @@ impl Tie {
         requires left { share.old.made < share.old.quota }
         ensures tie { self.new ≡ record self.old { callers = self.old.callers ++ share.old.caller ∷ [] } }
         ensures share { share.new ≡ record share.old { made = share.old.made + 1 } }
-        ensures told { IsShareOf self.old.name self.old.quotas self.old.callers share.old }
+        ensures told { IsCounted self.old share.old }
         ensures room { length self.old.callers < sum self.old.quotas }
     {
         let badge = mem::replace(&mut share.badge, Badge::blank());
@@ -78,7 +78,7 @@ impl Tie {
         requires own { share.old.name ≡ self.old.name }
         ensures tie { self.new ≡ self.old }
         ensures share { share.new ≡ share.old }
-        ensures told { IsShareOf self.old.name self.old.quotas self.old.callers share.old }
+        ensures told { IsCounted self.old share.old }
     {
         let badge = mem::replace(&mut share.badge, Badge::blank());
         let table = &self.table;
@@ -121,9 +121,7 @@ fn deal(words: &Words, home: &mut Seat<(), View>, quotas: &[u32], room: Vec<Shar
             made: 0,
             quota: *quota,
         };
-        let Ok(()) = shares.push(share) else {
-            unreachable!()
-        };
+        shares.push_reserved(share);
     }
     shares
 }

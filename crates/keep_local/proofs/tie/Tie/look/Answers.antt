@@ -1,5 +1,4 @@
-use Rattle.std.proofs.Common.{◌≡◌, ◌<◌, [], ◌∷◌, refl, ap, sym, ◌∙◌, subst, rules}
-use Rattle.keep_local.specs.Views.{home_view, share_view}
+use Rattle.std.proofs.Common.{refl, ap, sym, ◌∙◌, rules}
 use Rattle.keep_local.specs.declared.view.Tally.{Tally}
 use Rattle.keep_local.proofs.Tied.{splits, joins, looks}
 use Rattle.keep_local.proofs.Seated.{view_is, at_table, joined_is, tally_is}
