@@ -7,3 +7,4 @@ pub mod Trails
 pub mod Logs
 pub mod Steps
 pub mod Lawful
+pub mod Checked

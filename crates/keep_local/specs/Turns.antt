@@ -1,7 +1,7 @@
 -- Turns, runs, and which lists of turns are lawful: the keep-local rule of CLoF, told over one flat list.
-use Rattle.std.specs.Prelude.{◌≡◌, ℕ, ◌<◌, ◌≤◌, List, [], ◌∷◌, ◌++◌, ◌==◌, nat_lt, slice_index, IfSome, Option, None}
+use Rattle.std.specs.Prelude.{◌≡◌, ℕ, ◌-◌, ◌<◌, ◌≤◌, List, [], ◌∷◌, ◌++◌, length, ◌==◌, nat_lt, slice_get, slice_index, IfSome, Option}
 use Rattle.std.specs.Int.{bit_at}
-use Rattle.std.specs.List.{count_by, after_last, last_or}
+use Rattle.std.specs.List.{count_by, after_last}
 use Rattle.std.specs.Option.{option_map_or}
 use Rattle.keep_local.specs.declared.shape.Shape.{Shape}
 use Rattle.keep_local.specs.declared.turn.Turn.{Turn}
@@ -17,7 +17,7 @@ turns_of caller turns = count_by (λ t. t.caller == caller) turns
 
 -- the last turn, if there is one
 abbrev pub last_turn : List Turn → Option Turn
-last_turn turns = last_or None turns
+last_turn turns = slice_get turns (length turns - 1)
 
 -- how high the turn behind these has to climb: to where the last one left, and for the first turn to the top
 abbrev pub climb_after : Shape → List Turn → ℕ

@@ -1,6 +1,7 @@
 //! Turns, and the shares by which callers make them.
 #![tactic(auto)]
 
+mod checker;
 mod laws;
 mod plays;
 mod shape;
@@ -10,6 +11,7 @@ mod trail;
 mod turn;
 mod view;
 
+pub use checker::{begins, is_lawful, level_to_leave, run_of};
 pub use laws::{keeps_at_most, turn_is_fixed};
 pub use plays::{Append, Cut, Glue, Look, TieRule};
 pub use shape::Shape;
