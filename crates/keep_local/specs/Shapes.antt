@@ -14,6 +14,10 @@ callers_of shape = length shape.paths
 abbrev pub node_of : Shape → ℕ → ℕ → ℕ
 node_of shape caller level = slice_index (slice_index_or shape.paths caller []) level
 
+-- the node is some caller's at this level
+abbrev pub HasNode : Shape → ℕ → ℕ → Type 0
+HasNode shape level node = (v : ℕ) × (v < callers_of shape) × (node_of shape v level ≡ node)
+
 -- the paths are those of a tree with at most 33 levels
 pub record IsWellFormed (shape : Shape) : Type 0 where
   -- a bit of a turn's tests for each level below the top
@@ -21,7 +25,7 @@ pub record IsWellFormed (shape : Shape) : Type 0 where
   -- every path has an entry for each level, the top included
   pub whole : (w : ℕ) → w < callers_of shape → length (slice_index_or shape.paths w []) ≡ top_of shape + 1
   -- the nodes of a level are numbered from 0 without gaps
-  pub no_gaps : (w k n : ℕ) → w < callers_of shape → k ≤ top_of shape → n < node_of shape w k → (v : ℕ) × (v < callers_of shape) × (node_of shape v k ≡ n)
+  pub no_gaps : (w : ℕ) → w < callers_of shape → (k : ℕ) → k ≤ top_of shape → (n : ℕ) → n < node_of shape w k → HasNode shape k n
   -- there is one node at the top
   pub one_top : (w : ℕ) → w < callers_of shape → node_of shape w (top_of shape) ≡ 0
   -- two callers with one node at a level have one node at every higher level

@@ -1,7 +1,7 @@
 //! A plain and slow program that computes the definitions, to compare a record with.
 ghost use Rattle.std.specs.Prelude.{◌≡◌, ℕ, ◌<◌, ◌≤◌, ◌↔◌, IsTrue};
 ghost use Rattle.std.specs.Int.{bit_at};
-ghost use Rattle.keep_local.specs.Shapes.{top_of, node_of};
+ghost use Rattle.keep_local.specs.Shapes.{top_of};
 ghost use Rattle.keep_local.specs.Turns.{run, Begins, Ends, Follows, IsDue, IsLeft, IsLawful};
 
 use crate::shape::Shape;
@@ -38,7 +38,8 @@ pub fn begins(shape: &Shape, before: &[Turn], turn: Turn) -> bool
         None => turn.climb == shape.top(),
         Some(last) => {
             turn.climb == last.left
-                && node(shape, turn.caller, turn.climb) == node(shape, last.caller, turn.climb)
+                && shape.node(turn.caller as usize, turn.climb as usize)
+                    == shape.node(last.caller as usize, turn.climb as usize)
         }
     }
 }
@@ -108,17 +109,4 @@ pub fn run_of(turns: &[Turn], level: u32) -> usize
         }
     }
     count
-}
-
-// The node of a caller at a level, or 0 where the shape has none.
-fn node(shape: &Shape, caller: u32, level: u32) -> u32
-    ensures { result ≡ node_of shape.now caller level }
-{
-    let Some(path) = shape.paths.as_slice().get(caller as usize) else {
-        return 0;
-    };
-    let Some(node) = path.as_slice().get(level as usize) else {
-        return 0;
-    };
-    *node
 }

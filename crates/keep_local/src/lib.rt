@@ -8,6 +8,7 @@ mod shape;
 mod share;
 mod tie;
 mod trail;
+mod tree;
 mod turn;
 mod view;
 

@@ -1,7 +1,7 @@
 //! The tree of levels that the callers of a lock stand under.
 
 ghost use Rattle.std.specs.Prelude.{◌≡◌, ◌<◌, ◌^◌};
-ghost use Rattle.keep_local.specs.Shapes.{top_of};
+ghost use Rattle.keep_local.specs.Shapes.{top_of, callers_of, node_of};
 
 use sequence::Sequence;
 
@@ -21,5 +21,24 @@ impl Shape {
         ensures { result ≡ top_of self.now }
     {
         self.keeps.as_slice().len() as u32
+    }
+    /// How many callers there are.
+    pub(crate) fn callers(&self) -> usize
+        ensures { result ≡ callers_of self.now }
+    {
+        self.paths.as_slice().len()
+    }
+
+    /// The node of a caller at a level, or 0 where the shape has none.
+    pub(crate) fn node(&self, caller: usize, level: usize) -> u32
+        ensures { result ≡ node_of self.now caller level }
+    {
+        let Some(path) = self.paths.as_slice().get(caller) else {
+            return 0;
+        };
+        let Some(node) = path.as_slice().get(level) else {
+            return 0;
+        };
+        *node
     }
 }
