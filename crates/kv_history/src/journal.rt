@@ -76,7 +76,8 @@ impl<'a> Journal<'a> {
     pub fn apply(&mut self, caller: u32, command: Command<'a>) -> Result<Receipt, OutOfMemory>
         requires { IsNext self.old caller (view command) }
         ensures sections { self.new.sections ≡ self.old.sections }
-        ensures applied { OnOk result (self.new.entries ≡ self.old.entries ++ applied_entry self.old.entries caller (view command.entry) ∷ []) }
+        ensures applied { OnOk result
+            (self.new.entries ≡ self.old.entries ++ applied_entry self.old.entries caller (view command.entry) ∷ []) }
         ensures store { OnOk result (store_now self.new.entries ≡ store_after (store_now self.old.entries) (request_of command.entry)) }
         ensures place { IfOk result (λ receipt. receipt.turn ≡ length self.old.entries) }
         ensures void { OnErr result (self.new.entries ≡ self.old.entries ++ void_entry caller (view command.entry) ∷ []) }
