@@ -7,7 +7,8 @@ ghost use Rattle.clof_tool.specs.declared.status.Status.{Status as AnyStatus};
 ghost use Rattle.clof_tool.specs.declared.status.Fault.TheVariants.{Input as InputOf};
 ghost use Rattle.clof_tool.specs.Asked.{plain};
 ghost use Rattle.clof_tool.specs.Run.{input_limit};
-ghost use Rattle.clof_tool.specs.Outcome.{ReadsInput, IsInput, WasRead, WasTooLong, HasRead, IsAnswer, WordsRefused, InputRefused, HasCause, IsRefusal, HasWritten};
+ghost use Rattle.clof_tool.specs.Outcome.{ReadsInput, IsInput, WasRead, WasTooLong, HasRead, IsAnswer, WordsRefused, InputRefused};
+ghost use Rattle.clof_tool.specs.Outcome.{HasCause, IsRefusal, HasWritten};
 
 use crate::running::run_text;
 use crate::set_text::set_text;

@@ -67,7 +67,9 @@ fn serves_one_section(rt: HostRuntime) -> Result<(), Fail> {
         (b"worker * 5\nget a\n", b"caller 0 pu 0 commands 0 rest 5\n"),
         (
             b"worker * 23\nset a 5 0 1\r\nx\r\nget a\r\n\n",
-            b"turn 0 caller 0 pu 0 climb 0 tests 0 left 0 \"set a 5 0 1\\r\\nx\\r\\n\" \"STORED\\r\\n\"\nturn 1 caller 0 pu 0 climb 0 tests 0 left 0 \"get a\\r\\n\" \"VALUE a 5 1\\r\\nx\\r\\nEND\\r\\n\"\ncaller 0 pu 0 commands 2 rest 0\n",
+            b"turn 0 caller 0 pu 0 climb 0 tests 0 left 0 \"set a 5 0 1\\r\\nx\\r\\n\" \"STORED\\r\\n\"\n\
+              turn 1 caller 0 pu 0 climb 0 tests 0 left 0 \"get a\\r\\n\" \"VALUE a 5 1\\r\\nx\\r\\nEND\\r\\n\"\n\
+              caller 0 pu 0 commands 2 rest 0\n",
         ),
     ];
     for (input, text) in cases {
@@ -609,7 +611,8 @@ fn prints_a_tree_and_its_canonical_text(rt: HostRuntime) -> Result<(), Fail> {
         "",
     )?;
     let usual =
-        "Package:2 [NUMANode(memory=34359738368)] L3Cache:1(size=33554432) L2Cache:16(size=1048576) L1dCache:1(size=32768) L1iCache:1(size=32768) Core:1 PU:2(indexes=2*32:1*2)";
+        "Package:2 [NUMANode(memory=34359738368)] L3Cache:1(size=33554432) L2Cache:16(size=1048576) \
+         L1dCache:1(size=32768) L1iCache:1(size=32768) Core:1 PU:2(indexes=2*32:1*2)";
     let ended = call(&rt, alloc, &["topo", "--export", usual], Vec::new(alloc))?;
     assert_eq!(rt; ended.status, Status::Ok);
     assert!(rt; ended.out.starts_with(usual.as_bytes()));
@@ -661,8 +664,8 @@ fn refuses_texts_that_describe_nothing(rt: HostRuntime) -> Result<(), Fail> {
 
 #[test]
 fn refuses_descriptions_over_a_limit(rt: HostRuntime) -> Result<(), Fail> {
-    let levels =
-        "Group:1 Group:1 Group:1 Group:1 Group:1 Group:1 Group:1 Group:1 Group:1 Group:1 Group:1 Group:1 Group:1 Group:1 Group:1 Group:1 PU:1";
+    let levels = "Group:1 Group:1 Group:1 Group:1 Group:1 Group:1 Group:1 \
+         Group:1 Group:1 Group:1 Group:1 Group:1 Group:1 Group:1 Group:1 Group:1 PU:1";
     let cases: [(&str, SynthFault, &str); 2] = [
         (
             levels,

@@ -7,7 +7,8 @@ ghost use Rattle.clof_tool.specs.declared.status.Status.{Status as AnyStatus};
 ghost use Rattle.clof_tool.specs.Line.{line_of};
 ghost use Rattle.clof_tool.specs.Words.{Asked, Says, IsUsage};
 ghost use Rattle.clof_tool.specs.Run.{input_limit};
-ghost use Rattle.clof_tool.specs.Outcome.{ReadsInput, IsInput, HasRead, IsAnswer, WordsRefused, InputRefused, HasCause, IsRefusal, HasWritten};
+ghost use Rattle.clof_tool.specs.Outcome.{ReadsInput, IsInput, HasRead, IsAnswer, WordsRefused, InputRefused, HasCause, IsRefusal};
+ghost use Rattle.clof_tool.specs.Outcome.{HasWritten};
 
 use crate::Status;
 use crate::answer::answer;

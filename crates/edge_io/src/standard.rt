@@ -4,7 +4,8 @@ ghost use Rattle.std.specs.Prelude.{◌≡◌, ◌≤◌, ◌<◌, length, take,
 ghost use Rattle.std.specs.Io.KnownBytes.{ReadConsumes, WriteAppends};
 ghost use Rattle.edge_io.specs.Counts.{Rose, RisesBy};
 ghost use Rattle.edge_io.specs.Contents.{Loses, IsAtEnd, Gains, FallsBy, IsSpent};
-ghost use Rattle.edge_io.specs.Standard.{reader_of, reader_left, reader_given, reader_faults, writer_of, writer_held, writer_room, writer_faults, writer_stalls};
+ghost use Rattle.edge_io.specs.Standard.{reader_of, reader_left, reader_given, reader_faults, writer_of, writer_held, writer_room};
+ghost use Rattle.edge_io.specs.Standard.{writer_faults, writer_stalls};
 
 use crate::{Failed, Sink, Source};
 use std::io::{ErrorKind, Read, Write};

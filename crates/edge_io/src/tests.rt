@@ -97,7 +97,10 @@ fn a_source_gives_pieces_and_fails_as_listed(rt: HostRuntime) -> Result<(), Fail
 fn reads_no_further_than_a_fault(rt: HostRuntime) -> Result<(), Fail> {
     let mut source = source(&rt, b"abcdefgh", 3, &[1, 2])?;
     assert!(rt;
-        matches!(&read_all(rt.alloc(), &mut source, 100), Err(ReadAllFault::Fault))
+        matches!(
+            &read_all(rt.alloc(), &mut source, 100),
+            Err(ReadAllFault::Fault)
+        )
     );
     let mut buf = [0; 4];
     assert_eq!(rt; source.read(&mut buf), Err(Failed));
