@@ -3,7 +3,7 @@ ghost use Rattle.std.specs.Prelude.{◌≡◌, ◌≢◌, ◌↔◌, IfErr, IfOk
 ghost use Rattle.std.specs.IoError.{error_kind};
 ghost use Rattle.std.specs.Process.{exit_status};
 ghost use Rattle.clof_tool.specs.declared.status.Status.{Status as AnyStatus};
-ghost use Rattle.clof_tool.specs.Process.{words_of_process};
+ghost use Rattle.clof_tool.specs.Process.{words_of_process, IsUnused};
 ghost use Rattle.clof_tool.specs.Status.{code_of};
 ghost use Rattle.clof_tool.specs.Words.{IsUsage};
 
@@ -27,8 +27,10 @@ pub struct Process {
 }
 
 impl Process {
-    /// The process of the runtime.
-    pub fn new(rt: &HostRuntime) -> Process {
+    /// The process of the runtime, whose streams haven't been read or written yet.
+    pub fn new(rt: &HostRuntime) -> Process
+        ensures { IsUnused result }
+    {
         Process {
             words: words(rt),
             input: StdSource::new(rt.stdin()),
