@@ -171,3 +171,43 @@ module _ (described : Description) (built : IsBuilt described) where
   pub set_at-children : (depth index n : ℕ) → depth < length described.levels → has (set_at described depth index) n ≡ children_has depth index n
   set_at-children depth index n within =
       same_tests (has (set_at described depth index) n) (children_has depth index n) (has_in_child depth index n within) (has_from_child depth index n within)
+
+  -- ---- all objects of a depth
+
+  one_machine : (1 ≡ count_at described 0) × (width_at described 0 ≡ pu_count described)
+  one_machine = (refl, refl)
+
+  abbrev any_has : ℕ → ℕ → Bool
+  any_has depth n = list_any (λ index. has (set_at described depth index) n) (range_with_len 0 (count_at described depth))
+
+  machine_has : (depth n : ℕ) → any_has depth n ≡ true → has (set_at described 0 0) n ≡ true
+  machine_has depth n found =
+      let at = any_in_range (λ index. has (set_at described depth index) n) 0 (count_at described depth) found in
+      let width = width_at described depth in
+      let place = between-has (pu_numbers described) (at.0 * width) ((at.0 + 1) * width) n (sym (ap (λ set. has set n) (set_at-between depth at.0)) ∙ at.3) in
+      ap (λ set. has set n) (set_at-between 0 0)
+      ∙ ap (has (set_between (pu_numbers described) (0 * width_at described 0) ((0 + 1) * width_at described 0))) (sym place.4)
+      ∙ has-between (pu_numbers described) (0 * width_at described 0) ((0 + 1) * width_at described 0) place.0 numbers_good place.3
+      (omega arith) (omega (arith, place.3, length-pu_numbers described, one_machine.1))
+
+  has_some : (depth n : ℕ) → has (set_at described 0 0) n ≡ true → any_has depth n ≡ true
+  has_some depth n found =
+      let width = width_at described depth in
+      let count = count_at described depth in
+      let at = between-has (pu_numbers described) (0 * width_at described 0) ((0 + 1) * width_at described 0) n (sym (ap (λ set. has set n) (set_at-between 0 0)) ∙ found) in
+      let index = at.0 / width in
+      let some = some_width depth in
+      let inside = div_place at.0 width some in
+      let below : index < count = div_below at.0 width count (omega arith) (omega (arith, at.3, length-pu_numbers described, widths depth)) in
+      list_any_at (λ i. has (set_at described depth i) n) (range_with_len 0 count) index 0 (omega (arith, length-range_with_len 0 count))
+      (ap (λ i. has (set_at described depth i) n) (get_or-range_with_len 0 count index 0 below ∙ zero_plus index)
+      ∙ ap (λ set. has set n) (set_at-between depth index)
+      ∙ ap (has (set_between (pu_numbers described) (index * width) ((index + 1) * width))) (sym at.4)
+      ∙ has-between (pu_numbers described) (index * width) ((index + 1) * width) at.0 numbers_good at.3 inside.0 inside.1)
+    where
+      zero_plus : (i : ℕ) → 0 + i ≡ i
+      zero_plus i = omega arith
+
+  -- the objects of a depth make up Machine
+  pub set_at-machine : (depth n : ℕ) → has (set_at described 0 0) n ≡ any_has depth n
+  set_at-machine depth n = same_tests (has (set_at described 0 0) n) (any_has depth n) (has_some depth n) (machine_has depth n)
