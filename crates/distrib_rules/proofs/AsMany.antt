@@ -96,8 +96,7 @@ module _ (described : Description) (built : IsBuilt described) where
     pub are_children : (pair : Pair) → IsPair pair → is_final described way pair ≡ false → AreObjects described (pair.depth + 1) (child_indexes pair) × (1 ≤ length (child_indexes pair))
     are_children pair is_pair handed =
         let within = above_last described way pair handed in
-        let arity = arity_at described pair.depth in
-        (
+        let arity = arity_at described pair.depth in (
           are_objects described (pair.depth + 1) (pair.index * arity) arity way.backwards (children_within described pair.depth pair.index within is_pair),
           omega (arith, length-in_order way.backwards (pair.index * arity) arity, arity_some described pair.depth built.sound within),
         )
@@ -123,11 +122,10 @@ module _ (described : Description) (built : IsBuilt described) where
     start_indexes from = in_order way.backwards (range_with_len 0 (count_at described from))
 
     pub start_objects : (from : ℕ) → AreObjects described from (start_indexes from) × (1 ≤ length (start_indexes from))
-    start_objects from =
-        (
-          are_objects described from 0 (count_at described from) way.backwards (omega arith),
-          omega (arith, length-in_order way.backwards 0 (count_at described from), some_count described built from),
-        )
+    start_objects from = (
+      are_objects described from 0 (count_at described from) way.backwards (omega arith),
+      omega (arith, length-in_order way.backwards 0 (count_at described from), some_count described built from),
+    )
 
     pub as_many : (n from : ℕ) → length (distribution described way n from) ≡ n
     as_many n from =

@@ -12,3 +12,5 @@ pub use fault::DistribFault;
 pub use laws::{masks_are_as_many, masks_cover_the_start, order_makes_no_difference};
 pub use sharing::distrib;
 
+#[cfg(test)]
+mod tests;

@@ -35,8 +35,7 @@ share_out-requires t c =
     let first = ap (λ run. run.0) children in
     let count = ap (λ run. run.1) children in
     let some = arity_some now depth c.requires.built.sound within in
-    let inside = children_within now depth c.index_at.result within below in
-    (
+    let inside = children_within now depth c.index_at.result within below in (
       omega (arith, c.decreases, within),
       (c.requires.built, (c.requires.last, (omega (arith, within), (omega (arith, count, some), (omega (arith, first, count, inside), omega (arith, c.share_at-share.ensures.masks, c.requires.masks)))))),
     )
