@@ -1,5 +1,5 @@
 -- What the calls of a composed lock ask and promise.
-use Rattle.std.specs.Prelude.{◌≡◌, ℕ, ◌+◌, ◌<◌, ◌≤◌, ◌⊎◌, Bool, false, List, Some}
+use Rattle.std.specs.Prelude.{◌≡◌, ℕ, ◌+◌, ◌<◌, ◌≤◌, ◌⊎◌, false, List, Option, Some, None}
 use Rattle.std.specs.Int.{bit_at}
 use Rattle.lock_rules.specs.Tag.{Tag}
 use Rattle.keep_local.specs.declared.turn.Turn.{Turn}
@@ -7,7 +7,8 @@ use Rattle.keep_local.specs.Shapes.{callers_of}
 use Rattle.keep_local.specs.Turns.{IsDue}
 use Rattle.keep_local.specs.States.{TrailState, ShareState, IsTrail, IsShareOf, all_turns, callers_in}
 use Rattle.clof_compose.specs.Contexts.{IsContextOf}
-use Rattle.clof_compose.specs.Courses.{Course, course_of}
+use Rattle.clof_compose.specs.Courses.{Course}
+use Rattle.clof_compose.specs.Meanings.{Climb, Descent}
 use Rattle.clof_compose.specs.Roots.{root_tag}
 use Rattle.clof_compose.specs.declared.root.Root.{Root}
 
@@ -26,12 +27,12 @@ pub record IsOpen (s : TrailState) (caller level : ℕ) : Type 0 where
   pub climbed : level ≤ turn.climb
 
 -- the token waits higher, or it waits where it did by one load more, which did not show the word that it waits for
-abbrev pub HasClimbed : ℕ → ℕ → ℕ → ℕ → Bool → Type 0
-HasClimbed old_level old_loads level loads ready = (old_level < level) ⊎ ((level ≡ old_level) × (loads ≡ old_loads + 1) × (ready ≡ false))
+abbrev pub HasClimbed : Climb → Climb → Type 0
+HasClimbed old new = (old.level < new.level) ⊎ ((new.level ≡ old.level) × (new.loads ≡ old.loads + 1) × (new.ready ≡ false))
 
--- the token leaves lower, or it leaves where it did by one load more
-abbrev pub HasDescended : ℕ → ℕ → ℕ → ℕ → Bool → Type 0
-HasDescended old_level old_loads level loads ready = (level < old_level) ⊎ ((level ≡ old_level) × (loads ≡ old_loads + 1) × (ready ≡ false))
+-- the token leaves lower, or it leaves where it did by one load more, which did not show the word that it waits for
+abbrev pub HasDescended : Descent → Descent → Type 0
+HasDescended old new = (new.level < old.level) ⊎ ((new.level ≡ old.level) × (new.loads ≡ old.loads + 1) × (new.ready ≡ false))
 
 -- the bits below this level are the same
 abbrev pub SameBelow : ℕ → ℕ → ℕ → Type 0
@@ -43,7 +44,7 @@ module _ {P : Type 0} (calls : P → List ℕ) (tag : P → Tag) where
     pub tagged : root_tag tag r ≡ root_tag_is
     pub trail : IsTrail r.trail
     pub calls_are : calls r.payload ≡ callers_in r.trail.closed
-    pub open : IsOpen r.trail share.caller level
+    pub is_open : IsOpen r.trail share.caller level
     pub noted : r.trail.noted ≡ 0
     pub share_is : IsShareOf r.trail share
 
@@ -57,3 +58,13 @@ module _ {P : Type 0} (calls : P → List ℕ) (tag : P → Tag) where
     pub context : IsContextOf r.trail.shape level turn.caller number
     pub noted : r.trail.noted ≡ level
     pub undue : (j : ℕ) → j < level → ¬ IsDue r.trail.shape r.trail.closed turn.tests j
+
+-- the tests of the open turn, 0 where there is none
+abbrev pub tests_of : Option Turn → ℕ
+tests_of None = 0
+tests_of (Some t) = t.tests
+
+module _ {P : Type 0} where
+  abbrev pub tests_in : Option (Root P) → ℕ
+  tests_in None = 0
+  tests_in (Some r) = tests_of r.trail.current

@@ -4,3 +4,4 @@ pub mod Meanings
 pub mod Roots
 pub mod Calls
 pub mod Passes
+pub mod Tops

@@ -35,7 +35,7 @@ impl<P: Payload> Root<P> {
 
     /// Lends the payload to be changed. The trail stays.
     pub fn payload_mut(&mut self) -> &mut P
-        ensures* writes_back { sem 𝓛 (Lends the_row P.row self.entry result (λ p. record self.old { payload = p })) }
+        ensures* writes_back { sem 𝓛 (Lends (the_row P.row) P.row self.entry result (λ p. record self.old { payload = p })) }
         ensures value { result.now ≡ self.old.payload }
     {
         &mut self.payload
