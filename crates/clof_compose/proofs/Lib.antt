@@ -1,3 +1,4 @@
 pub mod Courses
 pub mod Contexts
 pub mod Begun
+pub mod Tops

@@ -1,9 +1,9 @@
 -- Which context of which lock a token is of.
-use Rattle.std.specs.Prelude.{◌≡◌, ℕ, ◌+◌}
+use Rattle.std.specs.Prelude.{◌≡◌, ℕ, ◌+◌, ◌<◌, ◌↔◌}
 use Rattle.lock_rules.specs.Tag.{Tag, leaf, fork}
 use Rattle.lock_rules.specs.Meanings.{Place}
 use Rattle.keep_local.specs.declared.shape.Shape.{Shape}
-use Rattle.keep_local.specs.Shapes.{node_of}
+use Rattle.keep_local.specs.Shapes.{callers_of, node_of, HasNode}
 use Rattle.clof_compose.specs.Courses.{left_of}
 
 -- A context of a composed lock: the lock's level, the node under which the context stands, its number, which pass of the node's basic lock it has, and the
@@ -27,3 +27,8 @@ root_tag_in t = left_of t
 pub record IsContextOf (shape : Shape) (level caller number : ℕ) : Type 0 where
   pub lowest : level ≡ 0 → number ≡ caller
   pub higher : (k : ℕ) → level ≡ k + 1 → number ≡ node_of shape caller k
+
+-- a lock of this level has so many contexts: at level 0 one for each caller, and else one for each node one level below
+pub record AreContexts (shape : Shape) (level count : ℕ) : Type 0 where
+  pub lowest : level ≡ 0 → count ≡ callers_of shape
+  pub higher : (k : ℕ) → level ≡ k + 1 → (n : ℕ) → (n < count) ↔ HasNode shape k n

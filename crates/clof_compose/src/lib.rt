@@ -3,6 +3,7 @@
 
 mod cargo;
 mod composed;
+mod making;
 mod payload;
 mod root;
 mod token;
@@ -11,6 +12,7 @@ mod top_tokens;
 mod turns;
 
 pub use composed::Composed;
+pub use making::make_top;
 pub use payload::Payload;
 pub use root::Root;
 pub use token::{Climbing, Descending, Resting, Standing};
