@@ -2,3 +2,5 @@ pub mod Courses
 pub mod Contexts
 pub mod Begun
 pub mod Tops
+pub mod Climbs
+pub mod Owned

@@ -5,3 +5,7 @@ pub mod Roots
 pub mod Calls
 pub mod Passes
 pub mod Tops
+pub mod Owns
+pub mod Levels
+pub mod Stages
+pub mod Nodes
