@@ -4,3 +4,5 @@ pub mod Begun
 pub mod Tops
 pub mod Climbs
 pub mod Owned
+pub mod Released
+pub mod Tried

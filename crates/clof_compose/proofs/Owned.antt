@@ -79,3 +79,9 @@ module _ {P : Type 0} where
     tag_same = ap (own_tag node) same ∙ tagged;
     kept_is = no_run calls tag t level above share s.root up has;
   }
+
+  pub at_root : (Q : Root P → Type 0) (o : Option (Root P)) (r : Root P) → o ≡ Some r → IsSomeAnd o Q → Q r
+  at_root Q o r e q = subst (λ (x : Option (Root P)). IsSomeAnd x Q) e q
+
+  pub if_root : (Q : Root P → Type 0) (o : Option (Root P)) (r : Root P) → o ≡ Some r → IfSome o Q → Q r
+  if_root Q o r e q = subst (λ (x : Option (Root P)). IfSome x Q) e q

@@ -9,3 +9,4 @@ pub mod Owns
 pub mod Levels
 pub mod Stages
 pub mod Nodes
+pub mod Releases

@@ -1,5 +1,5 @@
 -- What the value of a level means, and when it may stand at home.
-use Rattle.std.specs.Prelude.{◌≡◌, ℕ, ◌+◌, Bool, true, false, List, IsSomeAnd, Some}
+use Rattle.std.specs.Prelude.{◌≡◌, ℕ, ◌+◌, Bool, true, false, cond, List, IsSomeAnd, Some}
 use Rattle.std.specs.Int.{bit_at}
 use Rattle.lock_rules.specs.Tag.{Tag, leaf}
 use Rattle.keep_local.specs.declared.turn.Turn.{Turn}
@@ -17,8 +17,7 @@ abbrev pub no_context : Context
 no_context = record { level = 0; node = 0; number = 0; pass = record { lock = leaf 0; tag = leaf 0; number = 0 }; tag = leaf 0 }
 
 abbrev pub bit_of : Bool → ℕ
-bit_of true = 1
-bit_of false = 0
+bit_of b = cond b 1 0
 
 -- the context of the node is idle, and the answer that the value keeps is the one that the last release noted
 pub record IsIdle (node : ℕ) (said : Bool) (r : Rest) : Type 0 where

@@ -12,6 +12,8 @@ mod own_cargo;
 mod payload;
 mod root;
 mod stage;
+#[cfg(test)]
+mod tests;
 mod token;
 mod top;
 mod top_tokens;

@@ -1,7 +1,8 @@
 //! The turns of a root, as a lock's calls open and close them.
 ghost use Rattle.std.specs.Prelude.{◌≡◌, ◌+◌, ◌<◌, ◌++◌, None, Some, IsSome, IfSome, option_map};
+ghost use Rattle.keep_local.specs.Shapes.{top_of};
 ghost use Rattle.keep_local.specs.Turns.{Begins};
-ghost use Rattle.keep_local.specs.States.{IsTrail, IsShareOf, MayLeave, left_at, opened, option_list};
+ghost use Rattle.keep_local.specs.States.{IsTrail, IsShareOf, MayLeave, left_at, opened, option_list, tested};
 ghost use Rattle.clof_compose.specs.Calls.{tests_of};
 
 use crate::root::Root;
@@ -35,4 +36,16 @@ pub(crate) fn close_turn<P>(root: &mut Root<P>, level: u32) -> u32
     let tests = turns[turns.len() - 1].tests;
     root.trail.leave(level);
     tests
+}
+
+/// Notes for the open turn whether somebody is queued behind at a level.
+pub(crate) fn note_waiter<P>(root: &mut Root<P>, level: u32, yes: bool)
+    requires open { IsSome root.old.trail.current }
+    requires next { level ≡ root.old.trail.noted }
+    requires below { level < top_of root.old.trail.shape }
+    ensures payload { root.new.payload ≡ root.old.payload }
+    ensures noted { root.new.trail ≡ record root.old.trail { current = option_map (λ t. tested t level yes) root.old.trail.current; noted = level + 1 } }
+    ensures lawful { IsTrail root.new.trail }
+{
+    root.trail.note(level, yes);
 }
