@@ -40,8 +40,8 @@ pub run_reset : (shape : Shape) (level : ℕ) (turns : List Turn) → level < cl
 run_reset shape level turns h = ⊎_elim
     (λ (e : turns ≡ []). ap (run level) e ∙ run_none level)
     (λ (s : Snoc turns).
-        let climb : climb_after shape turns ≡ s.last.left = ap (λ (o : Option Turn). option_map_or (λ t. t.left) o (top_of shape)) (ap last_turn s.is ∙ last_push s.front s.last) in
-        ap (run level) s.is ∙ run_higher level s.front s.last (omega (arith, h, climb)))
+    let climb : climb_after shape turns ≡ s.last.left = ap (λ (o : Option Turn). option_map_or (λ t. t.left) o (top_of shape)) (ap last_turn s.is ∙ last_push s.front s.last) in
+    ap (run level) s.is ∙ run_higher level s.front s.last (omega (arith, h, climb)))
     (snoc turns)
 
 -- turns that left lower do not change a run

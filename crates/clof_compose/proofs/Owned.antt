@@ -1,7 +1,9 @@
 -- What a node's value is known to hold.
-use Rattle.std.proofs.Common.{◌≡◌, ℕ, ◌+◌, ◌<◌, Bool, true, List, refl, ap, sym, ◌∙◌, subst, arith, Option, Some, None}
+use Rattle.std.proofs.Common.{◌≡◌, ℕ, ◌+◌, ◌<◌, ◌≤◌, Bool, true, List, refl, ap, sym, ◌∙◌, subst, arith, Option, Some, None}
 use Rattle.std.specs.Prelude.{IfSome, IsSomeAnd}
 use Rattle.lock_rules.specs.Tag.{Tag}
+use Rattle.std.proofs.lemmas.List.Elements.{All-weaker}
+use Rattle.keep_local.specs.declared.turn.Turn.{Turn}
 use Rattle.keep_local.specs.Turns.{run}
 use Rattle.keep_local.specs.States.{ShareState}
 use Rattle.clof_compose.specs.Calls.{HasOpened}
@@ -9,11 +11,12 @@ use Rattle.clof_compose.specs.Contexts.{Context, own_tag}
 use Rattle.clof_compose.specs.Levels.{IsHolding, IsStanding, kept_stand}
 use Rattle.clof_compose.specs.Meanings.{Rest, Stand}
 use Rattle.clof_compose.specs.Nodes.{IsContextOfNode}
+use Rattle.clof_compose.specs.Roots.{IsKept}
 use Rattle.clof_compose.specs.Owns.{IsHandedOver, IsKeptFor, IsIdle, IsOwnFit, context_in, is_kept, own_tag_of}
 use Rattle.clof_compose.specs.declared.own.High.{High}
 use Rattle.clof_compose.specs.declared.own.High.TheVariants.{Idle, Kept, Away}
 use Rattle.clof_compose.specs.declared.root.Root.{Root}
-use Rattle.clof_compose.proofs.Climbs.{run_is_none}
+use Rattle.clof_compose.proofs.Climbs.{run_is_none, run_kept}
 
 module _ {P Pass Held : Type 0} (rest : Pass → Rest) (stand : Held → Stand (Root P)) (stands : Held → Type 0) (calls : P → List ℕ) (tag : P → Tag) where
   kept_fit : (node kept : ℕ) (said : Bool) (high : High Pass Held) → is_kept rest stand high ≡ true → IsOwnFit rest stand calls tag stands node kept said high
@@ -85,3 +88,23 @@ module _ {P : Type 0} where
 
   pub if_root : (Q : Root P → Type 0) (o : Option (Root P)) (r : Root P) → o ≡ Some r → IfSome o Q → Q r
   if_root Q o r e q = subst (λ (x : Option (Root P)). IfSome x Q) e q
+
+-- what may be made of a root at a level may be made of it at any higher one
+pub kept_higher : {P : Type 0} (calls : P → List ℕ) (level above : ℕ) (old new : Root P) → level ≤ above → IsKept calls level old new → IsKept calls above old new
+kept_higher calls level above old new h k = record {
+  name = k.name;
+  shape = k.shape;
+  quotas = k.quotas;
+  more = k.more;
+  closed = k.closed;
+  lower = All-weaker (λ (t : Turn). t.left < level) (λ (t : Turn). t.left < above) (λ t l. omega (arith, l, h)) k.more k.lower;
+  in_hand = k.in_hand;
+}
+
+-- a holder of a level still stands where nothing was closed that left at the level or above
+pub holding_stays : {P : Type 0} (calls : P → List ℕ) (level node kept : ℕ) (tag_is : Tag) (stands stands' : Type 0) (s s' : Stand (Root P)) (now r : Root P) → IsHolding level node kept tag_is stands s
+    → s.root ≡ Some now → s' ≡ record s { root = Some r } → IsKept calls level now r → (IsKept calls s.context.level now r → stands') → IsHolding level node kept tag_is stands' s'
+holding_stays {P} calls level node kept tag_is stands stands' s s' now r holding root same k st =
+    let above = holding.above in
+    holding_with level node kept tag_is stands' s s' r same above holding.tag_same (st (kept_higher calls level s.context.level now r (omega (arith, above)) k))
+    (if_root (λ (q : Root P). kept ≡ run level q.trail.closed) s.root now root holding.kept_is ∙ sym (ap (run level) k.closed ∙ run_kept level now.trail.closed k.more k.lower))

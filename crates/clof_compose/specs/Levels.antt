@@ -61,7 +61,6 @@ pub record IsDescending (level node : ℕ) (said : Bool) (tag_is : Tag) (descend
   pub tag_same : own_tag node d.context ≡ tag_is
   pub said_is : bit_at d.tests level ≡ bit_of said
 
-
 module _ {P Pass Held : Type 0} where
   -- the value has the pass of its context again, which has these tests
   pub record IsIdleAgain (rest : Pass → Rest) (context : Context) (before after : Own P Pass Held) (tests : ℕ) : Type 0 where

@@ -68,7 +68,8 @@ impl<P: Payload, Pass: Resting, Held: Standing<P>> Standing<P> for LevelHeld<P, 
     }
 }
 
-impl<P: Payload, Q: Queueing, Pass: Resting, Held: Standing<P>, HQ: Climbing> Climbing for LevelQueue<P, Q, Pass, Held, HQ> {
+impl<P: Payload, Q: Queueing, Pass: Resting, Held: Standing<P>, HQ: Climbing> Climbing
+    for LevelQueue<P, Q, Pass, Held, HQ> {
     ghost climb = { λ q. queue_climb Q.waiting HQ.climb q.level q.node q.number q.stage };
 
     ghost climbs = { λ q. IsQueued HQ.climb HQ.climbs q.level q.stage };
@@ -81,7 +82,8 @@ impl<P: Payload, Q: Queueing, Pass: Resting, Held: Standing<P>, HQ: Climbing> Cl
     }
 }
 
-impl<P: Payload, L: Departing, Pass: Resting, Held: Standing<P>, HL: Descending> Descending for LevelLeave<P, L, Pass, Held, HL> {
+impl<P: Payload, L: Departing, Pass: Resting, Held: Standing<P>, HL: Descending> Descending
+    for LevelLeave<P, L, Pass, Held, HL> {
     ghost descent = { λ l. leave_descent L.waiting HL.descent l.level l.node l.number l.stage };
 
     ghost descends = { λ l. IsLeaving L.rests HL.descent HL.descends l.level l.stage };

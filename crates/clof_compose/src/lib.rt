@@ -10,6 +10,7 @@ mod node;
 mod own;
 mod own_cargo;
 mod payload;
+mod release;
 mod root;
 mod stage;
 #[cfg(test)]

@@ -33,7 +33,9 @@ impl<P: Payload, Pass: Resting, Held: Standing<P>> Cargo for Own<P, Pass, Held> 
 }
 
 /// Lends the root that is reached from a kept high lock.
-pub(crate) fn kept_root<P: Payload, Pass: Drop, Held: Standing<P>>(high: &mut High<Pass, Held>) -> &mut Root<P>
+pub(crate) fn kept_root<P: Payload, Pass: Drop, Held: Standing<P>>(
+    high: &mut High<Pass, Held>,
+) -> &mut Root<P>
     requires stands { IsStanding Held.stands high.old }
     ensures* writes_back { sem 𝓛 (Lends (the_high_row Pass.row Held.row) (the_root_row P.row) high.entry result (high_with_root Held.put_root high.old)) }
     ensures value { (kept_stand Held.stand high.old).root ≡ Some result.now }

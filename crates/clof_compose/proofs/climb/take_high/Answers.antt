@@ -22,19 +22,19 @@ returns-then-parked-clause-holds g c =
     let e = sym c.parked.ensures ∙ c.if-parked.true in
     let over = handed_over g.H.Pass.Resting.rest g.H.Held.Standing.stand g.H.Held.Standing.stands g.P.Payload.calls g.P.Payload.tag _ _ _ _ _ _ c.args.low.value.high _ e c.requires.fit c.requires.context c.kept_root.ensures.value in
     let kept = kept_in_hand g.P.Payload.calls g.P.Payload.tag _ _ _ _ _ c.kept_root.result.now over c.requires.share c.open_turn.new.root c.open_turn.new.share c.open_turn.ensures.payload c.open_turn.ensures.opened
-        (ap (λ s. s.caller) c.open_turn.ensures.made) c.open_turn.ensures.lawful c.open_turn.ensures.counted (kept_stand g.H.Held.Standing.stand c.args.low.value.high).context.level in
+    (ap (λ s. s.caller) c.open_turn.ensures.made) c.open_turn.ensures.lawful c.open_turn.ensures.counted (kept_stand g.H.Held.Standing.stand c.args.low.value.high).context.level in
     holding_with _ _ _ _ _ (kept_stand g.H.Held.Standing.stand c.args.low.value.high) _ c.open_turn.new.root (c.kept_root.ensures.others c.open_turn.new.root)
-        (kept_above g.H.Pass.Resting.rest g.H.Held.Standing.stand g.H.Held.Standing.stands g.P.Payload.calls g.P.Payload.tag _ _ _ _ c.args.low.value.high e c.requires.context)
-        (kept_tagged g.H.Pass.Resting.rest g.H.Held.Standing.stand g.H.Held.Standing.stands g.P.Payload.calls g.P.Payload.tag _ _ c.args.low.value.high e c.requires.tagged)
-        (c.kept_root.ensures.stays c.open_turn.new.root kept)
-        (over.kept_is ∙ sym (ap (λ s. run c.args.level s.closed) c.open_turn.ensures.opened))
+    (kept_above g.H.Pass.Resting.rest g.H.Held.Standing.stand g.H.Held.Standing.stands g.P.Payload.calls g.P.Payload.tag _ _ _ _ c.args.low.value.high e c.requires.context)
+    (kept_tagged g.H.Pass.Resting.rest g.H.Held.Standing.stand g.H.Held.Standing.stands g.P.Payload.calls g.P.Payload.tag _ _ c.args.low.value.high e c.requires.tagged)
+    (c.kept_root.ensures.stays c.open_turn.new.root kept)
+    (over.kept_is ∙ sym (ap (λ s. run c.args.level s.closed) c.open_turn.ensures.opened))
 
 pub returns-then-parked-clause-opened : goal.returns-then-parked-clause-opened
 returns-then-parked-clause-opened g c =
     let over = handed_over g.H.Pass.Resting.rest g.H.Held.Standing.stand g.H.Held.Standing.stands g.P.Payload.calls g.P.Payload.tag _ _ _ _ _ _ c.args.low.value.high _ (sym c.parked.ensures ∙ c.if-parked.true) c.requires.fit c.requires.context c.kept_root.ensures.value in
     some_with _ (kept_stand g.H.Held.Standing.stand c.args.low.value.high) _ c.open_turn.new.root (c.kept_root.ensures.others c.open_turn.new.root)
-        (kept_opened g.P.Payload.calls g.P.Payload.tag _ _ _ _ _ c.kept_root.result.now over c.requires.share c.open_turn.new.root c.open_turn.new.share c.open_turn.ensures.payload c.open_turn.ensures.opened
-        (ap (λ s. s.caller) c.open_turn.ensures.made) c.open_turn.ensures.lawful c.open_turn.ensures.counted)
+    (kept_opened g.P.Payload.calls g.P.Payload.tag _ _ _ _ _ c.kept_root.result.now over c.requires.share c.open_turn.new.root c.open_turn.new.share c.open_turn.ensures.payload c.open_turn.ensures.opened
+    (ap (λ s. s.caller) c.open_turn.ensures.made) c.open_turn.ensures.lawful c.open_turn.ensures.counted)
 
 pub returns-in-Got-clause-holds : goal.returns-in-Got-clause-holds
 returns-in-Got-clause-holds g c =

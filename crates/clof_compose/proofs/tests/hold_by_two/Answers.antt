@@ -23,5 +23,5 @@ pub close-requires-clause-all : goal.close-requires-clause-all
 close-requires-clause-all g c =
     let two = two_passes _ _ _ _ _ _ c.in_ok-first.first c.in_ok-second.second c.requires.all c.requires.count c.in_ok-second.ensures.items c.in_ok-first.ensures.items in
     are_two (λ p. (g.C.Pass.Resting.rest p).context) (g.C.Composed.has c.args.lock) _ _ _ _ c.in_ok-first-2.first c.in_ok-second-2.second c.requires.count
-        (subst (λ x. IsNumber (g.C.Composed.has c.args.lock) 0 x) (sym c.in_ok-first-2.ensures.pass) two.0) (subst (λ x. IsNumber (g.C.Composed.has c.args.lock) 1 x) (sym c.in_ok-second-2.ensures.pass) two.1)
-        c.in-Ok-push.ensures.items c.in-Ok.ensures.items c.clear.ensures.items
+    (subst (λ x. IsNumber (g.C.Composed.has c.args.lock) 0 x) (sym c.in_ok-first-2.ensures.pass) two.0) (subst (λ x. IsNumber (g.C.Composed.has c.args.lock) 1 x) (sym c.in_ok-second-2.ensures.pass) two.1)
+    c.in-Ok-push.ensures.items c.in-Ok.ensures.items c.clear.ensures.items
