@@ -6,3 +6,4 @@ pub mod Climbs
 pub mod Owned
 pub mod Released
 pub mod Tried
+pub mod Keeping

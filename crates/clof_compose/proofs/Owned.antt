@@ -108,3 +108,11 @@ holding_stays {P} calls level node kept tag_is stands stands' s s' now r holding
     let above = holding.above in
     holding_with level node kept tag_is stands' s s' r same above holding.tag_same (st (kept_higher calls level s.context.level now r (omega (arith, above)) k))
     (if_root (λ (q : Root P). kept ≡ run level q.trail.closed) s.root now root holding.kept_is ∙ sym (ap (run level) k.closed ∙ run_kept level now.trail.closed k.more k.lower))
+
+module _ {P Pass Held : Type 0} (rest : Pass → Rest) (stand : Held → Stand (Root P)) (stands : Held → Type 0) (calls : P → List ℕ) (tag : P → Tag) where
+  -- the value of a node that keeps the high lock for the next one
+  pub kept_fits : (high : High Pass Held) (level node kept : ℕ) (said : Bool) → IsStanding stands high → (kept_stand stand high).context.level ≡ level + 1 → (kept_stand stand high).context.number ≡ node
+      → said ≡ true → IsSomeAnd (kept_stand stand high).root (IsHandedOver calls tag (kept_stand stand high).context.tag level node kept) → IsOwnFit rest stand calls tag stands node kept said high
+  kept_fits (Idle p) level node kept said st above number is over = absurd st
+  kept_fits (Kept h) level node kept said st above number is over = record { level = level; above = above; number_is = number; said_is = is; stands_is = st; root_is = over }
+  kept_fits Away level node kept said st above number is over = absurd st
