@@ -1,5 +1,6 @@
 -- How a turn begins and ends at a level of a composed lock.
-use Rattle.std.proofs.Common.{◌≡◌, ◌≢◌, ℕ, zero, suc, ◌+◌, ◌-◌, ◌<◌, ◌≤◌, List, [], ◌∷◌, ◌++◌, length, get_or, min, refl, ap, sym, ◌∙◌, subst, arith, length-append, Option, Some, None}
+use Rattle.std.proofs.Common.{◌≡◌, ◌≢◌, ℕ, zero, suc, ◌+◌, ◌-◌, ◌<◌, ◌≤◌, List, [], ◌∷◌, ◌++◌, length, get_or, min, refl, ap, sym, ◌∙◌}
+use Rattle.std.proofs.Common.{subst, arith, length-append, Option, Some, None}
 use Rattle.std.specs.Prelude.{All, IfSome, slice_get, slice_index}
 use Rattle.std.specs.Int.{bit_at}
 use Rattle.std.specs.Option.{option_map_or}
@@ -35,29 +36,36 @@ last_push turns t =
 -- the callers of the closed turns of a trail are in its shape
 closed_known : (s : TrailState) → IsTrail s → s.current ≡ None → All (λ t. t.caller < callers_of s.shape) s.closed
 closed_known s is closed =
-    let all : All (λ t. t.caller < callers_of s.shape) (s.closed ++ []) = subst (λ (o : Option Turn). All (λ t. t.caller < callers_of s.shape) (s.closed ++ option_list o)) closed is.known in
+    let all : All (λ t. t.caller < callers_of s.shape) (s.closed ++ []) = subst (λ (o : Option Turn). All (λ t. t.caller < callers_of
+    s.shape) (s.closed ++ option_list o)) closed is.known in
     subst (All (λ t. t.caller < callers_of s.shape)) (append-nil s.closed) all
 
-climb_is : (o : Option Turn) (level top : ℕ) → IfSome o (λ t. t.left ≡ level) → (o ≡ None → level ≡ top) → level ≡ option_map_or (λ t. t.left) o top
+climb_is : (o : Option Turn) (level top : ℕ) → IfSome o (λ t. t.left ≡ level) → (o ≡ None → level ≡ top)
+    → level ≡ option_map_or (λ t. t.left) o top
 climb_is None level top h none = none refl
 climb_is (Some t) level top h none = sym h
 
-near_is : (shape : Shape) (t : Turn) (o : Option Turn) → ((last : Turn) → o ≡ Some last → AreUnderOneNode shape t.climb t last) → IfSome o (λ last. AreUnderOneNode shape t.climb t last)
+near_is : (shape : Shape) (t : Turn) (o : Option Turn) → ((last : Turn) → o ≡ Some last → AreUnderOneNode shape t.climb t last)
+    → IfSome o (λ last. AreUnderOneNode shape t.climb t last)
 near_is shape t None h = tt
 near_is shape t (Some last) h = h last refl
 
 -- a turn begins at the top
-pub begins_at_top : (s : TrailState) (caller top : ℕ) → top ≡ top_of s.shape → IsTrail s → s.current ≡ None → IfSome (last_turn s.closed) (λ t. t.left ≡ top_of s.shape) → caller < callers_of s.shape
+pub begins_at_top : (s : TrailState) (caller top : ℕ) → top ≡ top_of s.shape → IsTrail s → s.current ≡ None
+    → IfSome (last_turn s.closed) (λ t. t.left ≡ top_of s.shape) → caller < callers_of s.shape
     → Begins s.shape s.closed (opened s caller top)
 begins_at_top s caller top at is closed left known = record {
   climb = at ∙ climb_is (last_turn s.closed) (top_of s.shape) (top_of s.shape) left (λ e. refl);
   near = near_is s.shape (opened s caller top) (last_turn s.closed) (λ last e.
-      let last_known : last.caller < callers_of s.shape = all_last (λ t. t.caller < callers_of s.shape) s.closed last e (closed_known s is closed) in
-      ap (node_of s.shape caller) at ∙ is.shaped.one_top caller known ∙ sym (ap (node_of s.shape last.caller) at ∙ is.shaped.one_top last.caller last_known));
+      let last_known : last.caller < callers_of s.shape = all_last (λ t. t.caller < callers_of s.shape) s.closed last e (closed_known s
+      is closed) in
+      ap (node_of s.shape caller) at ∙ is.shaped.one_top caller known ∙ sym (ap (node_of s.shape last.caller) at
+      ∙ is.shaped.one_top last.caller last_known));
 }
 
 -- a turn begins at a level where the last one left, for a caller under the same node
-pub begins_at : (s : TrailState) (caller level : ℕ) (last : Turn) → last_turn s.closed ≡ Some last → last.left ≡ level → node_of s.shape caller level ≡ node_of s.shape last.caller level
+pub begins_at : (s : TrailState) (caller level : ℕ) (last : Turn) → last_turn s.closed ≡ Some last → last.left ≡ level
+    → node_of s.shape caller level ≡ node_of s.shape last.caller level
     → Begins s.shape s.closed (opened s caller level)
 begins_at s caller level last is left near = record {
   climb = sym left ∙ sym (ap (λ (o : Option Turn). option_map_or (λ t. t.left) o (top_of s.shape)) is);
@@ -65,14 +73,16 @@ begins_at s caller level last is left near = record {
 }
 
 -- an open turn may leave at the top where every level below was noted and none is due
-pub leaves_at_top : (s : TrailState) (t : Turn) (level : ℕ) → level ≡ top_of s.shape → s.noted ≡ level → ((j : ℕ) → j < level → ¬ IsDue s.shape s.closed t.tests j) → MayLeave s level t
+pub leaves_at_top : (s : TrailState) (t : Turn) (level : ℕ) → level ≡ top_of s.shape → s.noted ≡ level → ((j : ℕ) → j < level
+    → ¬ IsDue s.shape s.closed t.tests j) → MayLeave s level t
 leaves_at_top s t level at noted undue = record {
   noted = omega (arith, noted, at);
   left = record { within = omega (arith, at); due = λ h. absurd (omega (arith, at, h)); least = undue };
 }
 
 -- an open turn may leave at the first level that is due
-pub leaves_at_level : (s : TrailState) (t : Turn) (level : ℕ) → level < top_of s.shape → s.noted ≡ level + 1 → IsDue s.shape s.closed t.tests level
+pub leaves_at_level : (s : TrailState) (t : Turn) (level : ℕ) → level < top_of s.shape → s.noted ≡ level + 1
+    → IsDue s.shape s.closed t.tests level
     → ((j : ℕ) → j < level → ¬ IsDue s.shape s.closed t.tests j) → MayLeave s level t
 leaves_at_level s t level below noted due undue = record {
   noted = omega (arith, noted, below);

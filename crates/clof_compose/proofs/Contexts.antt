@@ -13,8 +13,21 @@ own_tag-tells n m c d e =
     let number : c.number ≡ d.number = cc in
     let lock : c.pass.lock ≡ d.pass.lock = cc in
     let pass_tag : c.pass.tag ≡ d.pass.tag = cc in
-    let pass_number : c.pass.number ≡ d.pass.number = cc in
-    (node, λ i. record { level = level i; node = own i; number = number i; pass = record { lock = lock i; tag = pass_tag i; number = pass_number i }; tag = tag i })
+    let pass_number : c.pass.number ≡ d.pass.number = cc in (
+      node,
+      λ i. record {
+        level = level i;
+        node = own i;
+        number = number i;
+        pass = record {
+          lock = lock i;
+          tag = pass_tag i;
+          number =
+              pass_number i;
+        };
+        tag = tag i;
+      },
+    )
 
 pub root_tag_in-own_tag : (n : ℕ) (c : Context) → root_tag_in (own_tag n c) ≡ c.tag
 unfolding own_tag root_tag_in

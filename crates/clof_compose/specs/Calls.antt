@@ -39,7 +39,8 @@ abbrev pub SameBelow : ℕ → ℕ → ℕ → Type 0
 SameBelow level tests tests' = (j : ℕ) → j < level → bit_at tests' j ≡ bit_at tests j
 
 module _ {P : Type 0} (calls : P → List ℕ) (tag : P → Tag) where
-  -- the root as its new holder finds it: of the lock's tag, the share's caller has opened a turn, and nobody has noted anything or called the payload for it
+  -- the root as its new holder finds it: of the lock's tag, the share's caller has opened a turn, and nobody has noted anything or
+  -- called the payload for it
   pub record HasOpened (root_tag_is : Tag) (level : ℕ) (share : ShareState) (r : Root P) : Type 0 where
     pub tagged : root_tag tag r ≡ root_tag_is
     pub trail : IsTrail r.trail
@@ -48,7 +49,8 @@ module _ {P : Type 0} (calls : P → List ℕ) (tag : P → Tag) where
     pub noted : r.trail.noted ≡ 0
     pub share_is : IsShareOf r.trail share
 
-  -- the root as a release may take it: of the lock's tag, the payload's calls are those of all turns, the open turn is of a caller under the context, exactly the
+  -- the root as a release may take it: of the lock's tag, the payload's calls are those of all turns, the open turn is of a caller under
+  -- the context, exactly the
   -- levels below the lock's own are noted, and at none of these must the turn leave
   pub record MayRelease (root_tag_is : Tag) (level number : ℕ) (r : Root P) : Type 0 where
     pub tagged : root_tag tag r ≡ root_tag_is

@@ -6,7 +6,8 @@ use Rattle.keep_local.specs.declared.shape.Shape.{Shape}
 use Rattle.keep_local.specs.Shapes.{callers_of, node_of, HasNode}
 use Rattle.clof_compose.specs.Courses.{left_of}
 
--- A context of a composed lock: the lock's level, the node under which the context stands, its number, which pass of the node's basic lock it has, and the
+-- A context of a composed lock: the lock's level, the node under which the context stands, its number, which pass of the node's basic
+-- lock it has, and the
 -- tag of the lock's root
 pub record Context : Type 0 where
   pub level : ℕ
@@ -17,7 +18,8 @@ pub record Context : Type 0 where
 
 -- the tag of a level's value: its node, and the context of the node in the high lock
 unfoldable pub own_tag : ℕ → Context → Tag
-own_tag node c = fork c.tag (fork (leaf node) (fork (leaf c.level) (fork (leaf c.node) (fork (leaf c.number) (fork c.pass.lock (fork c.pass.tag (leaf c.pass.number)))))))
+own_tag node c = fork c.tag (fork (leaf node) (fork (leaf c.level) (fork (leaf c.node) (fork (leaf c.number) (fork c.pass.lock (fork
+    c.pass.tag (leaf c.pass.number)))))))
 
 -- the tag of the root that is reached from there
 unfoldable pub root_tag_in : Tag → Tag

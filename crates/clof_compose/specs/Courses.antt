@@ -50,11 +50,20 @@ tree_of_name z = tree_of (z.words ∷ z.slots ∷ z.views_name ∷ z.atom ∷ z.
 
 abbrev pub name_from : List ℕ → TableId
 name_from l0 = let l1 = tail_of l0 in let l2 = tail_of l1 in let l3 = tail_of l2 in let l4 = tail_of l3 in let l5 = tail_of l4 in
-    record { words = head_of l0; slots = head_of l1; views_name = head_of l2; atom = head_of l3; block = head_of l4; offset = head_of l5; slot_names = tail_of l5 }
+    record {
+      words = head_of l0;
+      slots = head_of l1;
+      views_name = head_of l2;
+      atom = head_of l3;
+      block = head_of l4;
+      offset = head_of l5;
+      slot_names = tail_of l5;
+    }
 
 -- a course written as a tag
 unfoldable pub course_tag : Course → Tag
-course_tag c = fork (tree_of_name c.name) (fork (tree_of_lists c.shape.paths) (fork (tree_of c.shape.keeps) (fork (tree_of c.quotas) c.payload)))
+course_tag c = fork (tree_of_name c.name) (fork (tree_of_lists c.shape.paths) (fork (tree_of c.shape.keeps) (fork (tree_of c.quotas)
+    c.payload)))
 
 -- the course that a tag names
 unfoldable pub course_of : Tag → Course

@@ -7,7 +7,8 @@ pub record Rest : Type 0 where
   pub context : Context
   pub tests : ℕ
 
--- a queue: the level at which it waits, and what the basic token there has: how many loads it recorded, and whether the last one showed the word that it waits for
+-- a queue: the level at which it waits, and what the basic token there has: how many loads it recorded, and whether the last one showed
+-- the word that it waits for
 pub record Climb : Type 0 where
   pub context : Context
   pub level : ℕ

@@ -30,7 +30,8 @@ pub record IsInShape (shape : Shape) (level keep : ℕ) (parents : List ℕ) : T
   pub paths : (w c : ℕ) → w < callers_of shape → IsContextOf shape level w c → slice_get parents c ≡ Some (node_of shape w level)
 
 module _ {B L : Type 0} (name tag : B → Tag) where
-  pub record IsLevel (has : Context → Type 0) (sound : Type 0) (high_level : ℕ) (root_tag_is : Tag) (level keep : ℕ) (parents : List ℕ) (nodes : List (Node B L)) : Type 0 where
+  pub record IsLevel (has : Context → Type 0) (sound : Type 0) (high_level : ℕ) (root_tag_is : Tag) (level keep : ℕ) (parents : List ℕ)
+      (nodes : List (Node B L)) : Type 0 where
     pub high_is : sound
     pub above : high_level ≡ level + 1
     pub shape_is : IsInShape (course_of root_tag_is).shape level keep parents

@@ -8,8 +8,10 @@ use Rattle.keep_local.specs.States.{callers_in, all_turns, IsTrail}
 use Rattle.clof_compose.specs.Roots.{root_tag}
 use Rattle.clof_compose.specs.declared.root.Root.{Root}
 
--- the root as a node's release finds it: a release may take it, the open turn is of a caller under the node, and the level has this keep in the shape
-pub record IsReleasing {P : Type 0} (calls : P → List ℕ) (tag : P → Tag) (root_tag_is : Tag) (level keep node : ℕ) (r : Root P) : Type 0 where
+-- the root as a node's release finds it: a release may take it, the open turn is of a caller under the node, and the level has this keep
+-- in the shape
+pub record IsReleasing {P : Type 0} (calls : P → List ℕ) (tag : P
+    → Tag) (root_tag_is : Tag) (level keep node : ℕ) (r : Root P) : Type 0 where
   pub trail : IsTrail r.trail
   pub tagged : root_tag tag r ≡ root_tag_is
   pub calls_are : calls r.payload ≡ callers_in (all_turns r.trail)

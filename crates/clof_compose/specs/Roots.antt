@@ -33,7 +33,8 @@ module _ {P : Type 0} (calls : P → List ℕ) where
     pub trail : IsTrail r.trail
     pub settled : r.trail.current ≡ None → calls r.payload ≡ callers_in r.trail.closed
 
-  -- what a holder of a lock of this level may make of the root: of the same trail, with the closed turns from before and turns that left lower
+  -- what a holder of a lock of this level may make of the root: of the same trail, with the closed turns from before and turns that left
+  -- lower
   pub record IsKept (level : ℕ) (old new : Root P) : Type 0 where
     pub name : new.trail.name ≡ old.trail.name
     pub shape : new.trail.shape ≡ old.trail.shape

@@ -23,7 +23,8 @@ use std::mem;
 /// The value of a node whose high lock is H, in its holder's hand.
 pub(crate) type InHand<P, H> = Holds<Own<P, <H as Composed<P>>::Pass, <H as Composed<P>>::Held>>;
 
-/// Takes the high lock for a node's holder: where it was kept, a turn is opened that climbed to this level, and else the node's pass goes up.
+/// Takes the high lock for a node's holder: where it was kept, a turn is opened that climbed to this level, and else the node's pass
+/// goes up.
 pub(crate) fn take_high<P: Payload, H: Composed<P>>(
     high: &H,
     mut low: InHand<P, H>,
@@ -32,20 +33,25 @@ pub(crate) fn take_high<P: Payload, H: Composed<P>>(
 ) -> Step<(InHand<P, H>, H::Queue), InHand<P, H>>
     requires sound { H.sound high.now }
     requires above { H.level high.now ≡ level + 1 }
-    requires context { IsContextOfNode (H.has high.now) level (H.tag high.now) low.value.node (context_in H.Pass.rest H.Held.stand low.value.high) }
-    requires fit { IsOwnFit H.Pass.rest H.Held.stand P.calls P.tag H.Held.stands low.value.node low.value.kept low.value.said low.value.high }
+    requires context { IsContextOfNode (H.has high.now) level (H.tag high.now) low.value.node
+        (context_in H.Pass.rest H.Held.stand low.value.high) }
+    requires fit { IsOwnFit H.Pass.rest H.Held.stand P.calls P.tag H.Held.stands low.value.node low.value.kept low.value.said
+        low.value.high }
     requires tagged { own_tag_of H.Pass.rest H.Held.stand low.value.node low.value.high ≡ (holder_of low).place.tag }
     requires untested { (holder_of low).tested ≡ Open }
     requires share { MayTurn (course_of (H.tag high.now)) (level + 1) low.value.node share.old }
     ensures queue { IfNot result (λ w. (holder_of w.0).place ≡ (holder_of low).place) }
-    ensures climbs { IfNot result (λ w. IsClimbing level w.0.value.node (holder_of low).place.tag (H.Queue.climbs w.1) (H.Queue.climb w.1)) }
+    ensures climbs { IfNot result (λ w. IsClimbing level w.0.value.node (holder_of low).place.tag (H.Queue.climbs w.1)
+        (H.Queue.climb w.1)) }
     ensures unasked { IfNot result (λ w. (holder_of w.0).tested ≡ Open) }
     ensures not_made { IfNot result (λ _. share.new ≡ share.old) }
     ensures held { IfGot result (λ h. (holder_of h).place ≡ (holder_of low).place) }
-    ensures holds { IfGot result (λ h. IsHolding level h.value.node h.value.kept (holder_of low).place.tag (IsStanding H.Held.stands h.value.high) (kept_stand H.Held.stand h.value.high)) }
+    ensures holds { IfGot result (λ h. IsHolding level h.value.node h.value.kept (holder_of low).place.tag
+        (IsStanding H.Held.stands h.value.high) (kept_stand H.Held.stand h.value.high)) }
     ensures untested { IfGot result (λ h. (holder_of h).tested ≡ Open) }
     ensures made { IfGot result (λ _. share.new ≡ record share.old { made = share.old.made + 1 }) }
-    ensures opened { IfGot result (λ h. IsSomeAnd (kept_stand H.Held.stand h.value.high).root (HasOpened P.calls P.tag (H.tag high.now) level share.new)) }
+    ensures opened { IfGot result (λ h. IsSomeAnd (kept_stand H.Held.stand h.value.high).root (HasOpened P.calls P.tag
+        (H.tag high.now) level share.new)) }
 {
     if low.value.parked() {
         open_turn(kept_root(&mut low.value.high), share, level);

@@ -18,8 +18,10 @@ use std::sync::Wait;
 
 /// A lock of one or more levels, whose holder reaches one root.
 ///
-/// `level` is the number of its lowest level, `tag` is the tag of its root, and `count` is the number of its contexts, each of which has one pass. `sound` says that
-/// the locks inside belong together, and `has` that a token of this lock may be of a context. A call that is handed a token asks for both, and gives a token of the
+/// `level` is the number of its lowest level, `tag` is the tag of its root, and `count` is the number of its contexts, each of which has
+/// one pass. `sound` says that
+/// the locks inside belong together, and `has` that a token of this lock may be of a context. A call that is handed a token asks for
+/// both, and gives a token of the
 /// same context. No call takes memory, and only `acquire` and `release` wait.
 pub trait Composed<P: Payload>: Sized {
     type Pass: Resting;
@@ -40,7 +42,8 @@ pub trait Composed<P: Payload>: Sized {
 
     ghost has: { Self → Context → Type 0 };
 
-    /// Goes up from the lowest level until a basic lock answers `Not`, or a level's value has the high lock kept, or the top lock is taken. Then the share's
+    /// Goes up from the lowest level until a basic lock answers `Not`, or a level's value has the high lock kept, or the top lock is
+    /// taken. Then the share's
     /// caller opens a turn.
     fn begin(&self, pass: Self::Pass, share: &mut Share) -> Step<Self::Queue, Self::Held>
         requires sound { sound self.now }
@@ -53,9 +56,11 @@ pub trait Composed<P: Payload>: Sized {
         ensures held { IfGot result (λ h. (Self.Held.stand h).context ≡ (Self.Pass.rest pass).context) }
         ensures stands { IfGot result (λ h. Self.Held.stands h) }
         ensures made { IfGot result (λ _. share.new ≡ record share.old { made = share.old.made + 1 }) }
-        ensures opened { IfGot result (λ h. IsSomeAnd (Self.Held.stand h).root (HasOpened P.calls P.tag (tag self.now) (level self.now) share.new)) };
+        ensures opened { IfGot result (λ h. IsSomeAnd (Self.Held.stand h).root (HasOpened P.calls P.tag (tag self.now)
+            (level self.now) share.new)) };
 
-    /// Goes on from the level at which the pass is queued. The answer is `Not` only where it is queued higher now, or where the one load of this call at that
+    /// Goes on from the level at which the pass is queued. The answer is `Not` only where it is queued higher now, or where the one load
+    /// of this call at that
     /// level, which the token records, didn't show the word that the pass waits for.
     fn poll(&self, queue: Self::Queue, share: &mut Share) -> Step<Self::Queue, Self::Held>
         requires sound { sound self.now }
@@ -69,15 +74,18 @@ pub trait Composed<P: Payload>: Sized {
         ensures held { IfGot result (λ h. (Self.Held.stand h).context ≡ (Self.Queue.climb queue).context) }
         ensures stands { IfGot result (λ h. Self.Held.stands h) }
         ensures made { IfGot result (λ _. share.new ≡ record share.old { made = share.old.made + 1 }) }
-        ensures opened { IfGot result (λ h. IsSomeAnd (Self.Held.stand h).root (HasOpened P.calls P.tag (tag self.now) (level self.now) share.new)) };
+        ensures opened { IfGot result (λ h. IsSomeAnd (Self.Held.stand h).root (HasOpened P.calls P.tag (tag self.now)
+            (level self.now) share.new)) };
 
-    /// Leaves the lock. At each level below the top that it comes to it asks whether somebody is queued behind, and notes the answer. It keeps the high lock for
+    /// Leaves the lock. At each level below the top that it comes to it asks whether somebody is queued behind, and notes the answer. It
+    /// keeps the high lock for
     /// them where the level's threshold allows, and else releases the high lock first.
     fn begin_release(&self, held: Self::Held) -> Step<Self::Leave, Self::Pass>
         requires sound { sound self.now }
         requires own { has self.now (Self.Held.stand held).context }
         requires stands { Self.Held.stands held }
-        requires root { IsSomeAnd (Self.Held.stand held).root (MayRelease P.calls P.tag (tag self.now) (level self.now) (Self.Held.stand held).context.number) }
+        requires root { IsSomeAnd (Self.Held.stand held).root (MayRelease P.calls P.tag (tag self.now) (level self.now)
+            (Self.Held.stand held).context.number) }
         ensures leave { IfNot result (λ l. (Self.Leave.descent l).context ≡ (Self.Held.stand held).context) }
         ensures descends { IfNot result (λ l. Self.Leave.descends l) }
         ensures above { IfNot result (λ l. level self.now ≤ (Self.Leave.descent l).level) }
@@ -85,7 +93,8 @@ pub trait Composed<P: Payload>: Sized {
         ensures pass { IfGot result (λ p. (Self.Pass.rest p).context ≡ (Self.Held.stand held).context) }
         ensures tests { IfGot result (λ p. SameBelow (level self.now) (tests_in (Self.Held.stand held).root) (Self.Pass.rest p).tests) };
 
-    /// Goes on with a release. The answer is `Not` only where it leaves at a lower level now, or where the one load of this call at that level, which the token
+    /// Goes on with a release. The answer is `Not` only where it leaves at a lower level now, or where the one load of this call at that
+    /// level, which the token
     /// records, didn't show the word that the pass waits for.
     fn poll_release(&self, leave: Self::Leave) -> Step<Self::Leave, Self::Pass>
         requires sound { sound self.now }

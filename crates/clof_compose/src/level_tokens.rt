@@ -56,9 +56,14 @@ impl<L: Placed> Resting for LevelPass<L> {
 }
 
 impl<P: Payload, Pass: Resting, Held: Standing<P>> Standing<P> for LevelHeld<P, Pass, Held> {
-    ghost stand = { λ h. record { context = level_context h.level h.node h.number (holder_of h.low).place; root = (kept_stand Held.stand h.low.value.high).root } };
+    ghost stand = { λ h. record {
+      context = level_context h.level h.node h.number (holder_of h.low).place;
+      root =
+          (kept_stand Held.stand h.low.value.high).root;
+    } };
 
-    ghost stands = { λ h. IsHolding h.level h.low.value.node h.low.value.kept (holder_of h.low).place.tag (IsStanding Held.stands h.low.value.high) (kept_stand Held.stand h.low.value.high) × ((holder_of h.low).tested ≡ Open) };
+    ghost stands = { λ h. IsHolding h.level h.low.value.node h.low.value.kept (holder_of h.low).place.tag
+        (IsStanding Held.stands h.low.value.high) (kept_stand Held.stand h.low.value.high) × ((holder_of h.low).tested ≡ Open) };
 
     ghost put_root = { λ h r. record h { low = with_value h.low (own_with_root Held.put_root h.low.value r) } };
 

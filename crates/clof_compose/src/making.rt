@@ -13,7 +13,8 @@ use crate::top_tokens::TopPass;
 use lock_rules::{Basic, Held, Placed, Refused};
 use std::alloc::Global;
 
-/// A lock of one level, the top of the root's trail, with its passes in the order of their numbers. There is one context for each caller where this is the
+/// A lock of one level, the top of the root's trail, with its passes in the order of their numbers. There is one context for each caller
+/// where this is the
 /// only level, and else for each node one level below. It is refused for want of memory alone, and gives the root back.
 pub fn make_top<P: Payload, B: Basic<Root<P>, Held = Held<Root<P>>> + Drop>(
     alloc: Global,
@@ -30,7 +31,8 @@ pub fn make_top<P: Payload, B: Basic<Root<P>, Held = Held<Root<P>>> + Drop>(
     ensures tag { IfOk result (λ m. B.tag m.0.low ≡ root_tag P.tag root) }
     ensures count { IfOk result (λ m. B.count m.0.low ≡ contexts) }
     ensures sound { IfOk result (λ m. IsTop m.0.level (B.count m.0.low) (B.tag m.0.low) m.0.list.items (vec_capacity m.0.list)) }
-    ensures passes { IfOk result (λ m. AreAll (λ p. top_context p.level (B.Pass.place p.low)) (IsOfTop m.0.level (B.name m.0.low) (B.tag m.0.low)) contexts m.1.items) }
+    ensures passes { IfOk result (λ m. AreAll (λ p. top_context p.level (B.Pass.place p.low)) (IsOfTop m.0.level (B.name m.0.low)
+        (B.tag m.0.low)) contexts m.1.items) }
     ensures fresh { IfOk result (λ m. AreFresh m.1.items) }
     ensures refused { IfErr result (λ r. r.value ≡ root) }
 {

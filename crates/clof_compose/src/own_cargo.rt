@@ -37,10 +37,13 @@ pub(crate) fn kept_root<P: Payload, Pass: Drop, Held: Standing<P>>(
     high: &mut High<Pass, Held>,
 ) -> &mut Root<P>
     requires stands { IsStanding Held.stands high.old }
-    ensures* writes_back { sem 𝓛 (Lends (the_high_row Pass.row Held.row) (the_root_row P.row) high.entry result (high_with_root Held.put_root high.old)) }
+    ensures* writes_back { sem 𝓛 (Lends (the_high_row Pass.row Held.row) (the_root_row P.row) high.entry result
+        (high_with_root Held.put_root high.old)) }
     ensures value { (kept_stand Held.stand high.old).root ≡ Some result.now }
-    ensures others { (r : TheRoot P) → kept_stand Held.stand (high_with_root Held.put_root high.old r) ≡ record (kept_stand Held.stand high.old) { root = Some r } }
-    ensures stays { (r : TheRoot P) → IsKept P.calls (kept_stand Held.stand high.old).context.level result.now r → IsStanding Held.stands (high_with_root Held.put_root high.old r) }
+    ensures others { (r : TheRoot P) → kept_stand Held.stand (high_with_root Held.put_root high.old r) ≡ record
+        (kept_stand Held.stand high.old) { root = Some r } }
+    ensures stays { (r : TheRoot P) → IsKept P.calls (kept_stand Held.stand high.old).context.level result.now r
+        → IsStanding Held.stands (high_with_root Held.put_root high.old r) }
 {
     match high {
         High::Kept(held) => held.root(),

@@ -19,7 +19,8 @@ use crate::turns::{close_turn, note_waiter};
 use lock_rules::{Held as Holds, Step};
 use std::mem;
 
-/// Keeps the answer of `waiter` in the value and notes it for the open turn. Where it is a yes and the value has kept the high lock for fewer turns than the
+/// Keeps the answer of `waiter` in the value and notes it for the open turn. Where it is a yes and the value has kept the high lock for
+/// fewer turns than the
 /// level's threshold, the turn is closed there, and the answer is its tests.
 pub(crate) fn keep_for_next<P: Payload, Pass: Resting, Held: Standing<P>>(
     own: &mut Own<P, Pass, Held>,
@@ -31,16 +32,20 @@ pub(crate) fn keep_for_next<P: Payload, Pass: Resting, Held: Standing<P>>(
     requires above { (kept_stand Held.stand own.old.high).context.level ≡ level + 1 }
     requires node { (kept_stand Held.stand own.old.high).context.number ≡ own.old.node }
     requires kept { IfSome (kept_stand Held.stand own.old.high).root (λ r. own.old.kept ≡ run level r.trail.closed) }
-    requires root { IsSomeAnd (kept_stand Held.stand own.old.high).root (IsReleasing P.calls P.tag (kept_stand Held.stand own.old.high).context.tag level keep own.old.node) }
+    requires root { IsSomeAnd (kept_stand Held.stand own.old.high).root (IsReleasing P.calls P.tag
+        (kept_stand Held.stand own.old.high).context.tag level keep own.old.node) }
     ensures node { own.new.node ≡ own.old.node }
     ensures said { own.new.said ≡ yes }
     ensures context { (kept_stand Held.stand own.new.high).context ≡ (kept_stand Held.stand own.old.high).context }
     ensures stands { IsStanding Held.stands own.new.high }
-    ensures kept { IfSome result (λ _. (yes ≡ true) × IsOwnFit Pass.rest Held.stand P.calls P.tag Held.stands own.new.node own.new.kept own.new.said own.new.high) }
+    ensures kept { IfSome result (λ _. (yes ≡ true)
+        × IsOwnFit Pass.rest Held.stand P.calls P.tag Held.stands own.new.node own.new.kept own.new.said own.new.high) }
     ensures tests { IfSome result (λ tests. SameBelow level (tests_in (kept_stand Held.stand own.old.high).root) tests) }
-    ensures not_kept { IfNone result (IsSomeAnd (kept_stand Held.stand own.new.high).root (MayRelease P.calls P.tag (kept_stand Held.stand own.old.high).context.tag (level + 1) own.new.node)) }
+    ensures not_kept { IfNone result (IsSomeAnd (kept_stand Held.stand own.new.high).root (MayRelease P.calls P.tag
+        (kept_stand Held.stand own.old.high).context.tag (level + 1) own.new.node)) }
     ensures noted { IfNone result (bit_at (tests_in (kept_stand Held.stand own.new.high).root) level ≡ bit_of yes) }
-    ensures same { IfNone result (SameBelow level (tests_in (kept_stand Held.stand own.old.high).root) (tests_in (kept_stand Held.stand own.new.high).root)) }
+    ensures same { IfNone result (SameBelow level (tests_in (kept_stand Held.stand own.old.high).root) (tests_in
+        (kept_stand Held.stand own.new.high).root)) }
 {
     own.said = yes;
     note_waiter(kept_root(&mut own.high), level, yes);
@@ -68,13 +73,15 @@ pub(crate) fn release_high<P: Payload, H: Composed<P>>(
     requires sound { H.sound high.now }
     requires own { H.has high.now (kept_stand H.Held.stand low.value.high).context }
     requires stands { IsStanding H.Held.stands low.value.high }
-    requires root { IsSomeAnd (kept_stand H.Held.stand low.value.high).root (MayRelease P.calls P.tag (H.tag high.now) (H.level high.now) (kept_stand H.Held.stand low.value.high).context.number) }
+    requires root { IsSomeAnd (kept_stand H.Held.stand low.value.high).root (MayRelease P.calls P.tag (H.tag high.now)
+        (H.level high.now) (kept_stand H.Held.stand low.value.high).context.number) }
     ensures seat { IfNot result (λ w. w.0.seat ≡ low.seat) }
     ensures value { IfNot result (λ w. w.0.value ≡ record low.value { high = Away }) }
     ensures context { IfNot result (λ w. (H.Leave.descent w.1).context ≡ (kept_stand H.Held.stand low.value.high).context) }
     ensures descends { IfNot result (λ w. H.Leave.descends w.1) }
     ensures above { IfNot result (λ w. H.level high.now ≤ (H.Leave.descent w.1).level) }
-    ensures noted { IfNot result (λ w. SameBelow (H.level high.now) (tests_in (kept_stand H.Held.stand low.value.high).root) (H.Leave.descent w.1).tests) }
+    ensures noted { IfNot result (λ w. SameBelow (H.level high.now) (tests_in (kept_stand H.Held.stand low.value.high).root)
+        (H.Leave.descent w.1).tests) }
     ensures kept_seat { IfGot result (λ w. w.0.seat ≡ low.seat) }
     ensures idle { IfGot result (λ w. IsIdleAgain H.Pass.rest (kept_stand H.Held.stand low.value.high).context low.value w.0.value w.1) }
     ensures tests { IfGot result (λ w. SameBelow (H.level high.now) (tests_in (kept_stand H.Held.stand low.value.high).root) w.1) }

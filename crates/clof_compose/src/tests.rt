@@ -34,7 +34,8 @@ fn take<C: Composed<Roll>>(lock: &C, pass: C::Pass, share: &mut Share) -> Option
     ensures held { IfSome result (λ h. (C.Held.stand h).context ≡ (C.Pass.rest pass).context) }
     ensures stands { IfSome result (λ h. C.Held.stands h) }
     ensures made { IfSome result (λ _. share.new ≡ record share.old { made = share.old.made + 1 }) }
-    ensures opened { IfSome result (λ h. IsSomeAnd (C.Held.stand h).root (HasOpened (λ r. r.callers.items) (λ _. leaf 0) (C.tag lock.now) (C.level lock.now) share.new)) }
+    ensures opened { IfSome result (λ h. IsSomeAnd (C.Held.stand h).root (HasOpened (λ r. r.callers.items) (λ _. leaf 0)
+        (C.tag lock.now) (C.level lock.now) share.new)) }
 {
     match lock.begin(pass, share) {
         Step::Got(held) => Some(held),
@@ -58,7 +59,8 @@ fn leave<C: Composed<Roll>>(lock: &C, held: C::Held) -> Option<C::Pass>
     requires sound { C.sound lock.now }
     requires own { C.has lock.now (C.Held.stand held).context }
     requires stands { C.Held.stands held }
-    requires root { IsSomeAnd (C.Held.stand held).root (MayRelease (λ r. r.callers.items) (λ _. leaf 0) (C.tag lock.now) (C.level lock.now) (C.Held.stand held).context.number) }
+    requires root { IsSomeAnd (C.Held.stand held).root (MayRelease (λ r. r.callers.items) (λ _. leaf 0) (C.tag lock.now)
+        (C.level lock.now) (C.Held.stand held).context.number) }
     ensures { IfSome result (λ p. (C.Pass.rest p).context ≡ (C.Held.stand held).context) }
 {
     match lock.begin_release(held) {
@@ -84,7 +86,8 @@ fn hold<C: Composed<Roll>>(lock: &C, pass: C::Pass, share: &mut Share) -> Option
     leave(lock, held)
 }
 
-/// The second caller and then the first hold the lock once, and the lock is taken apart. The answer is `None` where a call answers otherwise.
+/// The second caller and then the first hold the lock once, and the lock is taken apart. The answer is `None` where a call answers
+/// otherwise.
 fn hold_by_two<C: Composed<Roll> + Drop>(
     lock: C,
     mut passes: Vec<C::Pass>,

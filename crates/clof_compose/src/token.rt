@@ -52,7 +52,8 @@ pub trait Standing<P: Payload>: Drop {
     // The token with this root in the place of its own.
     ghost put_root: { Self → TheRoot P → Self };
 
-    /// Lends the root. The holder still stands where what it makes of the root is of the same trail, and has no other closed turns than those from before and some
+    /// Lends the root. The holder still stands where what it makes of the root is of the same trail, and has no other closed turns than
+    /// those from before and some
     /// that left below the lock's level.
     fn root(&mut self) -> &mut Root<P>
         requires stands { stands self.old }

@@ -45,7 +45,13 @@ impl<L: Placed> Resting for TopPass<L> {
 }
 
 impl<L: Queueing> Climbing for TopQueue<L> {
-    ghost climb = { λ q. record { context = top_context q.level (L.waiting q.low).place; level = q.level; loads = (L.waiting q.low).loads; ready = (L.waiting q.low).ready } };
+    ghost climb = { λ q. record {
+      context = top_context q.level (L.waiting q.low).place;
+      level = q.level;
+      loads =
+          (L.waiting q.low).loads;
+      ready = (L.waiting q.low).ready;
+    } };
 
     ghost climbs = { λ _. Unit {0} };
 
@@ -67,7 +73,14 @@ impl<P: Payload> Standing<P> for TopHeld<P> {
 }
 
 impl<L: Departing> Descending for TopLeave<L> {
-    ghost descent = { λ l. record { context = top_context l.level (L.waiting l.low).place; level = l.level; loads = (L.waiting l.low).loads; ready = (L.waiting l.low).ready; tests = l.tests } };
+    ghost descent = { λ l. record {
+      context = top_context l.level (L.waiting l.low).place;
+      level = l.level;
+      loads =
+          (L.waiting l.low).loads;
+      ready = (L.waiting l.low).ready;
+      tests = l.tests;
+    } };
 
     ghost descends = { λ l. L.rests l.low };
 

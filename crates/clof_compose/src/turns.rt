@@ -28,7 +28,12 @@ pub(crate) fn close_turn<P>(root: &mut Root<P>, level: u32) -> u32
     requires open { IsSome root.old.trail.current }
     requires may { IfSome root.old.trail.current (MayLeave root.old.trail level) }
     ensures payload { root.new.payload ≡ root.old.payload }
-    ensures closed { root.new.trail ≡ record root.old.trail { closed = root.old.trail.closed ++ option_list (option_map (λ t. left_at t level) root.old.trail.current); current = None; noted = 0 } }
+    ensures closed { root.new.trail ≡ record root.old.trail {
+      closed = root.old.trail.closed ++ option_list (option_map
+          (λ t. left_at t level) root.old.trail.current);
+      current = None;
+      noted = 0;
+    } }
     ensures lawful { IsTrail root.new.trail }
     ensures tests { result ≡ tests_of root.old.trail.current }
 {
@@ -44,7 +49,11 @@ pub(crate) fn note_waiter<P>(root: &mut Root<P>, level: u32, yes: bool)
     requires next { level ≡ root.old.trail.noted }
     requires below { level < top_of root.old.trail.shape }
     ensures payload { root.new.payload ≡ root.old.payload }
-    ensures noted { root.new.trail ≡ record root.old.trail { current = option_map (λ t. tested t level yes) root.old.trail.current; noted = level + 1 } }
+    ensures noted { root.new.trail ≡ record root.old.trail {
+      current = option_map
+          (λ t. tested t level yes) root.old.trail.current;
+      noted = level + 1;
+    } }
     ensures lawful { IsTrail root.new.trail }
 {
     root.trail.note(level, yes);

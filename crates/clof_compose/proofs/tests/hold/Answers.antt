@@ -13,8 +13,12 @@ leave-requires-clause-root g c =
     let others = c.root.ensures.others c.call.new.root in
     let made = c.in_ok-held.ensures.made in
     let number = ap (λ s. s.context.number) others ∙ ap (λ k. k.number) c.in_ok-held.ensures.held in
-    let opened = subst (λ o. IsSomeAnd o (HasOpened (λ r. r.callers.items) (λ _. leaf 0) (g.C.Composed.tag c.args.lock.now) (g.C.Composed.level c.args.lock.now) c.take.new.share)) c.root.ensures.value c.in_ok-held.ensures.opened in
-    let context = subst (λ n. IsContextOf (course_of (g.C.Composed.tag c.args.lock.now)).shape 0 n (g.C.Pass.Resting.rest c.args.pass).context.number) (sym (ap (λ s. s.caller) made)) c.requires.share.context in
+    let opened = subst (λ o. IsSomeAnd o (HasOpened (λ r. r.callers.items) (λ _. leaf 0) (g.C.Composed.tag c.args.lock.now)
+    (g.C.Composed.level c.args.lock.now) c.take.new.share)) c.root.ensures.value c.in_ok-held.ensures.opened in
+    let context = subst (λ n. IsContextOf (course_of (g.C.Composed.tag c.args.lock.now)).shape 0 n (g.C.Pass.Resting.rest
+    c.args.pass).context.number) (sym (ap (λ s. s.caller) made)) c.requires.share.context in
     some_with _ (g.C.Held.Standing.stand c.in_ok-held.held) _ c.call.new.root others
-    (may_release_lowest (λ r. r.callers.items) (λ _. leaf 0) (g.C.Composed.tag c.args.lock.now) (g.C.Composed.level c.args.lock.now) _ _ _ c.root.result.now c.call.new.root c.requires.lowest opened
-    (subst (λ n. IsContextOf (course_of (g.C.Composed.tag c.args.lock.now)).shape 0 c.take.new.share.caller n) (sym number) context) c.in_ok-call.ensures.trail refl c.in_ok-call.ensures.noted c.caller.ensures)
+    (may_release_lowest (λ r. r.callers.items) (λ _. leaf 0) (g.C.Composed.tag c.args.lock.now) (g.C.Composed.level c.args.lock.now) _ _
+    _ c.root.result.now c.call.new.root c.requires.lowest opened
+    (subst (λ n. IsContextOf (course_of (g.C.Composed.tag c.args.lock.now)).shape 0 c.take.new.share.caller n) (sym number) context)
+    c.in_ok-call.ensures.trail refl c.in_ok-call.ensures.noted c.caller.ensures)

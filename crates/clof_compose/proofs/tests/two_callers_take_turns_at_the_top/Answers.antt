@@ -12,4 +12,5 @@ hold_by_two-requires-clause-callers g c =
 
 pub hold_by_two-requires-clause-shares : goal.hold_by_two-requires-clause-shares
 hold_by_two-requires-clause-shares g c =
-    c.in-Ok.ensures.shares ∙ ap (λ n. new_shares n (1 ∷ 1 ∷ [])) (sym (ap (λ k. k.name) (course_is (λ r. r.callers.items) (λ _. leaf 0) _ c.new-root.result (sym c.in-Ok-make_top.ensures.tag)) ∙ ap (λ s. s.name) c.new-root.ensures.trail))
+    c.in-Ok.ensures.shares ∙ ap (λ n. new_shares n (1 ∷ 1 ∷ [])) (sym (ap (λ k. k.name) (course_is (λ r. r.callers.items) (λ _. leaf 0) _
+    c.new-root.result (sym c.in-Ok-make_top.ensures.tag)) ∙ ap (λ s. s.name) c.new-root.ensures.trail))

@@ -13,13 +13,22 @@ returns g c =
       record {
         writes_back = tt;
         value = found;
-        others = λ r. ap (λ x. record { context = level_context c.args.self.now.level c.args.self.now.node c.args.self.now.number (holder_of c.args.self.now.low).place; root = x })
-            (ap (λ o. (kept_stand g.Held.Standing.stand (high_with_root g.Held.Standing.put_root o.high r)).root) (sym v) ∙ ap (λ s. s.root) (c.kept_root.ensures.others r));
+        others = λ r. ap (λ x. record {
+          context = level_context c.args.self.now.level c.args.self.now.node c.args.self.now.number
+              (holder_of c.args.self.now.low).place;
+          root = x;
+        })
+            (ap (λ o. (kept_stand g.Held.Standing.stand (high_with_root g.Held.Standing.put_root o.high r)).root) (sym v)
+            ∙ ap (λ s. s.root) (c.kept_root.ensures.others r));
         stays = λ r k. (
-          holding_stays g.P.Payload.calls _ _ _ _ _ _ (kept_stand g.Held.Standing.stand c.args.self.now.low.value.high) _ _ r c.requires.stands.0 found
-              (subst (λ o. kept_stand g.Held.Standing.stand (high_with_root g.Held.Standing.put_root o.high r) ≡ record (kept_stand g.Held.Standing.stand o.high) { root = Some r }) v (c.kept_root.ensures.others r))
+          holding_stays g.P.Payload.calls _ _ _ _ _ _ (kept_stand g.Held.Standing.stand c.args.self.now.low.value.high) _ _ r
+              c.requires.stands.0 found
+              (subst (λ o. kept_stand g.Held.Standing.stand (high_with_root g.Held.Standing.put_root o.high r) ≡ record (kept_stand
+              g.Held.Standing.stand o.high) { root = Some r }) v (c.kept_root.ensures.others r))
               k
-              (subst (λ o. IsKept g.P.Payload.calls (kept_stand g.Held.Standing.stand o.high).context.level c.kept_root.result.now r → IsStanding g.Held.Standing.stands (high_with_root g.Held.Standing.put_root o.high r)) v (c.kept_root.ensures.stays r)),
+              (subst (λ o. IsKept g.P.Payload.calls (kept_stand g.Held.Standing.stand o.high).context.level c.kept_root.result.now r
+              → IsStanding g.Held.Standing.stands (high_with_root g.Held.Standing.put_root o.high r)) v (c.kept_root.ensures.stays
+              r)),
           c.requires.stands.1,
         );
       },

@@ -5,5 +5,6 @@ use Rattle.clof_compose.proofs.top.TopPassComposed.close.Goals as goal
 
 pub close-requires : goal.close-requires
 close-requires g c = record {
-  all = top_passes (λ p. p.low) g.B.Pass.Placed.place (λ p. p.level) _ _ _ _ _ _ c.requires.all c.basic_passes.ensures (ap length c.basic_passes.ensures ∙ length-map _ _);
+  all = top_passes (λ p. p.low) g.B.Pass.Placed.place (λ p. p.level) _ _ _ _ _ _ c.requires.all c.basic_passes.ensures (ap length
+      c.basic_passes.ensures ∙ length-map _ _);
 }
