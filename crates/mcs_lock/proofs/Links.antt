@@ -1,5 +1,6 @@
 -- The links of the queue at each kind of step.
-use Rattle.std.proofs.Common.{◌≡◌, ◌≢◌, ◌⊎◌, ℕ, zero, suc, ◌+◌, ◌-◌, ◌*◌, ◌^◌, ◌<◌, ◌≤◌, Bool, true, false, List, [], ◌∷◌, ◌++◌, length, set, slice_index, refl, ap, sym, ◌∙◌, subst, inl, inr, ⊎_elim, arith, length-append}
+use Rattle.std.proofs.Common.{◌≡◌, ◌≢◌, ◌⊎◌, ℕ, zero, suc, ◌+◌, ◌-◌, ◌*◌, ◌^◌, ◌<◌, ◌≤◌, Bool, true, false, List, [], ◌∷◌, ◌++◌, length,
+    set, slice_index, refl, ap, sym, ◌∙◌, subst, inl, inr, ⊎_elim, arith, length-append}
 use Rattle.std.proofs.Math.ListN.{length-set}
 use mathlib.Core.Option.{some, some-injective, some-ne-none}
 use mathlib.Core.Logic.{dite}
@@ -12,9 +13,11 @@ use Rattle.lock_rules.specs.declared.view.View.{View}
 use Rattle.lock_tables.specs.Rule.{is_busy, is_holder, IsQueued}
 use Rattle.lock_tables.proofs.Lists.{set_at, at_end, at_below, there, no_true, wrote_here, wrote_else}
 use Rattle.lock_tables.proofs.Queues.{no_place, wrong_phase, held_busy}
-use Rattle.mcs_lock.specs.Rule.{tail, next, locked, name, pass_named, IsPlaced, NamesBehind, IsFirst, IsBehind, IsPrepared, IsLinked, mcs_discipline}
+use Rattle.mcs_lock.specs.Rule.{tail, next, locked, name, pass_named, IsPlaced, NamesBehind, IsFirst, IsBehind, IsPrepared, IsLinked,
+    mcs_discipline}
 use Rattle.mcs_lock.specs.Kinds.{cleared_view, raised_view, queued_view, entered_view, linked_view, left_view}
-use Rattle.mcs_lock.proofs.Places.{one_view, KeepsLinks, keeps_all, WasPlaced, IsStill, still, names_still, names_as, busy_at, live_at, below_at, same_place, other_pass, other_seat, place_of, placed_at}
+use Rattle.mcs_lock.proofs.Places.{one_view, KeepsLinks, keeps_all, WasPlaced, IsStill, still, names_still, names_as, busy_at, live_at,
+    below_at, same_place, other_pass, other_seat, place_of, placed_at}
 use Rattle.mcs_lock.proofs.Core.{core_from}
 
 -- words of two passes, or of two kinds, are two
@@ -47,7 +50,8 @@ named_pass : (p : ℕ) → pass_named (name p) ≡ p
 named_pass p = omega arith
 
 -- a view whose words are as they were
-pub prepared_as : (words words' : List ℕ) (u : View) → slice_index words' (next u.number) ≡ slice_index words (next u.number) → slice_index words' (locked u.number) ≡ slice_index words (locked u.number)
+pub prepared_as : (words words' : List ℕ) (u : View) → slice_index words' (next u.number) ≡ slice_index words (next u.number)
+    → slice_index words' (locked u.number) ≡ slice_index words (locked u.number)
     → IsPrepared words u → IsPrepared words' u
 prepared_as words words' u a b p = record {
   unlinked = λ e. let r = p.unlinked e in (r.0, a ∙ r.1);
@@ -55,7 +59,8 @@ prepared_as words words' u a b p = record {
 }
 
 -- a pass in the queue has nothing stored for a swap to come
-pub busy_prepared : (words words' : List ℕ) (v w : View) → IsPrepared words v → is_busy true v.phase ≡ true → (w.unlinked ≡ true → v.unlinked ≡ true) → (w.raised ≡ true → v.raised ≡ true) → IsPrepared words' w
+pub busy_prepared : (words words' : List ℕ) (v w : View) → IsPrepared words v → is_busy true v.phase ≡ true
+    → (w.unlinked ≡ true → v.unlinked ≡ true) → (w.raised ≡ true → v.raised ≡ true) → IsPrepared words' w
 busy_prepared words words' v w p busy a b = record {
   unlinked = λ e. absurd (no_true (sym busy ∙ ap (is_busy true) (p.unlinked (a e)).0));
   raised = λ e. absurd (no_true (sym busy ∙ ap (is_busy true) (p.raised (b e)).0));
@@ -63,11 +68,13 @@ busy_prepared words words' v w p busy a b = record {
 
 module _ (n : ℕ) (tag : Tag) (words seats : List ℕ) (views : List View) (q : IsQueued mcs_discipline n tag words seats views) where
   -- a pass that is idle is none of the passes of the queue
-  idle_apart : (j : ℕ) (u : View) → get_elem? views j ≡ some u → u.spent ≡ false → u.phase ≡ Idle → (i : ℕ) (z : View) → IsPlaced seats views i z → u.number ≢ z.number
+  idle_apart : (j : ℕ) (u : View) → get_elem? views j ≡ some u → u.spent ≡ false → u.phase ≡ Idle → (i : ℕ) (z : View)
+      → IsPlaced seats views i z → u.number ≢ z.number
   idle_apart j u at live idle i z p e = other_pass n tag words seats views q j u at live (ap (is_busy true) idle) i z p (sym e)
 
   -- what a pass stored stays where a word of a pass in the queue is written
-  prepared_beside : (words' : List ℕ) (i : ℕ) (z : View) → IsPlaced seats views i z → ((p : ℕ) → p ≢ z.number → slice_index words' (next p) ≡ slice_index words (next p))
+  prepared_beside : (words' : List ℕ) (i : ℕ) (z : View) → IsPlaced seats views i z
+      → ((p : ℕ) → p ≢ z.number → slice_index words' (next p) ≡ slice_index words (next p))
       → ((p : ℕ) → p ≢ z.number → slice_index words' (locked p) ≡ slice_index words (locked p))
       → (j : ℕ) (u : View) → get_elem? views j ≡ some u → u.spent ≡ false → IsPrepared words' u
   prepared_beside words' i z p a b j u at live = let k = q.core.prepared j u at live in record {
@@ -91,7 +98,9 @@ module _ (n : ℕ) (tag : Tag) (words seats : List ℕ) (views : List View) (q :
             queued = λ e. keeps.queued (ap (λ (x : View). x.phase) t.1 ∙ e);
           };
         })
-        (λ (t : (p.seat ≢ id) × (get_elem? views p.seat ≡ some u)). record { view = u; placed = record { seat = p.seat; place = p.place; at = t.1 }; keeps = keeps_all u })
+        (λ (t : (p.seat ≢ id)
+            × (get_elem? views p.seat ≡ some u)). record { view = u; placed = record { seat = p.seat; place = p.place; at = t.1 }; keeps =
+            keeps_all u })
         (at_set views id p.seat w u p.at)
 
     stays_placed : KeepsLinks v w → (i : ℕ) (u : View) → IsPlaced seats views i u → IsStill seats (set views id w) i u
@@ -106,11 +115,14 @@ module _ (n : ℕ) (tag : Tag) (words seats : List ℕ) (views : List View) (q :
     noted_set keeps own i u p ne = names_set keeps i u.successor (⊎_elim
         (λ (t : (p.seat ≡ id) × (w ≡ u)).
         let same = ap (λ (x : View). x.successor) t.1 in
-        names_as seats views i w.successor u.successor same (own i (record { seat = p.seat; place = p.place; at = ap (get_elem? views) t.0 ∙ at }) (λ e. ne (sym same ∙ e))))
-        (λ (t : (p.seat ≢ id) × (get_elem? views p.seat ≡ some u)). q.core.noted i u (record { seat = p.seat; place = p.place; at = t.1 }) ne)
+        names_as seats views i w.successor u.successor same
+            (own i (record { seat = p.seat; place = p.place; at = ap (get_elem? views) t.0 ∙ at }) (λ e. ne (sym same ∙ e))))
+        (λ (t : (p.seat ≢ id) × (get_elem? views p.seat ≡ some u)). q.core.noted i u
+            (record { seat = p.seat; place = p.place; at = t.1 }) ne)
         (at_set views id p.seat w u p.at))
 
-    prepared_set : (words' : List ℕ) → IsPrepared words' w → ((j : ℕ) (u : View) → j ≢ id → get_elem? views j ≡ some u → u.spent ≡ false → IsPrepared words' u)
+    prepared_set : (words' : List ℕ) → IsPrepared words' w
+        → ((j : ℕ) (u : View) → j ≢ id → get_elem? views j ≡ some u → u.spent ≡ false → IsPrepared words' u)
         → (j : ℕ) (u : View) → get_elem? (set views id w) j ≡ some u → u.spent ≡ false → IsPrepared words' u
     prepared_set words' mine others j u e live' = ⊎_elim
         (λ (t : (j ≡ id) × (w ≡ u)). subst (IsPrepared words') t.1 mine)
@@ -118,19 +130,23 @@ module _ (n : ℕ) (tag : Tag) (words seats : List ℕ) (views : List View) (q :
         (at_set views id j w u e)
 
     one_seat : (i : ℕ) (p : IsPlaced seats views i v) → p.seat ≡ id
-    one_seat i p = dite (ℕ_discrete p.seat id) (λ e. e) (λ ne. absurd (other_seat n tag words seats views q id p.seat v v at p.at live live ne refl))
+    one_seat i p = dite (ℕ_discrete p.seat id) (λ e. e)
+        (λ ne. absurd (other_seat n tag words seats views q id p.seat v v at p.at live live ne refl))
 
     placed_id : (i : ℕ) → IsPlaced seats views i v → get_elem? seats i ≡ some id
     placed_id i p = p.place ∙ ap some (one_seat i p)
 
     -- a step that leaves the words
-    pub core_loads : KeepsLinks v w → is_busy true v.phase ≡ true → (w.unlinked ≡ true → v.unlinked ≡ true) → (w.raised ≡ true → v.raised ≡ true)
+    pub core_loads : KeepsLinks v w → is_busy true v.phase ≡ true → (w.unlinked ≡ true → v.unlinked ≡ true)
+        → (w.raised ≡ true → v.raised ≡ true)
         → ((i : ℕ) → IsPlaced seats views i v → w.successor ≢ 0 → NamesBehind seats views i w.successor)
         → IsLinked n words seats (set views id w)
-    core_loads keeps busy a b own = core_from n words words seats views (set views id w) q.core refl long_set (was_set keeps) (λ i u p. refl)
+    core_loads keeps busy a b own =
+        core_from n words words seats views (set views id w) q.core refl long_set (was_set keeps) (λ i u p. refl)
         (λ i u p ne. names_set keeps i (slice_index words (next u.number)) (q.core.links i u p ne))
         (noted_set keeps own)
-        (prepared_set words (busy_prepared words words v w (q.core.prepared id v at live) busy a b) (λ j u ne e live'. q.core.prepared j u e live'))
+        (prepared_set words (busy_prepared words words v w (q.core.prepared id v at live) busy a b)
+            (λ j u ne e live'. q.core.prepared j u e live'))
 
     -- a store of an idle pass in one of its own words
     core_stores : (words' : List ℕ) → v.phase ≡ Idle → slice_index words' tail ≡ slice_index words tail
@@ -142,7 +158,8 @@ module _ (n : ℕ) (tag : Tag) (words seats : List ℕ) (views : List View) (q :
         let apart = other_pass n tag words seats views q id v at live free in
         core_from n words words' seats views (set views id w) q.core ends long_set (was_set keeps) (λ i u p. b u.number (apart i u p))
         (λ i u p ne. let same = a u.number (apart i u p) in
-        names_set keeps i (slice_index words' (next u.number)) (names_as seats views i (slice_index words (next u.number)) (slice_index words' (next u.number)) (sym same)
+        names_set keeps i (slice_index words' (next u.number))
+            (names_as seats views i (slice_index words (next u.number)) (slice_index words' (next u.number)) (sym same)
         (q.core.links i u p (λ e. ne (same ∙ e)))))
         (noted_set keeps (λ i p _. absurd (no_place mcs_discipline n tag words seats views id v q at free i id (placed_id i p) refl)))
         (prepared_set words' mine (λ j u ne e live'. let far = other_seat n tag words seats views q id j v u at e live live' ne in
@@ -163,7 +180,8 @@ module _ (n : ℕ) (tag : Tag) (words seats : List ℕ) (views : List View) (q :
     pub core_clears : v.phase ≡ Idle → IsLinked n (set words (next v.number) 0) seats (set views id (cleared_view v))
     core_clears idle =
         let k = q.core.prepared id v at live in
-        core_stores id v (cleared_view v) at live (set words (next v.number) 0) idle (wrote_else words (next v.number) tail 0 (tail_next v.number))
+        core_stores id v (cleared_view v) at live (set words (next v.number) 0) idle
+            (wrote_else words (next v.number) tail 0 (tail_next v.number))
         (λ p ne. wrote_else words (next v.number) (next p) 0 (apart_next p v.number ne))
         (λ p ne. wrote_else words (next v.number) (locked p) 0 (locked_next p v.number))
         (record { number = refl; predecessor = refl; linked = λ e. e; queued = λ e. e })
@@ -176,7 +194,8 @@ module _ (n : ℕ) (tag : Tag) (words seats : List ℕ) (views : List View) (q :
     pub core_raises : v.phase ≡ Idle → IsLinked n (set words (locked v.number) 1) seats (set views id (raised_view v))
     core_raises idle =
         let k = q.core.prepared id v at live in
-        core_stores id v (raised_view v) at live (set words (locked v.number) 1) idle (wrote_else words (locked v.number) tail 1 (tail_locked v.number))
+        core_stores id v (raised_view v) at live (set words (locked v.number) 1) idle
+            (wrote_else words (locked v.number) tail 1 (tail_locked v.number))
         (λ p ne. wrote_else words (locked v.number) (next p) 1 (next_locked p v.number))
         (λ p ne. wrote_else words (locked v.number) (locked p) 1 (apart_locked p v.number ne))
         (record { number = refl; predecessor = refl; linked = λ e. e; queued = λ e. e })
@@ -186,16 +205,20 @@ module _ (n : ℕ) (tag : Tag) (words seats : List ℕ) (views : List View) (q :
         })
 
     -- what is prepared, where a word is stored that is none of a pass
-    prepared_tail : (x : ℕ) (w : View) → w.unlinked ≡ false → w.raised ≡ false → (j : ℕ) (u : View) → get_elem? (set views id w) j ≡ some u → u.spent ≡ false → IsPrepared (set words tail x) u
+    prepared_tail : (x : ℕ) (w : View) → w.unlinked ≡ false → w.raised ≡ false → (j : ℕ) (u : View)
+        → get_elem? (set views id w) j ≡ some u → u.spent ≡ false → IsPrepared (set words tail x) u
     prepared_tail x w a b = prepared_set id v w at live (set words tail x)
         (record { unlinked = λ e. absurd (no_true (sym e ∙ a)); raised = λ e. absurd (no_true (sym e ∙ b)) })
-        (λ j u ne e live'. prepared_as words (set words tail x) u (wrote_else words tail (next u.number) x (next_tail u.number)) (wrote_else words tail (locked u.number) x (locked_tail u.number)) (q.core.prepared j u e live'))
+        (λ j u ne e live'. prepared_as words (set words tail x) u (wrote_else words tail (next u.number) x (next_tail u.number))
+            (wrote_else words tail (locked u.number) x (locked_tail u.number)) (q.core.prepared j u e live'))
 
     -- a place of the queue behind which another pass enters
-    enter_cases : (w : View) (i : ℕ) (u : View) → v.phase ≡ Idle → IsPlaced (seats ++ id ∷ []) (set views id w) i u → IsPlaced seats views i u ⊎ ((i ≡ length seats) × (w ≡ u))
+    enter_cases : (w : View) (i : ℕ) (u : View) → v.phase ≡ Idle → IsPlaced (seats ++ id ∷ []) (set views id w) i u
+        → IsPlaced seats views i u ⊎ ((i ≡ length seats) × (w ≡ u))
     enter_cases w i u idle p = ⊎_elim
         (λ (f : get_elem? seats i ≡ some p.seat). ⊎_elim
-        (λ (t : (p.seat ≡ id) × (w ≡ u)). absurd (no_place mcs_discipline n tag words seats views id v q at (ap (is_busy true) idle) i p.seat f t.0))
+        (λ (t : (p.seat ≡ id) × (w ≡ u)). absurd
+            (no_place mcs_discipline n tag words seats views id v q at (ap (is_busy true) idle) i p.seat f t.0))
         (λ (t : (p.seat ≢ id) × (get_elem? views p.seat ≡ some u)). inl (record { seat = p.seat; place = f; at = t.1 }))
         (at_set views id p.seat w u p.at))
         (λ (f : (i ≡ length seats) × (id ≡ p.seat)). ⊎_elim
@@ -204,15 +227,18 @@ module _ (n : ℕ) (tag : Tag) (words seats : List ℕ) (views : List View) (q :
         (at_set views id p.seat w u p.at))
         (at_end seats id p.seat i p.place)
 
-    enter_still : (w : View) (i : ℕ) (u : View) → v.phase ≡ Idle → IsPlaced seats views i u → IsPlaced (seats ++ id ∷ []) (set views id w) i u
+    enter_still : (w : View) (i : ℕ) (u : View) → v.phase ≡ Idle → IsPlaced seats views i u
+        → IsPlaced (seats ++ id ∷ []) (set views id w) i u
     enter_still w i u idle p = record {
       seat = p.seat;
       place = at_longer seats (id ∷ []) i p.seat p.place;
-      at = set_else views id p.seat w (no_place mcs_discipline n tag words seats views id v q at (ap (is_busy true) idle) i p.seat p.place) ∙ p.at;
+      at = set_else views id p.seat w
+          (no_place mcs_discipline n tag words seats views id v q at (ap (is_busy true) idle) i p.seat p.place) ∙ p.at;
     }
 
     names_enter : (w : View) (i x : ℕ) → v.phase ≡ Idle → NamesBehind seats views i x → NamesBehind (seats ++ id ∷ []) (set views id w) i x
-    names_enter w i x idle b = record { view = b.view; placed = enter_still w (suc i) b.view idle b.placed; named = b.named; linked = b.linked }
+    names_enter w i x idle b =
+        record { view = b.view; placed = enter_still w (suc i) b.view idle b.placed; named = b.named; linked = b.linked }
 
     -- swap of `tail` that found a pass
     pub core_enters : v.phase ≡ Idle → v.unlinked ≡ true → v.raised ≡ true → slice_index words tail ≢ 0
@@ -229,18 +255,21 @@ module _ (n : ℕ) (tag : Tag) (words seats : List ℕ) (views : List View) (q :
           empty = λ e. absurd (omega (arith, e, long));
           last = λ i u p e. ⊎_elim
               (λ (r : IsPlaced seats views i u). absurd (let b = at_below seats i r.seat r.place in omega (arith, b, e, long)))
-              (λ (t : (i ≡ length seats) × (w ≡ u)). wrote_here words tail (name v.number) tail_below ∙ ap (λ (x : View). name x.number) t.1)
+              (λ (t : (i ≡ length seats) × (w ≡ u)). wrote_here words tail (name v.number) tail_below
+                  ∙ ap (λ (x : View). name x.number) t.1)
               (enter_cases w i u idle p);
           first = λ u p. ⊎_elim
               (λ (r : IsPlaced seats views 0 u). let f = k.first u r in record {
-                free = ⊎_elim (λ (e : u.predecessor ≡ 0). inl e) (λ (e : slice_index words (locked u.number) ≡ 0). inr (locked_same u.number ∙ e)) f.free;
+                free = ⊎_elim (λ (e : u.predecessor ≡ 0). inl e)
+                    (λ (e : slice_index words (locked u.number) ≡ 0). inr (locked_same u.number ∙ e)) f.free;
                 linked = f.linked;
               })
               (λ (t : (0 ≡ length seats) × (w ≡ u)). absurd (some_pass (k.empty (sym t.0))))
               (enter_cases w 0 u idle p);
           behind = λ i u z p r. ⊎_elim
               (λ (r' : IsPlaced seats views (suc i) z). ⊎_elim
-              (λ (p' : IsPlaced seats views i u). let b = k.behind i u z p' r' in record { named = b.named; waits = locked_same z.number ∙ b.waits })
+              (λ (p' : IsPlaced seats views i u). let b = k.behind i u z p' r'
+                  in record { named = b.named; waits = locked_same z.number ∙ b.waits })
               (λ (t : (i ≡ length seats) × (w ≡ u)). absurd (let b = at_below seats (suc i) r'.seat r'.place in omega (arith, b, t.0)))
               (enter_cases w i u idle p))
               (λ (t : (suc i ≡ length seats) × (w ≡ z)). ⊎_elim
@@ -253,9 +282,11 @@ module _ (n : ℕ) (tag : Tag) (words seats : List ℕ) (views : List View) (q :
               (enter_cases w (suc i) z idle r);
           links = λ i u p ne. ⊎_elim
               (λ (r : IsPlaced seats views i u). let same = next_same u.number in
-              names_as (seats ++ id ∷ []) (set views id w) i (slice_index words (next u.number)) (slice_index words' (next u.number)) (sym same)
+              names_as (seats ++ id ∷ []) (set views id w) i (slice_index words (next u.number)) (slice_index words' (next u.number))
+                  (sym same)
               (names_enter w i (slice_index words (next u.number)) idle (k.links i u r (λ e. ne (same ∙ e)))))
-              (λ (t : (i ≡ length seats) × (w ≡ u)). absurd (ne (ap (λ (x : View). slice_index words' (next x.number)) (sym t.1) ∙ next_same v.number ∙ (mine.unlinked cleared).1)))
+              (λ (t : (i ≡ length seats) × (w ≡ u)). absurd
+                  (ne (ap (λ (x : View). slice_index words' (next x.number)) (sym t.1) ∙ next_same v.number ∙ (mine.unlinked cleared).1)))
               (enter_cases w i u idle p);
           noted = λ i u p ne. ⊎_elim
               (λ (r : IsPlaced seats views i u). names_enter w i u.successor idle (k.noted i u r ne))
@@ -265,7 +296,9 @@ module _ (n : ℕ) (tag : Tag) (words seats : List ℕ) (views : List View) (q :
         }
 
     only_one : (w : View) (i : ℕ) (u : View) → IsPlaced (id ∷ []) (set views id w) i u → (i ≡ 0) × (w ≡ u)
-    only_one w zero u p = (refl, some-injective w u (sym (set_at views id v w at) ∙ ap (get_elem? (set views id w)) (some-injective id p.seat p.place) ∙ p.at))
+    only_one w zero u p =
+        (refl, some-injective w u (sym (set_at views id v w at) ∙ ap (get_elem? (set views id w)) (some-injective id p.seat p.place)
+        ∙ p.at))
     only_one w (suc i) u p = absurd (some-ne-none p.seat (sym p.place))
 
     -- swap of `tail` that found none
@@ -276,14 +309,19 @@ module _ (n : ℕ) (tag : Tag) (words seats : List ℕ) (views : List View) (q :
         let mine = q.core.prepared id v at live in record {
           empty = λ e. absurd (omega (arith, e));
           last = λ i u p e. wrote_here words tail (name v.number) tail_below ∙ ap (λ (x : View). name x.number) (only_one w i u p).1;
-          first = λ u p. let s = (only_one w 0 u p).1 in record { free = inl (ap (λ (x : View). x.predecessor) (sym s)); linked = λ e. absurd (let z : Holding ≡ Queued = ap (λ (x : View). x.phase) s ∙ e in cc) };
+          first = λ u p. let s = (only_one w 0 u p).1
+              in record { free = inl (ap (λ (x : View). x.predecessor) (sym s)); linked = λ e. absurd
+              (let z : Holding ≡ Queued = ap (λ (x : View). x.phase) s ∙ e in cc) };
           behind = λ i u z p r. absurd (some-ne-none r.seat (sym r.place));
-          links = λ i u p ne. absurd (ne (ap (λ (x : View). slice_index words' (next x.number)) (sym (only_one w i u p).1) ∙ wrote_else words tail (next v.number) (name v.number) (next_tail v.number) ∙ (mine.unlinked cleared).1));
+          links = λ i u p ne. absurd
+              (ne (ap (λ (x : View). slice_index words' (next x.number)) (sym (only_one w i u p).1)
+              ∙ wrote_else words tail (next v.number) (name v.number) (next_tail v.number) ∙ (mine.unlinked cleared).1));
           noted = λ i u p ne. absurd (ne (ap (λ (x : View). x.successor) (sym (only_one w i u p).1)));
           prepared = prepared_tail (name v.number) w refl refl;
         }
 
-    link_at : (i : ℕ) → IsPlaced seats views i v → v.phase ≡ Queued → v.linked ≡ false → (i : ℕ) × (u : View) × IsPlaced seats views i u × IsPlaced seats views (suc i) v × (v.predecessor ≡ name u.number)
+    link_at : (i : ℕ) → IsPlaced seats views i v → v.phase ≡ Queued → v.linked ≡ false → (i : ℕ) × (u : View) × IsPlaced seats views i u
+        × IsPlaced seats views (suc i) v × (v.predecessor ≡ name u.number)
     link_at zero p queued open_link = absurd (no_true (sym ((q.core.first v p).linked queued) ∙ open_link))
     link_at (suc i) p queued open_link =
         let u = placed_at n tag words seats views q i (let b = at_below seats (suc i) p.seat p.place in omega arith) in
@@ -294,19 +332,23 @@ module _ (n : ℕ) (tag : Tag) (words seats : List ℕ) (views : List View) (q :
     own_placed w i p = record { seat = id; place = placed_id id v w at live i p; at = set_at views id v w at }
 
     next_in : (i : ℕ) (u : View) → IsPlaced seats views i u → (x : ℕ) → x ≡ u.number → next x < length words
-    next_in i u p x e = let b = below_at n tag words seats views q p.seat u p.at (live_at n tag words seats views q i u p) in let size = q.long in omega (arith, b, size, e)
+    next_in i u p x e = let b = below_at n tag words seats views q p.seat u p.at (live_at n tag words seats views q i u p) in let size =
+        q.long in omega (arith, b, size, e)
 
     locked_in : (i : ℕ) (u : View) → IsPlaced seats views i u → (x : ℕ) → x ≡ u.number → locked x < length words
-    locked_in i u p x e = let b = below_at n tag words seats views q p.seat u p.at (live_at n tag words seats views q i u p) in let size = q.long in omega (arith, b, size, e)
+    locked_in i u p x e = let b = below_at n tag words seats views q p.seat u p.at (live_at n tag words seats views q i u p) in let size =
+        q.long in omega (arith, b, size, e)
 
     -- the place of a queued pass that hasn't stored its link is behind another
-    pub link_place : v.phase ≡ Queued → v.linked ≡ false → (i : ℕ) × (u : View) × IsPlaced seats views i u × IsPlaced seats views (suc i) v × (v.predecessor ≡ name u.number)
+    pub link_place : v.phase ≡ Queued → v.linked ≡ false → (i : ℕ) × (u : View) × IsPlaced seats views i u
+        × IsPlaced seats views (suc i) v × (v.predecessor ≡ name u.number)
     link_place queued open_link =
         let p = place_of n tag words seats views q id v at (ap (is_busy true) queued) in
         link_at p.0 p.1 queued open_link
 
     -- store of the predecessor's `next`
-    pub core_links : (x : ℕ) → v.phase ≡ Queued → v.linked ≡ false → x ≡ pass_named v.predecessor → IsLinked n (set words (next x) (name v.number)) seats (set views id (linked_view v))
+    pub core_links : (x : ℕ) → v.phase ≡ Queued → v.linked ≡ false → x ≡ pass_named v.predecessor
+        → IsLinked n (set words (next x) (name v.number)) seats (set views id (linked_view v))
     core_links x queued open_link is =
         let w : View = linked_view v in
         let words' : List ℕ = set words (next x) (name v.number) in
@@ -316,13 +358,16 @@ module _ (n : ℕ) (tag : Tag) (words seats : List ℕ) (views : List View) (q :
         let here : slice_index words' (next x) ≡ name v.number = wrote_here words (next x) (name v.number) (next_in l.0 l.1 l.2 x far) in
         let locked_same = λ (p : ℕ). wrote_else words (next x) (locked p) (name v.number) (locked_next p x) in
         let behind_it : IsStill seats (set views id w) (suc l.0) v = stays_placed id v w at live keeps (suc l.0) v l.3 in
-        let is_w : behind_it.view ≡ w = one_view seats (set views id w) (suc l.0) behind_it.view w behind_it.placed (own_placed w (suc l.0) l.3) in
-        core_from n words words' seats views (set views id w) q.core (wrote_else words (next x) tail (name v.number) (tail_next x)) (long_set id v w at live) (was_set id v w at live keeps)
+        let is_w : behind_it.view ≡ w =
+            one_view seats (set views id w) (suc l.0) behind_it.view w behind_it.placed (own_placed w (suc l.0) l.3) in
+        core_from n words words' seats views (set views id w) q.core (wrote_else words (next x) tail (name v.number) (tail_next x))
+            (long_set id v w at live) (was_set id v w at live keeps)
         (λ i u p. locked_same u.number)
         (λ i u p ne. dite (ℕ_discrete u.number x)
         (λ e.
         let place : i ≡ l.0 = same_place n tag words seats views q i l.0 u l.1 p l.2 (e ∙ far) in
-        subst (λ (y : ℕ × ℕ). NamesBehind seats (set views id w) y.0 y.1) (λ h. (sym place h, (sym here ∙ ap (λ (y : ℕ). slice_index words' (next y)) (sym e)) h))
+        subst (λ (y : ℕ × ℕ). NamesBehind seats (set views id w) y.0 y.1)
+            (λ h. (sym place h, (sym here ∙ ap (λ (y : ℕ). slice_index words' (next y)) (sym e)) h))
         (record { view = w; placed = own_placed w (suc l.0) l.3; named = refl; linked = refl }))
         (λ far'. let same = wrote_else words (next x) (next u.number) (name v.number) (apart_next u.number x far') in
         names_as seats (set views id w) i (slice_index words (next u.number)) (slice_index words' (next u.number)) (sym same)
@@ -330,26 +375,37 @@ module _ (n : ℕ) (tag : Tag) (words seats : List ℕ) (views : List View) (q :
         (noted_set id v w at live keeps (λ i p ne. q.core.noted i v p ne))
         (prepared_set id v w at live words'
         (busy_prepared words words' v w (q.core.prepared id v at live) (ap (is_busy true) queued) (λ e. e) (λ e. e))
-        (λ j u ne e live'. prepared_beside words' l.0 l.1 l.2 (λ p ne'. wrote_else words (next x) (next p) (name v.number) (apart_next p x (λ e'. ne' (e' ∙ far)))) (λ p _. locked_same p) j u e live'))
+        (λ j u ne e live'. prepared_beside words' l.0 l.1 l.2
+            (λ p ne'. wrote_else words (next x) (next p) (name v.number) (apart_next p x (λ e'. ne' (e' ∙ far))))
+            (λ p _. locked_same p) j u e live'))
 
     -- a place of the queue that the head leaves
-    leave_was : (w : View) (rest : List ℕ) → seats ≡ id ∷ rest → (i : ℕ) (u : View) → IsPlaced rest (set views id w) i u → IsPlaced seats views (suc i) u
+    leave_was : (w : View) (rest : List ℕ) → seats ≡ id ∷ rest → (i : ℕ) (u : View) → IsPlaced rest (set views id w) i u
+        → IsPlaced seats views (suc i) u
     leave_was w rest cut i u p =
         let place : get_elem? seats (suc i) ≡ some p.seat = ap (λ (l : List ℕ). get_elem? l (suc i)) cut ∙ p.place in
-        let other : p.seat ≢ id = λ e. (let z : suc i ≡ 0 = q.once (suc i) 0 id (place ∙ ap some e) (ap (λ (l : List ℕ). get_elem? l 0) cut) in absurd (omega arith)) in
+        let other : p.seat ≢ id =
+            λ e. (let z : suc i ≡ 0 = q.once (suc i) 0 id (place ∙ ap some e) (ap (λ (l : List ℕ). get_elem? l 0) cut)
+            in absurd (omega arith)) in
         record { seat = p.seat; place = place; at = sym (set_else views id p.seat w other) ∙ p.at }
 
-    leave_still : (w : View) (rest : List ℕ) → seats ≡ id ∷ rest → (i : ℕ) (u : View) → IsPlaced seats views (suc i) u → IsPlaced rest (set views id w) i u
+    leave_still : (w : View) (rest : List ℕ) → seats ≡ id ∷ rest → (i : ℕ) (u : View) → IsPlaced seats views (suc i) u
+        → IsPlaced rest (set views id w) i u
     leave_still w rest cut i u p =
         let place : get_elem? rest i ≡ some p.seat = ap (λ (l : List ℕ). get_elem? l (suc i)) (sym cut) ∙ p.place in
-        let other : p.seat ≢ id = λ e. (let z : suc i ≡ 0 = q.once (suc i) 0 id (p.place ∙ ap some e) (ap (λ (l : List ℕ). get_elem? l 0) cut) in absurd (omega arith)) in
+        let other : p.seat ≢ id =
+            λ e. (let z : suc i ≡ 0 = q.once (suc i) 0 id (p.place ∙ ap some e) (ap (λ (l : List ℕ). get_elem? l 0) cut)
+            in absurd (omega arith)) in
         record { seat = p.seat; place = place; at = set_else views id p.seat w other ∙ p.at }
 
-    names_leave : (w : View) (rest : List ℕ) → seats ≡ id ∷ rest → (i x : ℕ) → NamesBehind seats views (suc i) x → NamesBehind rest (set views id w) i x
-    names_leave w rest cut i x b = record { view = b.view; placed = leave_still w rest cut (suc i) b.view b.placed; named = b.named; linked = b.linked }
+    names_leave : (w : View) (rest : List ℕ) → seats ≡ id ∷ rest → (i x : ℕ) → NamesBehind seats views (suc i) x
+        → NamesBehind rest (set views id w) i x
+    names_leave w rest cut i x b =
+        record { view = b.view; placed = leave_still w rest cut (suc i) b.view b.placed; named = b.named; linked = b.linked }
 
     -- store of the successor's `locked`
-    pub core_passes : (x : ℕ) (rest : List ℕ) → seats ≡ id ∷ rest → is_busy true v.phase ≡ true → v.successor ≢ 0 → x ≡ pass_named v.successor
+    pub core_passes : (x : ℕ) (rest : List ℕ) → seats ≡ id ∷ rest → is_busy true v.phase ≡ true → v.successor ≢ 0
+        → x ≡ pass_named v.successor
         → IsLinked n (set words (locked x) 0) rest (set views id (left_view v))
     core_passes x rest cut busy followed is =
         let w : View = left_view v in
@@ -372,17 +428,21 @@ module _ (n : ℕ) (tag : Tag) (words seats : List ℕ) (views : List View) (q :
               let p' = leave_was w rest cut i u p in
               let r' = leave_was w rest cut (suc i) z r in
               let h = k.behind (suc i) u z p' r' in
-              let other : z.number ≢ x = λ e. (let m : suc (suc i) ≡ 1 = same_place n tag words seats views q (suc (suc i)) 1 z b.view r' b.placed (e ∙ far) in absurd (omega arith)) in record {
+              let other : z.number ≢ x =
+                  λ e. (let m : suc (suc i) ≡ 1 = same_place n tag words seats views q (suc (suc i)) 1 z b.view r' b.placed (e ∙ far)
+                  in absurd (omega arith)) in record {
                 named = h.named;
                 waits = wrote_else words (locked x) (locked z.number) 0 (apart_locked z.number x other) ∙ h.waits;
               };
           links = λ i u p ne. let same = next_same u.number in
               names_as rest (set views id w) i (slice_index words (next u.number)) (slice_index words' (next u.number)) (sym same)
-              (names_leave w rest cut i (slice_index words (next u.number)) (k.links (suc i) u (leave_was w rest cut i u p) (λ e. ne (same ∙ e))));
+              (names_leave w rest cut i (slice_index words (next u.number))
+                  (k.links (suc i) u (leave_was w rest cut i u p) (λ e. ne (same ∙ e))));
           noted = λ i u p ne. names_leave w rest cut i u.successor (k.noted (suc i) u (leave_was w rest cut i u p) ne);
           prepared = prepared_set id v w at live words'
               (busy_prepared words words' v w (k.prepared id v at live) busy (λ e. e) (λ e. e))
-              (λ j u ne e live'. prepared_beside words' 1 b.view b.placed (λ p _. next_same p) (λ p ne'. wrote_else words (locked x) (locked p) 0 (apart_locked p x (λ e'. ne' (e' ∙ far)))) j u e live');
+              (λ j u ne e live'. prepared_beside words' 1 b.view b.placed (λ p _. next_same p)
+                  (λ p ne'. wrote_else words (locked x) (locked p) 0 (apart_locked p x (λ e'. ne' (e' ∙ far)))) j u e live');
         }
 
     -- exchange of `tail` from own to 0
@@ -396,7 +456,8 @@ module _ (n : ℕ) (tag : Tag) (words seats : List ℕ) (views : List View) (q :
       noted = λ i u p. absurd (some-ne-none p.seat (sym p.place));
       prepared = prepared_set id v w at live (set words tail 0)
           (busy_prepared words (set words tail 0) v w (q.core.prepared id v at live) busy (λ e. e) (λ e. e))
-          (λ j u ne e live'. prepared_as words (set words tail 0) u (wrote_else words tail (next u.number) 0 (next_tail u.number)) (wrote_else words tail (locked u.number) 0 (locked_tail u.number)) (q.core.prepared j u e live'));
+          (λ j u ne e live'. prepared_as words (set words tail 0) u (wrote_else words tail (next u.number) 0 (next_tail u.number))
+              (wrote_else words tail (locked u.number) 0 (locked_tail u.number)) (q.core.prepared j u e live'));
     }
 
     alone_at : get_elem? seats 0 ≡ some id → slice_index words tail ≡ name v.number → (m : ℕ) → length seats ≡ m → 0 < m → m ≡ 1

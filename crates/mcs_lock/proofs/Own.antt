@@ -31,11 +31,13 @@ marked_by w e = ap (λ (a : Algorithm). mark_by a w) e
 
 module _ {S V : Type 0} (own : ℕ) (z : TableId) (key : Opening V) where
   -- a seat after a step of its pass
-  pub own_after : (s s' : Seat S View) (w : View) (c : List (ℕ × S)) → IsSeatOf own z key s → s'.table_id ≡ s.table_id → s'.me ≡ (w, c) → IsAlike s.me.0 w → IsSeatOf own z key s'
+  pub own_after : (s s' : Seat S View) (w : View) (c : List (ℕ × S)) → IsSeatOf own z key s → s'.table_id ≡ s.table_id → s'.me ≡ (w, c)
+      → IsAlike s.me.0 w → IsSeatOf own z key s'
   own_after s s' w c o t m a =
       let p = o.plain in
       let is : w ≡ s'.me.0 = ap (λ x. x.0) (sym m) in
-      let mine : (own ≡ mark_of w) × (w.algorithm ≡ Mcs) = (o.number ∙ sym a.number ∙ sym (marked_by w (a.algorithm ∙ o.algorithm)), a.algorithm ∙ o.algorithm) in
+      let mine : (own ≡ mark_of w)
+          × (w.algorithm ≡ Mcs) = (o.number ∙ sym a.number ∙ sym (marked_by w (a.algorithm ∙ o.algorithm)), a.algorithm ∙ o.algorithm) in
       let plain : IsPlain w = record {
         unspent = a.spent ∙ p.unspent;
         split = a.from ∙ p.split ∙ sym a.to;
@@ -47,7 +49,8 @@ module _ {S V : Type 0} (own : ℕ) (z : TableId) (key : Opening V) where
       } in record {
         table = t ∙ o.table;
         plain = subst IsPlain is plain;
-        row = ap (λ (x : TableId). x.words) t ∙ o.row ∙ (λ i. row_of (sym a.algorithm i) (sym a.count i)) ∙ ap (λ (x : View). row_of x.algorithm x.count) is;
+        row = ap (λ (x : TableId). x.words) t ∙ o.row ∙ (λ i. row_of (sym a.algorithm i) (sym a.count i))
+            ∙ ap (λ (x : View). row_of x.algorithm x.count) is;
         algorithm = ap (λ (x : View). x.algorithm) (sym is) ∙ mine.1;
         counted = ap (λ (x : View). x.count) (sym is) ∙ a.count ∙ o.counted;
         marked = mine.0 ∙ ap mark_of is;
@@ -56,12 +59,14 @@ module _ {S V : Type 0} (own : ℕ) (z : TableId) (key : Opening V) where
       }
 
   -- the seat of a token of the lock
-  pub own_from : (tag : Tag) (s : Seat S View) (y : TableId) (v : View) → IsOf (lock_name Mcs z) tag (place_of y v) → IsPlain v → IsRowOf v y → s.table_id ≡ y → s.me.0 ≡ v → own ≡ mark_of v
+  pub own_from : (tag : Tag) (s : Seat S View) (y : TableId) (v : View) → IsOf (lock_name Mcs z) tag (place_of y v) → IsPlain v
+      → IsRowOf v y → s.table_id ≡ y → s.me.0 ≡ v → own ≡ mark_of v
       → z.words ≡ row_of Mcs key.passes → IsSeatOf own z key s
   own_from tag s y v of p row t m mark long =
       let a = own_algorithm Mcs z tag y v of in
       let same = own_table Mcs z tag y v of in
-      let rows : row_of Mcs v.count ≡ row_of Mcs key.passes = ap (λ (x : Algorithm). row_of x v.count) (sym a) ∙ sym row ∙ ap (λ (x : TableId). x.words) same ∙ long in
+      let rows : row_of Mcs v.count ≡ row_of Mcs key.passes = ap (λ (x : Algorithm). row_of x v.count) (sym a) ∙ sym row
+          ∙ ap (λ (x : TableId). x.words) same ∙ long in
       let count : v.count ≡ key.passes = omega (arith, rows) in
       let number : own ≡ v.number = mark ∙ marked_by v a in record {
         table = t ∙ same;
@@ -74,6 +79,8 @@ module _ {S V : Type 0} (own : ℕ) (z : TableId) (key : Opening V) where
         below = let l = p.below in omega (arith, l, count, number);
       }
 
-pub alike : (v w : View) → w.algorithm ≡ v.algorithm → w.count ≡ v.count → w.number ≡ v.number → w.spent ≡ v.spent → w.from ≡ v.from → w.to ≡ v.to → w.joined ≡ v.joined → w.node ≡ v.node
+pub alike : (v w : View) → w.algorithm ≡ v.algorithm → w.count ≡ v.count → w.number ≡ v.number → w.spent ≡ v.spent → w.from ≡ v.from
+    → w.to ≡ v.to → w.joined ≡ v.joined → w.node ≡ v.node
     → w.nodes ≡ v.nodes → w.predecessor ≤ v.count → IsAlike v w
-alike v w a b c d e f g h i j = record { algorithm = a; count = b; number = c; spent = d; from = e; to = f; joined = g; node = h; nodes = i; within = j }
+alike v w a b c d e f g h i j =
+    record { algorithm = a; count = b; number = c; spent = d; from = e; to = f; joined = g; node = h; nodes = i; within = j }

@@ -1,5 +1,6 @@
 -- The seats of an MCS lock's queue, by their places.
-use Rattle.std.proofs.Common.{◌≡◌, ◌≢◌, ◌⊎◌, ℕ, suc, ◌+◌, ◌<◌, ◌≤◌, Bool, true, false, List, [], ◌∷◌, ◌++◌, length, set, refl, ap, sym, ◌∙◌, inl, inr, ⊎_elim, arith}
+use Rattle.std.proofs.Common.{◌≡◌, ◌≢◌, ◌⊎◌, ℕ, suc, ◌+◌, ◌<◌, ◌≤◌, Bool, true, false, List, [], ◌∷◌, ◌++◌, length, set, refl, ap, sym,
+    ◌∙◌, inl, inr, ⊎_elim, arith}
 use mathlib.Core.Option.{some, some-injective}
 use mathlib.Core.Logic.{dite}
 use native.Mathlib.Decide.{ℕ_discrete}
@@ -44,7 +45,8 @@ pub record IsStill (seats : List ℕ) (views : List View) (i : ℕ) (u : View) :
   pub keeps : KeepsLinks u view
 
 -- where each place had a view like that it has, each has one like it had
-pub still : (seats : List ℕ) (views views' : List View) → length views ≤ length views' → ((i : ℕ) (u : View) → IsPlaced seats views' i u → WasPlaced seats views i u)
+pub still : (seats : List ℕ) (views views' : List View) → length views ≤ length views'
+    → ((i : ℕ) (u : View) → IsPlaced seats views' i u → WasPlaced seats views i u)
     → (i : ℕ) (u : View) → IsPlaced seats views i u → IsStill seats views' i u
 still seats views views' long was i u p =
     let b = at_below views p.seat u p.at in
@@ -63,7 +65,9 @@ still seats views views' long was i u p =
     }
 
 -- a name of the pass behind stays one
-pub names_still : (seats : List ℕ) (views views' : List View) (i x : ℕ) → ((u : View) → IsPlaced seats views (suc i) u → IsStill seats views' (suc i) u) → NamesBehind seats views i x → NamesBehind seats views' i x
+pub names_still : (seats : List ℕ) (views views' : List View) (i x : ℕ)
+    → ((u : View) → IsPlaced seats views (suc i) u → IsStill seats views' (suc i) u) → NamesBehind seats views i x
+    → NamesBehind seats views' i x
 names_still seats views views' i x stay b = let s = stay b.view b.placed in record {
   view = s.view;
   placed = s.placed;
@@ -91,17 +95,20 @@ module _ (n : ℕ) (tag : Tag) (words seats : List ℕ) (views : List View) (q :
   -- a pass has one place
   pub same_place : (i k : ℕ) (u v : View) → IsPlaced seats views i u → IsPlaced seats views k v → u.number ≡ v.number → i ≡ k
   same_place i k u v p r e =
-      let s : r.seat ≡ p.seat = one_seat_of mcs_discipline n tag words seats views q p.seat r.seat u v p.at r.at (live_at i u p) (live_at k v r) (sym e) in
+      let s : r.seat ≡ p.seat =
+          one_seat_of mcs_discipline n tag words seats views q p.seat r.seat u v p.at r.at (live_at i u p) (live_at k v r) (sym e) in
       q.once i k p.seat p.place (r.place ∙ ap some s)
 
   -- a pass that isn't in the queue is none of its passes
-  pub other_pass : (id : ℕ) (v : View) → get_elem? views id ≡ some v → v.spent ≡ false → is_busy true v.phase ≡ false → (i : ℕ) (u : View) → IsPlaced seats views i u → u.number ≢ v.number
+  pub other_pass : (id : ℕ) (v : View) → get_elem? views id ≡ some v → v.spent ≡ false → is_busy true v.phase ≡ false → (i : ℕ) (u : View)
+      → IsPlaced seats views i u → u.number ≢ v.number
   other_pass id v at live free i u p e =
       let s : id ≡ p.seat = one_seat_of mcs_discipline n tag words seats views q p.seat id u v p.at at (live_at i u p) live (sym e) in
       no_place mcs_discipline n tag words seats views id v q at free i p.seat p.place (sym s)
 
   -- two seats have two passes
-  pub other_seat : (id j : ℕ) (v u : View) → get_elem? views id ≡ some v → get_elem? views j ≡ some u → v.spent ≡ false → u.spent ≡ false → j ≢ id → u.number ≢ v.number
+  pub other_seat : (id j : ℕ) (v u : View) → get_elem? views id ≡ some v → get_elem? views j ≡ some u → v.spent ≡ false → u.spent ≡ false
+      → j ≢ id → u.number ≢ v.number
   other_seat id j v u at at' live live' ne = one_number n views q.numbers id j v u at at' live live' ne
 
   -- a seat in the queue has a place

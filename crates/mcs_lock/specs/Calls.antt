@@ -10,12 +10,22 @@ use Rattle.lock_rules.specs.declared.view.View.{View}
 use Rattle.lock_tables.specs.Happened.{Seated, Stepped, took_view}
 use Rattle.lock_tables.specs.Queue.{Takes, EntersAndTakes}
 use Rattle.lock_tables.specs.Rule.{IsLock}
-use Rattle.mcs_lock.specs.Kinds.{cleared_view, raised_view, queued_view, entered_view, looked_view, others_wait, Cleared, Raised, Entered, Linked, Missed, Tested, Looked, Passed, Ended, Followed}
+use Rattle.mcs_lock.specs.Kinds.{cleared_view, raised_view, queued_view, entered_view, looked_view, others_wait, Cleared, Raised, Entered,
+    Linked, Missed, Tested, Looked, Passed, Ended, Followed}
 use Rattle.mcs_lock.specs.Rule.{tail, locked, name, queue_of, mcs_discipline}
 
 -- the view of a pass that has stored both words for its swap
 abbrev pub ready_view : View → View
 ready_view v = raised_view (cleared_view v)
+
+module _ {V : Type 0} where
+  -- a holder that has put its value back
+  abbrev pub at_home : Held V → Seated V
+  at_home h = (held_view h, (0, Some h.value) ∷ [])
+
+  -- a holder that then looked at its `next`
+  abbrev pub looked : Seated V → ℕ → Seated V
+  looked me found = (looked_view me.0 found, me.1)
 
 module _ {V : Type 0} (fit : V → Type 0) (tag_of : V → Tag) (parked : V → Bool) where
   -- the stores of own `next` and of own `locked`
@@ -28,13 +38,15 @@ module _ {V : Type 0} (fit : V → Type 0) (tag_of : V → Tag) (parked : V → 
     pub found : ℕ
     pub preceded : found ≢ 0
     pub prepared : HasPrepared before
-    pub entered : Entered {V = V} fit tag_of parked (ready_view (view_of before), []) found (queued_view (ready_view (view_of before)) found, [])
+    pub entered : Entered {V = V} fit tag_of parked (ready_view (view_of before), []) found
+        (queued_view (ready_view (view_of before)) found, [])
     pub linked : Linked {V = V} fit tag_of parked (queued_view (ready_view (view_of before)) found, []) (view_of after, [])
 
   -- the swap, which found none; the value that was at home is the holder's
   pub record HasEnteredAndTaken (before : Badge View) (after : Held V) : Type 0 where
     pub prepared : HasPrepared before
-    pub entered : Stepped (IsLock mcs_discipline fit tag_of parked) queue_of EntersAndTakes (takes 0 (Some after.value)) tail 0 (name (view_of before).number)
+    pub entered : Stepped (IsLock mcs_discipline fit tag_of parked) queue_of EntersAndTakes (takes 0 (Some after.value)) tail 0
+        (name (view_of before).number)
         (ready_view (view_of before), []) (entered_view (ready_view (view_of before))) (held_view after, (0, Some after.value) ∷ [])
 
   -- a load of own `locked` that was not 0
@@ -45,7 +57,8 @@ module _ {V : Type 0} (fit : V → Type 0) (tag_of : V → Tag) (parked : V → 
 
   -- a load of own `locked` that was 0; the value that was at home is the holder's
   abbrev pub HasTaken : Badge View → Held V → Type 0
-  HasTaken before after = Stepped (IsLock mcs_discipline fit tag_of parked) queue_of Takes (takes 0 (Some after.value)) (locked (view_of before).number) 0 0
+  HasTaken before after =
+      Stepped (IsLock mcs_discipline fit tag_of parked) queue_of Takes (takes 0 (Some after.value)) (locked (view_of before).number) 0 0
       (view_of before, []) (took_view (view_of before)) (held_view after, (0, Some after.value) ∷ [])
 
   -- a load of `tail`; the answer is yes exactly where it did not name the holder
@@ -53,14 +66,6 @@ module _ {V : Type 0} (fit : V → Type 0) (tag_of : V → Tag) (parked : V → 
     pub found : ℕ
     pub told : answer ≡ others_wait (held_view before) found
     pub step : Tested fit tag_of parked before.seat.seat.me found now.seat.seat.me
-
-  -- a holder that has put its value back
-  abbrev pub at_home : Held V → Seated V
-  at_home h = (held_view h, (0, Some h.value) ∷ [])
-
-  -- a holder that then looked at its `next`
-  abbrev pub looked : Seated V → ℕ → Seated V
-  looked me found = (looked_view me.0 found, me.1)
 
   -- a load of own `next`, which named a successor, and the store of its `locked`
   pub record HasPassed (me : Seated V) (after : Badge View) : Type 0 where

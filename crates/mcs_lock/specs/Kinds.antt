@@ -20,7 +20,9 @@ raised_view v = record v { raised = true }
 
 -- the pass is queued behind the one that its swap found
 abbrev pub queued_view : View → ℕ → View
-queued_view v found = record v { phase = Queued; entries = v.entries + 1; predecessor = found; unlinked = false; raised = false; linked = false; successor = 0 }
+queued_view v found =
+    record v { phase = Queued; entries = v.entries + 1; predecessor = found; unlinked = false; raised = false; linked = false; successor =
+    0 }
 
 -- the pass holds: its swap found none
 abbrev pub entered_view : View → View
@@ -59,20 +61,24 @@ others_wait v found = not (found == name v.number)
 module _ {V : Type 0} (fit : V → Type 0) (tag_of : V → Tag) (parked : V → Bool) where
   -- Store of own `next`: no event
   abbrev pub Cleared : Seated V → Seated V → Type 0
-  Cleared me me' = (found : ℕ) × Stepped (IsLock mcs_discipline fit tag_of parked) queue_of Stays keeps (next me.0.number) found 0 me (cleared_view me.0) me'
+  Cleared me me' = (found : ℕ) × Stepped (IsLock mcs_discipline fit tag_of parked) queue_of Stays keeps (next me.0.number) found 0 me
+      (cleared_view me.0) me'
 
   -- Store of own `locked`: no event
   abbrev pub Raised : Seated V → Seated V → Type 0
-  Raised me me' = (found : ℕ) × Stepped (IsLock mcs_discipline fit tag_of parked) queue_of Stays keeps (locked me.0.number) found 1 me (raised_view me.0) me'
+  Raised me me' = (found : ℕ) × Stepped (IsLock mcs_discipline fit tag_of parked) queue_of Stays keeps (locked me.0.number) found 1 me
+      (raised_view me.0) me'
 
   -- Swap of `tail`: Enter; Enter and Take where it found none
   abbrev pub Entered : Seated V → ℕ → Seated V → Type 0
   Entered me found me' =
-      (found ≤ me.0.count) × Stepped (IsLock mcs_discipline fit tag_of parked) queue_of Enters keeps tail found (name me.0.number) me (queued_view me.0 found) me'
+      (found ≤ me.0.count) × Stepped (IsLock mcs_discipline fit tag_of parked) queue_of Enters keeps tail found (name me.0.number) me
+          (queued_view me.0 found) me'
 
   abbrev pub EnteredAndTook : Seated V → ℕ → Seated V → Type 0
   EnteredAndTook me found me' =
-      SteppedAndTook (IsLock mcs_discipline fit tag_of parked) queue_of fit tag_of EntersAndTakes tail found (name me.0.number) me (entered_view me.0) me'
+      SteppedAndTook (IsLock mcs_discipline fit tag_of parked) queue_of fit tag_of EntersAndTakes tail found (name me.0.number) me
+          (entered_view me.0) me'
 
   abbrev pub Swapped : Seated V → ℕ → Seated V → Type 0
   Swapped me found me' = (found ≡ 0 → EnteredAndTook me found me') × (found ≢ 0 → Entered me found me')
@@ -80,38 +86,46 @@ module _ {V : Type 0} (fit : V → Type 0) (tag_of : V → Tag) (parked : V → 
   -- Store of the predecessor's `next`: no event
   abbrev pub Linked : Seated V → Seated V → Type 0
   Linked me me' = (found : ℕ)
-      × Stepped (IsLock mcs_discipline fit tag_of parked) queue_of Stays keeps (next (pass_named me.0.predecessor)) found (name me.0.number) me (linked_view me.0) me'
+      × Stepped (IsLock mcs_discipline fit tag_of parked) queue_of Stays keeps (next (pass_named me.0.predecessor)) found
+          (name me.0.number) me (linked_view me.0) me'
 
   -- Load of own `locked`: Take where it is 0, else no event
   abbrev pub Took : Seated V → ℕ → Seated V → Type 0
-  Took me found me' = SteppedAndTook (IsLock mcs_discipline fit tag_of parked) queue_of fit tag_of Takes (locked me.0.number) found found me (took_view me.0) me'
+  Took me found me' = SteppedAndTook (IsLock mcs_discipline fit tag_of parked) queue_of fit tag_of Takes
+      (locked me.0.number) found found me (took_view me.0) me'
 
   abbrev pub Missed : Seated V → ℕ → Seated V → Type 0
-  Missed me found me' = Stepped (IsLock mcs_discipline fit tag_of parked) queue_of Stays keeps (locked me.0.number) found found me (missed_view me.0) me'
+  Missed me found me' =
+      Stepped (IsLock mcs_discipline fit tag_of parked) queue_of Stays keeps (locked me.0.number) found found me (missed_view me.0) me'
 
   abbrev pub Polled : Seated V → ℕ → Seated V → Type 0
   Polled me found me' = (found ≡ 0 → Took me found me') × (found ≢ 0 → Missed me found me')
 
   -- Load of `tail` by `waiter`: no event
   abbrev pub Tested : Seated V → ℕ → Seated V → Type 0
-  Tested me found me' = Stepped (IsLock mcs_discipline fit tag_of parked) queue_of Stays keeps tail found found me (tested_view me.0 (others_wait me.0 found)) me'
+  Tested me found me' =
+      Stepped (IsLock mcs_discipline fit tag_of parked) queue_of Stays keeps tail found found me
+      (tested_view me.0 (others_wait me.0 found)) me'
 
   -- Load of own `next`: no event
   abbrev pub Looked : Seated V → ℕ → Seated V → Type 0
   Looked me found me' =
-      (found ≤ me.0.count) × Stepped (IsLock mcs_discipline fit tag_of parked) queue_of Stays keeps (next me.0.number) found found me (looked_view me.0 found) me'
+      (found ≤ me.0.count) × Stepped (IsLock mcs_discipline fit tag_of parked) queue_of Stays keeps (next me.0.number) found found me
+          (looked_view me.0 found) me'
 
   -- Store of the successor's `locked`: Leave
   abbrev pub Passed : Seated V → Seated V → Type 0
   Passed me me' = (found : ℕ)
-      × Stepped (IsLock mcs_discipline fit tag_of parked) queue_of Leaves gives (locked (pass_named me.0.successor)) found 0 me (left_view me.0) me'
+      × Stepped (IsLock mcs_discipline fit tag_of parked) queue_of Leaves gives (locked (pass_named me.0.successor)) found 0 me
+          (left_view me.0) me'
 
   -- Exchange of `tail` from own to 0: Leave where done, else no event
   abbrev pub Ended : Seated V → ℕ → Seated V → Type 0
   Ended me found me' = Stepped (IsLock mcs_discipline fit tag_of parked) queue_of Leaves gives tail found 0 me (left_view me.0) me'
 
   abbrev pub Followed : Seated V → ℕ → Seated V → Type 0
-  Followed me found me' = Stepped (IsLock mcs_discipline fit tag_of parked) queue_of Stays keeps tail found found me (followed_view me.0) me'
+  Followed me found me' =
+      Stepped (IsLock mcs_discipline fit tag_of parked) queue_of Stays keeps tail found found me (followed_view me.0) me'
 
   abbrev pub Exchanged : Seated V → ℕ → Seated V → Type 0
   Exchanged me found me' = (found ≡ name me.0.number → Ended me found me') × (found ≢ name me.0.number → Followed me found me')

@@ -1,5 +1,6 @@
 -- The words of an MCS lock, its part of the rule, and its queue as a function of words and views.
-use Rattle.std.specs.Prelude.{◌≡◌, ◌≢◌, ◌⊎◌, ℕ, zero, suc, ◌+◌, ◌-◌, true, false, cond, ◌&&◌, List, [], ◌∷◌, ◌++◌, length, replicate, slice_index, ◌==◌}
+use Rattle.std.specs.Prelude.{◌≡◌, ◌≢◌, ◌⊎◌, ℕ, zero, suc, ◌+◌, ◌-◌, true, false, cond, ◌&&◌, List, [], ◌∷◌, ◌++◌, length, replicate,
+    slice_index, ◌==◌}
 use mathlib.Core.Option.{some}
 use lib.ListN.{get_elem?}
 use Rattle.lock_rules.specs.Rows.{line, row_of}
@@ -29,7 +30,8 @@ pass_named x = x - 1
 -- the name of the pass that has the pass p before it: the predecessor that its view names, where its `locked` is 1
 abbrev pub before : List ℕ → List View → ℕ → ℕ
 before words [] p = 0
-before words (v ∷ vs) p = cond (is_busy true v.phase && v.number == p) (cond (slice_index words (locked p) == 1) v.predecessor 0) (before words vs p)
+before words (v ∷ vs) p =
+    cond (is_busy true v.phase && v.number == p) (cond (slice_index words (locked p) == 1) v.predecessor 0) (before words vs p)
 
 -- the passes up to the one that is named, at most so many: predecessors are followed until there is none
 abbrev pub passes_to : List ℕ → List View → ℕ → ℕ → List ℕ
@@ -76,7 +78,8 @@ pub record IsLinked (n : ℕ) (words seats : List ℕ) (views : List View) : Typ
   pub first : (v : View) → IsPlaced seats views 0 v → IsFirst words v
   pub behind : (i : ℕ) (u v : View) → IsPlaced seats views i u → IsPlaced seats views (suc i) v → IsBehind words u v
   -- `next` of a pass in the queue, and what it was last seen to be, is 0 or names the pass behind, which has stored its link
-  pub links : (i : ℕ) (v : View) → IsPlaced seats views i v → slice_index words (next v.number) ≢ 0 → NamesBehind seats views i (slice_index words (next v.number))
+  pub links : (i : ℕ) (v : View) → IsPlaced seats views i v → slice_index words (next v.number) ≢ 0
+      → NamesBehind seats views i (slice_index words (next v.number))
   pub noted : (i : ℕ) (v : View) → IsPlaced seats views i v → v.successor ≢ 0 → NamesBehind seats views i v.successor
   pub prepared : (j : ℕ) (v : View) → get_elem? views j ≡ some v → v.spent ≡ false → IsPrepared words v
 

@@ -9,7 +9,8 @@ ghost use Rattle.lock_rules.specs.declared.view.Phase.TheVariants.{Idle, Queued,
 ghost use Rattle.lock_tables.specs.Happened.{MayRest};
 ghost use Rattle.lock_tables.specs.Rule.{is_holder};
 ghost use Rattle.lock_tables.specs.Seats.{IsSized, seat_as};
-ghost use Rattle.mcs_lock.specs.Kinds.{Cleared, Raised, EnteredAndTook, Entered, Linked, Took, Missed, Tested, Looked, Passed, Ended, Followed};
+ghost use Rattle.mcs_lock.specs.Kinds.{Cleared, Raised, EnteredAndTook, Entered, Linked, Took, Missed};
+ghost use Rattle.mcs_lock.specs.Kinds.{Tested, Looked, Passed, Ended, Followed};
 ghost use Rattle.mcs_lock.specs.Own.{IsSeatOf};
 ghost use Rattle.mcs_lock.specs.Rule.{next, locked, name, pass_named};
 
@@ -202,7 +203,8 @@ impl<V: Cargo> Words<V> {
             .store::<StoreSuccessorLocked>(seat, locked_of(successor - 1), 0);
     }
 
-    /// `compare_and_swap (L, I, nil)`, by which a holder that is alone in the queue leaves it and gives the slot back. The answer is the word that was found.
+    /// `compare_and_swap (L, I, nil)`, by which a holder that is alone in the queue leaves it and gives the slot back. The answer is the
+    /// word that was found.
     pub(crate) fn compare_and_swap_tail(&self, seat: &mut Seat<Option<V>, View>, own: u64) -> u64
         requires seat { IsSeatOf own (padded_value self.now.table).shared.table_id (padded_value self.now.table).shared.key seat.old }
         requires holds { seat.old.me.0.phase ≡ Holding }

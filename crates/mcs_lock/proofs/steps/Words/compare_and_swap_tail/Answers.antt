@@ -2,7 +2,8 @@ use Rattle.std.proofs.Common.{◌≡◌, ◌≢◌, ℕ, ◌<◌, ap, sym, ◌�
 use mathlib.Core.Logic.{dite}
 use native.Mathlib.Decide.{ℕ_discrete}
 use Rattle.lock_tables.specs.Happened.{missed_view, took_view, tested_view}
-use Rattle.mcs_lock.specs.Kinds.{cleared_view, raised_view, queued_view, entered_view, linked_view, looked_view, followed_view, left_view, others_wait}
+use Rattle.mcs_lock.specs.Kinds.{cleared_view, raised_view, queued_view, entered_view, linked_view, looked_view, followed_view, left_view,
+    others_wait}
 use Rattle.mcs_lock.specs.Rule.{next, locked, name, pass_named}
 use Rattle.mcs_lock.proofs.Kept.{exchanges}
 use Rattle.mcs_lock.proofs.Own.{own_after, alike}
@@ -14,7 +15,8 @@ compare_exchange-requires g c =
     let number = c.requires.seat.number in
     let home = c.requires.home in
     (c.requires.seat.table ∙ sym (ap (λ t. t.shared.table_id) c.deref.ensures), omega (arith, words),
-    exchanges g.V.Cargo.fit g.V.Cargo.tag g.V.Cargo.parked _ _ _ _ _ home.0 _ _ (omega (arith, number)) c.requires.holds c.requires.seat.plain.unspent home.1 home.2)
+    exchanges g.V.Cargo.fit g.V.Cargo.tag g.V.Cargo.parked _ _ _ _ _ home.0 _ _
+        (omega (arith, number)) c.requires.holds c.requires.seat.plain.unspent home.1 home.2)
 
 pub returns-clause-seat : goal.returns-clause-seat
 returns-clause-seat g c =

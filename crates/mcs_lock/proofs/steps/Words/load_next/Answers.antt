@@ -2,7 +2,8 @@ use Rattle.std.proofs.Common.{◌≡◌, ◌≢◌, ℕ, ◌<◌, ap, sym, ◌�
 use mathlib.Core.Logic.{dite}
 use native.Mathlib.Decide.{ℕ_discrete}
 use Rattle.lock_tables.specs.Happened.{missed_view, took_view, tested_view}
-use Rattle.mcs_lock.specs.Kinds.{cleared_view, raised_view, queued_view, entered_view, linked_view, looked_view, followed_view, left_view, others_wait}
+use Rattle.mcs_lock.specs.Kinds.{cleared_view, raised_view, queued_view, entered_view, linked_view, looked_view, followed_view, left_view,
+    others_wait}
 use Rattle.mcs_lock.specs.Rule.{next, locked, name, pass_named}
 use Rattle.mcs_lock.proofs.Kept.{looks}
 use Rattle.mcs_lock.proofs.Own.{own_after, alike}
@@ -14,7 +15,8 @@ load-requires g c =
     let at = c.next_of.ensures in
     let below = c.requires.seat.below in
     (c.requires.seat.table ∙ sym (ap (λ t. t.shared.table_id) c.deref.ensures), omega (arith, words, at, below),
-    looks g.V.Cargo.fit g.V.Cargo.tag g.V.Cargo.parked _ _ _ _ _ _ (at ∙ ap next c.requires.seat.number) c.requires.holds c.requires.seat.plain.unspent)
+    looks g.V.Cargo.fit g.V.Cargo.tag g.V.Cargo.parked _ _ _ _ _ _ (at
+        ∙ ap next c.requires.seat.number) c.requires.holds c.requires.seat.plain.unspent)
 
 pub returns-clause-seat : goal.returns-clause-seat
 returns-clause-seat g c =
