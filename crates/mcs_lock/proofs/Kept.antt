@@ -1,31 +1,30 @@
 -- Each kind of step of an MCS lock keeps the rule.
-use Rattle.std.proofs.Common.{◌≡◌, ◌≢◌, ℕ, zero, suc, ◌<◌, ◌≤◌, Bool, true, false, not, ◌==◌, eq-eqb, List, [], ◌∷◌, ◌++◌, length, set,
-    slice_index, refl, ap, sym, ◌∙◌, subst, arith, Option, Some}
+use Rattle.std.proofs.Common.{◌≡◌, ◌≢◌, ℕ, zero, suc, ◌<◌, ◌≤◌, Bool, true, false, not, ◌==◌, eq-eqb, List, [], ◌∷◌, length, slice_index}
+use Rattle.std.proofs.Common.{refl, ap, sym, ◌∙◌, subst, arith, Option, Some}
 use prog.Atomic.{either}
-use lib.Seq.{set-get_or}
 use mathlib.Core.Option.{some}
 use mathlib.Core.Logic.{dite}
 use native.Mathlib.Decide.{ℕ_discrete}
 use lib.ListN.{get_elem?}
 use borrow.Author.Tests.{eqb-true}
-use Rattle.atomic_table.specs.Table.{State, Me, Act, keeps, gives, Allows, Valid, stepped, carried_after}
+use Rattle.atomic_table.specs.Table.{State, Me, keeps, gives, Allows, stepped}
 use Rattle.lock_rules.specs.Tag.{Tag}
 use Rattle.lock_rules.specs.Views.{answer_of}
-use Rattle.lock_rules.specs.declared.step.Answer.TheVariants.{Open, No, Yes}
+use Rattle.lock_rules.specs.declared.step.Answer.TheVariants.{No, Yes}
 use Rattle.lock_rules.specs.declared.view.Phase.TheVariants.{Idle, Queued, Holding, Leaving}
 use Rattle.lock_rules.specs.declared.view.View.{View}
 use Rattle.lock_tables.specs.Happened.{MayRest, missed_view, took_view, tested_view}
 use Rattle.lock_tables.specs.Rule.{is_busy, is_holder, IsQueued, IsLock}
-use Rattle.lock_tables.proofs.Lists.{at_below, head_cut, no_true}
+use Rattle.lock_tables.proofs.Lists.{at_below, head_cut}
 use Rattle.lock_tables.proofs.Queues.{IsLike, wrong_phase, held_busy}
 use Rattle.lock_tables.proofs.Steps.{stays, loads, enters, enters_and_takes, takes_head, leaves}
-use Rattle.mcs_lock.specs.Kinds.{cleared_view, raised_view, queued_view, entered_view, linked_view, looked_view, followed_view, left_view,
-    others_wait, Cleared, Raised, Swapped, Linked, Polled, Tested, Looked, Passed, Exchanged}
-use Rattle.mcs_lock.specs.Rule.{tail, next, locked, name, pass_named, IsPlaced, NamesBehind, IsLinked, mcs_discipline}
-use Rattle.mcs_lock.proofs.Places.{KeepsLinks, busy_at, live_at, below_at, place_of, placed_at}
+use Rattle.mcs_lock.specs.Kinds.{cleared_view, raised_view, queued_view, entered_view, linked_view, looked_view, followed_view, left_view}
+use Rattle.mcs_lock.specs.Kinds.{others_wait, Cleared, Raised, Swapped, Linked, Polled, Tested, Looked, Passed, Exchanged}
+use Rattle.mcs_lock.specs.Rule.{tail, next, locked, name, pass_named, IsPlaced, NamesBehind, mcs_discipline}
+use Rattle.mcs_lock.proofs.Places.{KeepsLinks, live_at, below_at, placed_at}
 use Rattle.mcs_lock.proofs.Queue.{disciplined}
-use Rattle.mcs_lock.proofs.Links.{core_clears, core_raises, core_enters, core_takes, core_links, core_loads, core_passes, core_ends,
-    alone_is, names_alone}
+use Rattle.mcs_lock.proofs.Links.{core_clears, core_raises, core_enters, core_takes, core_links, core_loads, core_passes, core_ends}
+use Rattle.mcs_lock.proofs.Links.{alone_is, names_alone}
 
 like : (v w : View) → w.number ≡ v.number → w.from ≡ v.from → w.to ≡ v.to → w.joined ≡ v.joined → w.spent ≡ v.spent
     → w.tag.tag ≡ v.tag.tag → w.count ≡ v.count → IsLike v w
@@ -52,7 +51,7 @@ module _ {V : Type 0} (fit : V → Type 0) (tag_of : V → Tag) (parked : V → 
   behind_within : (words seats : List ℕ) (views : List View) (q : Q words seats views) (i x : ℕ) → NamesBehind seats views i x → x ≤ n
   behind_within words seats views q i x b =
       let l = below_at n tag words seats views q b.placed.seat b.view b.placed.at
-          (live_at n tag words seats views q (suc i) b.view b.placed) in
+      (live_at n tag words seats views q (suc i) b.view b.placed) in
       let e = b.named in omega (arith, l, e)
 
   tail_within : (words seats : List ℕ) (views : List View) (q : Q words seats views) → slice_index words tail ≤ n
@@ -83,7 +82,7 @@ module _ {V : Type 0} (fit : V → Type 0) (tag_of : V → Tag) (parked : V → 
       let w : View = cleared_view v in
       let free = wrong_phase (is_holder true) v Idle idle refl in
       let k = stays fit tag_of parked mcs_discipline disciplined n tag (next v.number) 0 id me w s r at live
-          (like v w refl refl refl refl refl refl refl) refl refl
+      (like v w refl refl refl refl refl refl refl) refl refl
       (λ h _. absurd (free h)) (λ h _. absurd (free h)) (core_clears n tag s.words r.seats s.views r.queued id v at live idle) in
       (w, keeps, k.0, k.1, (slice_index s.words (next v.number), k.2)))
 
@@ -95,7 +94,7 @@ module _ {V : Type 0} (fit : V → Type 0) (tag_of : V → Tag) (parked : V → 
       let w : View = raised_view v in
       let free = wrong_phase (is_holder true) v Idle idle refl in
       let k = stays fit tag_of parked mcs_discipline disciplined n tag (locked v.number) 1 id me w s r at live
-          (like v w refl refl refl refl refl refl refl) refl refl
+      (like v w refl refl refl refl refl refl refl) refl refl
       (λ h _. absurd (free h)) (λ h _. absurd (free h)) (core_raises n tag s.words r.seats s.views r.queued id v at live idle) in
       (w, keeps, k.0, k.1, (slice_index s.words (locked v.number), k.2)))
 
@@ -116,16 +115,16 @@ module _ {V : Type 0} (fit : V → Type 0) (tag_of : V → Tag) (parked : V → 
             q.core.last m u.0 u.1 f in absurd (omega (arith, z, e))
       ] refl) in
       let k = enters_and_takes fit tag_of parked mcs_discipline disciplined n tag tail (name v.number) id me w s r at live
-          (like v w refl refl refl refl refl refl refl) idle empty refl (λ x. absurd (cc)) refl
+      (like v w refl refl refl refl refl refl refl) idle empty refl (λ x. absurd (cc)) refl
       (core_takes n tag s.words r.seats s.views q id v at live cleared) in
       (w, k.0, k.1, k.2, (λ _. k.3, λ ne. absurd (ne e))))
       (λ ne.
       let w : View = queued_view v found in
       let k = enters fit tag_of parked mcs_discipline disciplined n tag tail (name v.number) id me w s r at live
-          (like v w refl refl refl refl refl refl refl) idle refl
+      (like v w refl refl refl refl refl refl refl) idle refl
       (core_enters n tag s.words r.seats s.views q id v at live idle cleared raised ne) in
       let within : found ≤ v.count = let l = tail_within s.words r.seats s.views q in let c = (q.each_seat id v at).counted live
-          in omega (arith, l, c) in
+      in omega (arith, l, c) in
       (w, keeps, k.0, k.1, (λ e. absurd (ne e), λ _. (within, k.2)))))
 
   pub links : (slots id : ℕ) (me : Me (Option V) View) (word new : ℕ) → word ≡ next (pass_named me.0.predecessor) → new ≡ name me.0.number
@@ -139,9 +138,9 @@ module _ {V : Type 0} (fit : V → Type 0) (tag_of : V → Tag) (parked : V → 
       let free = wrong_phase (is_holder true) v Queued queued refl in
       let x : ℕ = pass_named v.predecessor in
       let k = stays fit tag_of parked mcs_discipline disciplined n tag (next x) (name v.number) id me w s r at live
-          (like v w refl refl refl refl refl refl refl) refl refl
+      (like v w refl refl refl refl refl refl refl) refl refl
       (λ h _. absurd (free h)) (λ h _. absurd (free h))
-          (core_links n tag s.words r.seats s.views r.queued id v at live x queued open_link refl) in
+      (core_links n tag s.words r.seats s.views r.queued id v at live x queued open_link refl) in
       (w, keeps, k.0, k.1, (slice_index s.words (next x), k.2)))
 
   -- a pass whose `locked` is 0 is the first
@@ -167,19 +166,19 @@ module _ {V : Type 0} (fit : V → Type 0) (tag_of : V → Tag) (parked : V → 
       let first : get_elem? r.seats 0 ≡ some id = ap (get_elem? r.seats) (sym zeroth) ∙ p.1 in
       let keep : KeepsLinks v w = record { number = refl; predecessor = refl; linked = λ e'. e'; queued = λ _. queued } in
       let k = takes_head fit tag_of parked mcs_discipline disciplined n tag (locked v.number) id me w s r at live
-          (like v w refl refl refl refl refl refl refl) queued first
+      (like v w refl refl refl refl refl refl refl) queued first
       refl (λ x. absurd (cc)) refl
-          (core_loads n tag s.words r.seats s.views q id v w at live keep busy (λ e'. e') (λ e'. e') (λ i p' ne. q.core.noted i v p' ne)) in
+      (core_loads n tag s.words r.seats s.views q id v w at live keep busy (λ e'. e') (λ e'. e') (λ i p' ne. q.core.noted i v p' ne)) in
       (w, k.0, k.1, k.2, (λ _. k.3, λ ne. absurd (ne e))))
       (λ ne.
       let w : View = missed_view v in
       let free = wrong_phase (is_holder true) v Queued queued refl in
       let keep : KeepsLinks v w = record { number = refl; predecessor = refl; linked = λ e'. e'; queued = λ e'. e' } in
       let k = loads fit tag_of parked mcs_discipline disciplined n tag (locked v.number) id me w s r at live
-          (like v w refl refl refl refl refl refl refl) refl refl
+      (like v w refl refl refl refl refl refl refl) refl refl
       (λ h _. absurd (free h)) (λ h _. absurd (free h))
-          (core_loads n tag s.words r.seats s.views q id v w at live keep busy (λ e'. e') (λ e'. e')
-          (λ i p' ne'. q.core.noted i v p' ne')) in
+      (core_loads n tag s.words r.seats s.views q id v w at live keep busy (λ e'. e') (λ e'. e')
+      (λ i p' ne'. q.core.noted i v p' ne')) in
       (w, keeps, k.0, k.1, (λ e. absurd (ne e), λ _. k.2))))
 
   -- where `tail` names another than the holder, another pass is queued
@@ -205,10 +204,10 @@ module _ {V : Type 0} (fit : V → Type 0) (tag_of : V → Tag) (parked : V → 
       let holds : is_holder true v.phase ≡ true = ap (is_holder true) held in
       let keep : KeepsLinks v w = record { number = refl; predecessor = refl; linked = λ e'. e'; queued = λ e'. e' } in
       let k = loads fit tag_of parked mcs_discipline disciplined n tag tail id me w s r at live
-          (like v w refl refl refl refl refl refl refl) refl refl
+      (like v w refl refl refl refl refl refl refl) refl refl
       (λ h noted. others_behind s r id v at live (st.first h) (said_yes v found noted)) st.followed
       (core_loads n tag s.words r.seats s.views q id v w at live keep (held_busy true v.phase holds) (λ e'. e') (λ e'. e')
-          (λ i p' ne'. q.core.noted i v p' ne')) in
+      (λ i p' ne'. q.core.noted i v p' ne')) in
       (w, keeps, k.0, k.1, k.2)
 
   pub looks : (slots id : ℕ) (me : Me (Option V) View) (word : ℕ) → word ≡ next me.0.number → is_holder true me.0.phase ≡ true
@@ -223,18 +222,18 @@ module _ {V : Type 0} (fit : V → Type 0) (tag_of : V → Tag) (parked : V → 
       let st = q.each_seat id v at in
       let p = first_placed s.words r.seats s.views q id v at holds in
       let within : found ≤ v.count = let l = next_within s.words r.seats s.views q 0 v p in let c =
-          st.counted live in omega (arith, l, c) in
+      st.counted live in omega (arith, l, c) in
       let keep : KeepsLinks v w = record { number = refl; predecessor = refl; linked = λ e'. e'; queued = λ e'. e' } in
       let k = loads fit tag_of parked mcs_discipline disciplined n tag (next v.number) id me w s r at live
-          (like v w refl refl refl refl refl refl refl) refl refl st.tested st.followed
+      (like v w refl refl refl refl refl refl refl) refl refl st.tested st.followed
       (core_loads n tag s.words r.seats s.views q id v w at live keep (held_busy true v.phase holds) (λ e'. e') (λ e'. e')
-          (λ i p' ne'. q.core.links i v p' ne')) in
+      (λ i p' ne'. q.core.links i v p' ne')) in
       (w, keeps, k.0, k.1, (within, k.2)))
 
   pub passes : (slots id : ℕ) (v : View) (x : V) (word : ℕ) (c : List (ℕ × Option V)) → word ≡ locked (pass_named v.successor)
       → is_holder true v.phase ≡ true → v.spent ≡ false → v.successor ≢ 0
       → c ≡ (0, Some x) ∷ [] → MayRest fit tag_of parked v x
-          → Allows Rule slots id (v, c) word (λ _. 0) (λ _ me'. Passed fit tag_of parked (v, c) me')
+      → Allows Rule slots id (v, c) word (λ _. 0) (λ _ me'. Passed fit tag_of parked (v, c) me')
   passes slots id v x word c is holds live followed carries rests =
       subst (λ (i : ℕ). Allows Rule slots id (v, c) i (λ _. 0) (λ _ me'. Passed fit tag_of parked (v, c) me')) (sym is) (λ s r count at low.
       let w : View = left_view v in
@@ -242,7 +241,7 @@ module _ {V : Type 0} (fit : V → Type 0) (tag_of : V → Tag) (parked : V → 
       let cut = head_cut r.seats id ((q.each_seat id v at).first holds) in
       let y : ℕ = pass_named v.successor in
       let k = leaves fit tag_of parked mcs_discipline disciplined n tag (locked y) 0 id v w x c cut.0 s r at live
-          (like v w refl refl refl refl refl refl refl) holds cut.1 refl refl carries rests
+      (like v w refl refl refl refl refl refl refl) holds cut.1 refl refl carries rests
       (core_passes n tag s.words r.seats s.views q id v at live y cut.0 cut.1 (held_busy true v.phase holds) followed refl) in
       (w, gives, k.0, k.1, (slice_index s.words (locked y), k.2)))
 
@@ -263,10 +262,10 @@ module _ {V : Type 0} (fit : V → Type 0) (tag_of : V → Tag) (parked : V → 
       let cut = head_cut r.seats id first in
       let one = alone_is n tag s.words r.seats s.views q id v at live first e in
       let alone : r.seats ≡ id ∷ [] =
-          cut.1 ∙ ap (λ (l : List ℕ). id ∷ l)
-          (none_left cut.0 (let z : length r.seats ≡ suc (length cut.0) = ap length cut.1 in omega (arith, z, one))) in
+      cut.1 ∙ ap (λ (l : List ℕ). id ∷ l)
+      (none_left cut.0 (let z : length r.seats ≡ suc (length cut.0) = ap length cut.1 in omega (arith, z, one))) in
       let k = leaves fit tag_of parked mcs_discipline disciplined n tag tail 0 id v w x c [] s r at live
-          (like v w refl refl refl refl refl refl refl) holds alone refl refl carries rests
+      (like v w refl refl refl refl refl refl refl) holds alone refl refl carries rests
       (core_ends n tag s.words r.seats s.views q id v at live (held_busy true v.phase holds)) in
       let now : either (found == own) 0 found ≡ 0 = ap (λ (b : Bool). either b 0 found) (eq-eqb found own e) in
       (w, gives, k.0, subst (λ (y : ℕ). Rule (stepped s tail y id c w gives)) (sym now) k.1, (λ _. k.2, λ ne. absurd (ne e))))
@@ -274,10 +273,10 @@ module _ {V : Type 0} (fit : V → Type 0) (tag_of : V → Tag) (parked : V → 
       let w : View = followed_view v in
       let more = others_behind s r id v at live first ne in
       let keep : KeepsLinks v w =
-          record { number = refl; predecessor = refl; linked = λ e'. e'; queued = λ e'. absurd (let z : Leaving ≡ Queued = e' in cc) } in
+      record { number = refl; predecessor = refl; linked = λ e'. e'; queued = λ e'. absurd (let z : Leaving ≡ Queued = e' in cc) } in
       let k = loads fit tag_of parked mcs_discipline disciplined n tag tail id (v, c) w s r at live
-          (like v w refl refl refl refl refl refl refl) (sym (held_busy true v.phase holds)) (sym holds)
+      (like v w refl refl refl refl refl refl refl) (sym (held_busy true v.phase holds)) (sym holds)
       (λ _ _. more) (λ _ _. more) (core_loads n tag s.words r.seats s.views q id v w at live keep (held_busy true v.phase holds)
-          (λ e'. e') (λ e'. e') (λ i p' ne'. q.core.noted i v p' ne')) in
+      (λ e'. e') (λ e'. e') (λ i p' ne'. q.core.noted i v p' ne')) in
       let now : either (found == own) 0 found ≡ found = ap (λ (b : Bool). either b 0 found) (other_test found own ne) in
       (w, keeps, k.0, subst (λ (y : ℕ). Rule (stepped s tail y id c w keeps)) (sym now) k.1, (λ e. absurd (ne e), λ _. k.2))))

@@ -1,23 +1,22 @@
 -- The links of the queue at each kind of step.
-use Rattle.std.proofs.Common.{◌≡◌, ◌≢◌, ◌⊎◌, ℕ, zero, suc, ◌+◌, ◌-◌, ◌*◌, ◌^◌, ◌<◌, ◌≤◌, Bool, true, false, List, [], ◌∷◌, ◌++◌, length,
-    set, slice_index, refl, ap, sym, ◌∙◌, subst, inl, inr, ⊎_elim, arith, length-append}
+use Rattle.std.proofs.Common.{◌≡◌, ◌≢◌, ◌⊎◌, ℕ, zero, suc, ◌+◌, ◌<◌, ◌≤◌, true, false, List, [], ◌∷◌, ◌++◌, length, set, slice_index, refl}
+use Rattle.std.proofs.Common.{ap, sym, ◌∙◌, subst, inl, inr, ⊎_elim, arith, length-append}
 use Rattle.std.proofs.Math.ListN.{length-set}
 use mathlib.Core.Option.{some, some-injective, some-ne-none}
 use mathlib.Core.Logic.{dite}
 use native.Mathlib.Decide.{ℕ_discrete}
 use lib.ListN.{get_elem?}
-use Rattle.atomic_table.proofs.Lists.{at_set, set_else, at_longer, at_last}
+use Rattle.atomic_table.proofs.Lists.{at_set, set_else, at_longer}
 use Rattle.lock_rules.specs.Tag.{Tag}
 use Rattle.lock_rules.specs.declared.view.Phase.TheVariants.{Idle, Queued, Holding}
 use Rattle.lock_rules.specs.declared.view.View.{View}
-use Rattle.lock_tables.specs.Rule.{is_busy, is_holder, IsQueued}
-use Rattle.lock_tables.proofs.Lists.{set_at, at_end, at_below, there, no_true, wrote_here, wrote_else}
-use Rattle.lock_tables.proofs.Queues.{no_place, wrong_phase, held_busy}
-use Rattle.mcs_lock.specs.Rule.{tail, next, locked, name, pass_named, IsPlaced, NamesBehind, IsFirst, IsBehind, IsPrepared, IsLinked,
-    mcs_discipline}
+use Rattle.lock_tables.specs.Rule.{is_busy, IsQueued}
+use Rattle.lock_tables.proofs.Lists.{set_at, at_end, at_below, no_true, wrote_here, wrote_else}
+use Rattle.lock_tables.proofs.Queues.{no_place}
+use Rattle.mcs_lock.specs.Rule.{tail, next, locked, name, pass_named, IsPlaced, NamesBehind, IsPrepared, IsLinked, mcs_discipline}
 use Rattle.mcs_lock.specs.Kinds.{cleared_view, raised_view, queued_view, entered_view, linked_view, left_view}
-use Rattle.mcs_lock.proofs.Places.{one_view, KeepsLinks, keeps_all, WasPlaced, IsStill, still, names_still, names_as, busy_at, live_at,
-    below_at, same_place, other_pass, other_seat, place_of, placed_at}
+use Rattle.mcs_lock.proofs.Places.{one_view, KeepsLinks, keeps_all, WasPlaced, IsStill, still, names_still, names_as, live_at, below_at}
+use Rattle.mcs_lock.proofs.Places.{same_place, other_pass, other_seat, place_of, placed_at}
 use Rattle.mcs_lock.proofs.Core.{core_from}
 
 -- words of two passes, or of two kinds, are two
@@ -99,8 +98,12 @@ module _ (n : ℕ) (tag : Tag) (words seats : List ℕ) (views : List View) (q :
           };
         })
         (λ (t : (p.seat ≢ id)
-            × (get_elem? views p.seat ≡ some u)). record { view = u; placed = record { seat = p.seat; place = p.place; at = t.1 }; keeps =
-            keeps_all u })
+        × (get_elem? views p.seat ≡ some u)). record {
+          view = u;
+          placed = record { seat = p.seat; place = p.place; at = t.1 };
+          keeps =
+              keeps_all u;
+        })
         (at_set views id p.seat w u p.at)
 
     stays_placed : KeepsLinks v w → (i : ℕ) (u : View) → IsPlaced seats views i u → IsStill seats (set views id w) i u
@@ -116,9 +119,9 @@ module _ (n : ℕ) (tag : Tag) (words seats : List ℕ) (views : List View) (q :
         (λ (t : (p.seat ≡ id) × (w ≡ u)).
         let same = ap (λ (x : View). x.successor) t.1 in
         names_as seats views i w.successor u.successor same
-            (own i (record { seat = p.seat; place = p.place; at = ap (get_elem? views) t.0 ∙ at }) (λ e. ne (sym same ∙ e))))
+        (own i (record { seat = p.seat; place = p.place; at = ap (get_elem? views) t.0 ∙ at }) (λ e. ne (sym same ∙ e))))
         (λ (t : (p.seat ≢ id) × (get_elem? views p.seat ≡ some u)). q.core.noted i u
-            (record { seat = p.seat; place = p.place; at = t.1 }) ne)
+        (record { seat = p.seat; place = p.place; at = t.1 }) ne)
         (at_set views id p.seat w u p.at))
 
     prepared_set : (words' : List ℕ) → IsPrepared words' w
@@ -146,7 +149,7 @@ module _ (n : ℕ) (tag : Tag) (words seats : List ℕ) (views : List View) (q :
         (λ i u p ne. names_set keeps i (slice_index words (next u.number)) (q.core.links i u p ne))
         (noted_set keeps own)
         (prepared_set words (busy_prepared words words v w (q.core.prepared id v at live) busy a b)
-            (λ j u ne e live'. q.core.prepared j u e live'))
+        (λ j u ne e live'. q.core.prepared j u e live'))
 
     -- a store of an idle pass in one of its own words
     core_stores : (words' : List ℕ) → v.phase ≡ Idle → slice_index words' tail ≡ slice_index words tail
@@ -159,12 +162,11 @@ module _ (n : ℕ) (tag : Tag) (words seats : List ℕ) (views : List View) (q :
         core_from n words words' seats views (set views id w) q.core ends long_set (was_set keeps) (λ i u p. b u.number (apart i u p))
         (λ i u p ne. let same = a u.number (apart i u p) in
         names_set keeps i (slice_index words' (next u.number))
-            (names_as seats views i (slice_index words (next u.number)) (slice_index words' (next u.number)) (sym same)
+        (names_as seats views i (slice_index words (next u.number)) (slice_index words' (next u.number)) (sym same)
         (q.core.links i u p (λ e. ne (same ∙ e)))))
         (noted_set keeps (λ i p _. absurd (no_place mcs_discipline n tag words seats views id v q at free i id (placed_id i p) refl)))
         (prepared_set words' mine (λ j u ne e live'. let far = other_seat n tag words seats views q id j v u at e live live' ne in
         prepared_as words words' u (a u.number far) (b u.number far) (q.core.prepared j u e live')))
-
 
   module _ (id : ℕ) (v : View) (at : get_elem? views id ≡ some v) (live : v.spent ≡ false) where
     next_below : next v.number < length words
@@ -181,7 +183,7 @@ module _ (n : ℕ) (tag : Tag) (words seats : List ℕ) (views : List View) (q :
     core_clears idle =
         let k = q.core.prepared id v at live in
         core_stores id v (cleared_view v) at live (set words (next v.number) 0) idle
-            (wrote_else words (next v.number) tail 0 (tail_next v.number))
+        (wrote_else words (next v.number) tail 0 (tail_next v.number))
         (λ p ne. wrote_else words (next v.number) (next p) 0 (apart_next p v.number ne))
         (λ p ne. wrote_else words (next v.number) (locked p) 0 (locked_next p v.number))
         (record { number = refl; predecessor = refl; linked = λ e. e; queued = λ e. e })
@@ -195,7 +197,7 @@ module _ (n : ℕ) (tag : Tag) (words seats : List ℕ) (views : List View) (q :
     core_raises idle =
         let k = q.core.prepared id v at live in
         core_stores id v (raised_view v) at live (set words (locked v.number) 1) idle
-            (wrote_else words (locked v.number) tail 1 (tail_locked v.number))
+        (wrote_else words (locked v.number) tail 1 (tail_locked v.number))
         (λ p ne. wrote_else words (locked v.number) (next p) 1 (next_locked p v.number))
         (λ p ne. wrote_else words (locked v.number) (locked p) 1 (apart_locked p v.number ne))
         (record { number = refl; predecessor = refl; linked = λ e. e; queued = λ e. e })
@@ -210,7 +212,7 @@ module _ (n : ℕ) (tag : Tag) (words seats : List ℕ) (views : List View) (q :
     prepared_tail x w a b = prepared_set id v w at live (set words tail x)
         (record { unlinked = λ e. absurd (no_true (sym e ∙ a)); raised = λ e. absurd (no_true (sym e ∙ b)) })
         (λ j u ne e live'. prepared_as words (set words tail x) u (wrote_else words tail (next u.number) x (next_tail u.number))
-            (wrote_else words tail (locked u.number) x (locked_tail u.number)) (q.core.prepared j u e live'))
+        (wrote_else words tail (locked u.number) x (locked_tail u.number)) (q.core.prepared j u e live'))
 
     -- a place of the queue behind which another pass enters
     enter_cases : (w : View) (i : ℕ) (u : View) → v.phase ≡ Idle → IsPlaced (seats ++ id ∷ []) (set views id w) i u
@@ -218,7 +220,7 @@ module _ (n : ℕ) (tag : Tag) (words seats : List ℕ) (views : List View) (q :
     enter_cases w i u idle p = ⊎_elim
         (λ (f : get_elem? seats i ≡ some p.seat). ⊎_elim
         (λ (t : (p.seat ≡ id) × (w ≡ u)). absurd
-            (no_place mcs_discipline n tag words seats views id v q at (ap (is_busy true) idle) i p.seat f t.0))
+        (no_place mcs_discipline n tag words seats views id v q at (ap (is_busy true) idle) i p.seat f t.0))
         (λ (t : (p.seat ≢ id) × (get_elem? views p.seat ≡ some u)). inl (record { seat = p.seat; place = f; at = t.1 }))
         (at_set views id p.seat w u p.at))
         (λ (f : (i ≡ length seats) × (id ≡ p.seat)). ⊎_elim
@@ -256,7 +258,7 @@ module _ (n : ℕ) (tag : Tag) (words seats : List ℕ) (views : List View) (q :
           last = λ i u p e. ⊎_elim
               (λ (r : IsPlaced seats views i u). absurd (let b = at_below seats i r.seat r.place in omega (arith, b, e, long)))
               (λ (t : (i ≡ length seats) × (w ≡ u)). wrote_here words tail (name v.number) tail_below
-                  ∙ ap (λ (x : View). name x.number) t.1)
+              ∙ ap (λ (x : View). name x.number) t.1)
               (enter_cases w i u idle p);
           first = λ u p. ⊎_elim
               (λ (r : IsPlaced seats views 0 u). let f = k.first u r in record {
@@ -269,7 +271,7 @@ module _ (n : ℕ) (tag : Tag) (words seats : List ℕ) (views : List View) (q :
           behind = λ i u z p r. ⊎_elim
               (λ (r' : IsPlaced seats views (suc i) z). ⊎_elim
               (λ (p' : IsPlaced seats views i u). let b = k.behind i u z p' r'
-                  in record { named = b.named; waits = locked_same z.number ∙ b.waits })
+              in record { named = b.named; waits = locked_same z.number ∙ b.waits })
               (λ (t : (i ≡ length seats) × (w ≡ u)). absurd (let b = at_below seats (suc i) r'.seat r'.place in omega (arith, b, t.0)))
               (enter_cases w i u idle p))
               (λ (t : (suc i ≡ length seats) × (w ≡ z)). ⊎_elim
@@ -283,10 +285,10 @@ module _ (n : ℕ) (tag : Tag) (words seats : List ℕ) (views : List View) (q :
           links = λ i u p ne. ⊎_elim
               (λ (r : IsPlaced seats views i u). let same = next_same u.number in
               names_as (seats ++ id ∷ []) (set views id w) i (slice_index words (next u.number)) (slice_index words' (next u.number))
-                  (sym same)
+              (sym same)
               (names_enter w i (slice_index words (next u.number)) idle (k.links i u r (λ e. ne (same ∙ e)))))
               (λ (t : (i ≡ length seats) × (w ≡ u)). absurd
-                  (ne (ap (λ (x : View). slice_index words' (next x.number)) (sym t.1) ∙ next_same v.number ∙ (mine.unlinked cleared).1)))
+              (ne (ap (λ (x : View). slice_index words' (next x.number)) (sym t.1) ∙ next_same v.number ∙ (mine.unlinked cleared).1)))
               (enter_cases w i u idle p);
           noted = λ i u p ne. ⊎_elim
               (λ (r : IsPlaced seats views i u). names_enter w i u.successor idle (k.noted i u r ne))
@@ -296,9 +298,11 @@ module _ (n : ℕ) (tag : Tag) (words seats : List ℕ) (views : List View) (q :
         }
 
     only_one : (w : View) (i : ℕ) (u : View) → IsPlaced (id ∷ []) (set views id w) i u → (i ≡ 0) × (w ≡ u)
-    only_one w zero u p =
-        (refl, some-injective w u (sym (set_at views id v w at) ∙ ap (get_elem? (set views id w)) (some-injective id p.seat p.place)
-        ∙ p.at))
+    only_one w zero u p = (
+      refl,
+      some-injective w u (sym (set_at views id v w at) ∙ ap (get_elem? (set views id w)) (some-injective id p.seat p.place)
+          ∙ p.at),
+    )
     only_one w (suc i) u p = absurd (some-ne-none p.seat (sym p.place))
 
     -- swap of `tail` that found none
@@ -310,8 +314,11 @@ module _ (n : ℕ) (tag : Tag) (words seats : List ℕ) (views : List View) (q :
           empty = λ e. absurd (omega (arith, e));
           last = λ i u p e. wrote_here words tail (name v.number) tail_below ∙ ap (λ (x : View). name x.number) (only_one w i u p).1;
           first = λ u p. let s = (only_one w 0 u p).1
-              in record { free = inl (ap (λ (x : View). x.predecessor) (sym s)); linked = λ e. absurd
-              (let z : Holding ≡ Queued = ap (λ (x : View). x.phase) s ∙ e in cc) };
+              in record {
+                free = inl (ap (λ (x : View). x.predecessor) (sym s));
+                linked = λ e. absurd
+                    (let z : Holding ≡ Queued = ap (λ (x : View). x.phase) s ∙ e in cc);
+              };
           behind = λ i u z p r. absurd (some-ne-none r.seat (sym r.place));
           links = λ i u p ne. absurd
               (ne (ap (λ (x : View). slice_index words' (next x.number)) (sym (only_one w i u p).1)
@@ -359,15 +366,15 @@ module _ (n : ℕ) (tag : Tag) (words seats : List ℕ) (views : List View) (q :
         let locked_same = λ (p : ℕ). wrote_else words (next x) (locked p) (name v.number) (locked_next p x) in
         let behind_it : IsStill seats (set views id w) (suc l.0) v = stays_placed id v w at live keeps (suc l.0) v l.3 in
         let is_w : behind_it.view ≡ w =
-            one_view seats (set views id w) (suc l.0) behind_it.view w behind_it.placed (own_placed w (suc l.0) l.3) in
+        one_view seats (set views id w) (suc l.0) behind_it.view w behind_it.placed (own_placed w (suc l.0) l.3) in
         core_from n words words' seats views (set views id w) q.core (wrote_else words (next x) tail (name v.number) (tail_next x))
-            (long_set id v w at live) (was_set id v w at live keeps)
+        (long_set id v w at live) (was_set id v w at live keeps)
         (λ i u p. locked_same u.number)
         (λ i u p ne. dite (ℕ_discrete u.number x)
         (λ e.
         let place : i ≡ l.0 = same_place n tag words seats views q i l.0 u l.1 p l.2 (e ∙ far) in
         subst (λ (y : ℕ × ℕ). NamesBehind seats (set views id w) y.0 y.1)
-            (λ h. (sym place h, (sym here ∙ ap (λ (y : ℕ). slice_index words' (next y)) (sym e)) h))
+        (λ h. (sym place h, (sym here ∙ ap (λ (y : ℕ). slice_index words' (next y)) (sym e)) h))
         (record { view = w; placed = own_placed w (suc l.0) l.3; named = refl; linked = refl }))
         (λ far'. let same = wrote_else words (next x) (next u.number) (name v.number) (apart_next u.number x far') in
         names_as seats (set views id w) i (slice_index words (next u.number)) (slice_index words' (next u.number)) (sym same)
@@ -376,8 +383,8 @@ module _ (n : ℕ) (tag : Tag) (words seats : List ℕ) (views : List View) (q :
         (prepared_set id v w at live words'
         (busy_prepared words words' v w (q.core.prepared id v at live) (ap (is_busy true) queued) (λ e. e) (λ e. e))
         (λ j u ne e live'. prepared_beside words' l.0 l.1 l.2
-            (λ p ne'. wrote_else words (next x) (next p) (name v.number) (apart_next p x (λ e'. ne' (e' ∙ far))))
-            (λ p _. locked_same p) j u e live'))
+        (λ p ne'. wrote_else words (next x) (next p) (name v.number) (apart_next p x (λ e'. ne' (e' ∙ far))))
+        (λ p _. locked_same p) j u e live'))
 
     -- a place of the queue that the head leaves
     leave_was : (w : View) (rest : List ℕ) → seats ≡ id ∷ rest → (i : ℕ) (u : View) → IsPlaced rest (set views id w) i u
@@ -385,8 +392,8 @@ module _ (n : ℕ) (tag : Tag) (words seats : List ℕ) (views : List View) (q :
     leave_was w rest cut i u p =
         let place : get_elem? seats (suc i) ≡ some p.seat = ap (λ (l : List ℕ). get_elem? l (suc i)) cut ∙ p.place in
         let other : p.seat ≢ id =
-            λ e. (let z : suc i ≡ 0 = q.once (suc i) 0 id (place ∙ ap some e) (ap (λ (l : List ℕ). get_elem? l 0) cut)
-            in absurd (omega arith)) in
+        λ e. (let z : suc i ≡ 0 = q.once (suc i) 0 id (place ∙ ap some e) (ap (λ (l : List ℕ). get_elem? l 0) cut)
+        in absurd (omega arith)) in
         record { seat = p.seat; place = place; at = sym (set_else views id p.seat w other) ∙ p.at }
 
     leave_still : (w : View) (rest : List ℕ) → seats ≡ id ∷ rest → (i : ℕ) (u : View) → IsPlaced seats views (suc i) u
@@ -394,8 +401,8 @@ module _ (n : ℕ) (tag : Tag) (words seats : List ℕ) (views : List View) (q :
     leave_still w rest cut i u p =
         let place : get_elem? rest i ≡ some p.seat = ap (λ (l : List ℕ). get_elem? l (suc i)) (sym cut) ∙ p.place in
         let other : p.seat ≢ id =
-            λ e. (let z : suc i ≡ 0 = q.once (suc i) 0 id (p.place ∙ ap some e) (ap (λ (l : List ℕ). get_elem? l 0) cut)
-            in absurd (omega arith)) in
+        λ e. (let z : suc i ≡ 0 = q.once (suc i) 0 id (p.place ∙ ap some e) (ap (λ (l : List ℕ). get_elem? l 0) cut)
+        in absurd (omega arith)) in
         record { seat = p.seat; place = place; at = set_else views id p.seat w other ∙ p.at }
 
     names_leave : (w : View) (rest : List ℕ) → seats ≡ id ∷ rest → (i x : ℕ) → NamesBehind seats views (suc i) x
@@ -429,20 +436,20 @@ module _ (n : ℕ) (tag : Tag) (words seats : List ℕ) (views : List View) (q :
               let r' = leave_was w rest cut (suc i) z r in
               let h = k.behind (suc i) u z p' r' in
               let other : z.number ≢ x =
-                  λ e. (let m : suc (suc i) ≡ 1 = same_place n tag words seats views q (suc (suc i)) 1 z b.view r' b.placed (e ∙ far)
-                  in absurd (omega arith)) in record {
+              λ e. (let m : suc (suc i) ≡ 1 = same_place n tag words seats views q (suc (suc i)) 1 z b.view r' b.placed (e ∙ far)
+              in absurd (omega arith)) in record {
                 named = h.named;
                 waits = wrote_else words (locked x) (locked z.number) 0 (apart_locked z.number x other) ∙ h.waits;
               };
           links = λ i u p ne. let same = next_same u.number in
               names_as rest (set views id w) i (slice_index words (next u.number)) (slice_index words' (next u.number)) (sym same)
               (names_leave w rest cut i (slice_index words (next u.number))
-                  (k.links (suc i) u (leave_was w rest cut i u p) (λ e. ne (same ∙ e))));
+              (k.links (suc i) u (leave_was w rest cut i u p) (λ e. ne (same ∙ e))));
           noted = λ i u p ne. names_leave w rest cut i u.successor (k.noted (suc i) u (leave_was w rest cut i u p) ne);
           prepared = prepared_set id v w at live words'
               (busy_prepared words words' v w (k.prepared id v at live) busy (λ e. e) (λ e. e))
               (λ j u ne e live'. prepared_beside words' 1 b.view b.placed (λ p _. next_same p)
-                  (λ p ne'. wrote_else words (locked x) (locked p) 0 (apart_locked p x (λ e'. ne' (e' ∙ far)))) j u e live');
+              (λ p ne'. wrote_else words (locked x) (locked p) 0 (apart_locked p x (λ e'. ne' (e' ∙ far)))) j u e live');
         }
 
     -- exchange of `tail` from own to 0
@@ -457,7 +464,7 @@ module _ (n : ℕ) (tag : Tag) (words seats : List ℕ) (views : List View) (q :
       prepared = prepared_set id v w at live (set words tail 0)
           (busy_prepared words (set words tail 0) v w (q.core.prepared id v at live) busy (λ e. e) (λ e. e))
           (λ j u ne e live'. prepared_as words (set words tail 0) u (wrote_else words tail (next u.number) 0 (next_tail u.number))
-              (wrote_else words tail (locked u.number) 0 (locked_tail u.number)) (q.core.prepared j u e live'));
+          (wrote_else words tail (locked u.number) 0 (locked_tail u.number)) (q.core.prepared j u e live'));
     }
 
     alone_at : get_elem? seats 0 ≡ some id → slice_index words tail ≡ name v.number → (m : ℕ) → length seats ≡ m → 0 < m → m ≡ 1

@@ -1,5 +1,5 @@
 -- The seats of a lock's own table.
-use Rattle.std.proofs.Common.{◌≡◌, ℕ, ◌+◌, ◌*◌, ◌<◌, ◌≤◌, false, List, [], refl, ap, sym, ◌∙◌, subst, arith}
+use Rattle.std.proofs.Common.{◌≡◌, ℕ, ◌≤◌, List, ap, sym, ◌∙◌, subst, arith}
 use Rattle.atomic_table.specs.Seated.{TableId}
 use Rattle.atomic_table.specs.declared.shared.Seat.{Seat}
 use Rattle.lock_rules.specs.Passes.{IsOf}
@@ -37,7 +37,7 @@ module _ {S V : Type 0} (own : ℕ) (z : TableId) (key : Opening V) where
       let p = o.plain in
       let is : w ≡ s'.me.0 = ap (λ x. x.0) (sym m) in
       let mine : (own ≡ mark_of w)
-          × (w.algorithm ≡ Mcs) = (o.number ∙ sym a.number ∙ sym (marked_by w (a.algorithm ∙ o.algorithm)), a.algorithm ∙ o.algorithm) in
+      × (w.algorithm ≡ Mcs) = (o.number ∙ sym a.number ∙ sym (marked_by w (a.algorithm ∙ o.algorithm)), a.algorithm ∙ o.algorithm) in
       let plain : IsPlain w = record {
         unspent = a.spent ∙ p.unspent;
         split = a.from ∙ p.split ∙ sym a.to;
@@ -66,7 +66,7 @@ module _ {S V : Type 0} (own : ℕ) (z : TableId) (key : Opening V) where
       let a = own_algorithm Mcs z tag y v of in
       let same = own_table Mcs z tag y v of in
       let rows : row_of Mcs v.count ≡ row_of Mcs key.passes = ap (λ (x : Algorithm). row_of x v.count) (sym a) ∙ sym row
-          ∙ ap (λ (x : TableId). x.words) same ∙ long in
+      ∙ ap (λ (x : TableId). x.words) same ∙ long in
       let count : v.count ≡ key.passes = omega (arith, rows) in
       let number : own ≡ v.number = mark ∙ marked_by v a in record {
         table = t ∙ same;

@@ -1,16 +1,12 @@
 -- The seats of an MCS lock's queue, by their places.
-use Rattle.std.proofs.Common.{◌≡◌, ◌≢◌, ◌⊎◌, ℕ, suc, ◌+◌, ◌<◌, ◌≤◌, Bool, true, false, List, [], ◌∷◌, ◌++◌, length, set, refl, ap, sym,
-    ◌∙◌, inl, inr, ⊎_elim, arith}
+use Rattle.std.proofs.Common.{◌≡◌, ◌≢◌, ℕ, suc, ◌<◌, ◌≤◌, true, false, List, length, refl, ap, sym, ◌∙◌, inl, arith}
 use mathlib.Core.Option.{some, some-injective}
-use mathlib.Core.Logic.{dite}
-use native.Mathlib.Decide.{ℕ_discrete}
 use lib.ListN.{get_elem?}
 use Rattle.lock_rules.specs.Tag.{Tag}
-use Rattle.lock_rules.specs.declared.view.Phase.TheVariants.{Idle, Queued}
+use Rattle.lock_rules.specs.declared.view.Phase.TheVariants.{Queued}
 use Rattle.lock_rules.specs.declared.view.View.{View}
-use Rattle.lock_tables.specs.Numbers.{by_pass}
 use Rattle.lock_tables.specs.Rule.{is_busy, IsQueued}
-use Rattle.lock_tables.proofs.Lists.{at_below, there, no_true}
+use Rattle.lock_tables.proofs.Lists.{at_below, there}
 use Rattle.lock_tables.proofs.Numbers.{number_below, one_number}
 use Rattle.lock_tables.proofs.Points.{has_stands}
 use Rattle.lock_tables.proofs.Queues.{lives, no_place, one_seat_of}
@@ -96,7 +92,7 @@ module _ (n : ℕ) (tag : Tag) (words seats : List ℕ) (views : List View) (q :
   pub same_place : (i k : ℕ) (u v : View) → IsPlaced seats views i u → IsPlaced seats views k v → u.number ≡ v.number → i ≡ k
   same_place i k u v p r e =
       let s : r.seat ≡ p.seat =
-          one_seat_of mcs_discipline n tag words seats views q p.seat r.seat u v p.at r.at (live_at i u p) (live_at k v r) (sym e) in
+      one_seat_of mcs_discipline n tag words seats views q p.seat r.seat u v p.at r.at (live_at i u p) (live_at k v r) (sym e) in
       q.once i k p.seat p.place (r.place ∙ ap some s)
 
   -- a pass that isn't in the queue is none of its passes

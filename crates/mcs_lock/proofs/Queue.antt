@@ -1,6 +1,6 @@
 -- The queue computed from words and views is that of the rule, and the rule holds at the start and where seats are cut and joined.
-use Rattle.std.proofs.Common.{◌≡◌, ◌≢◌, ◌⊎◌, ℕ, zero, suc, ◌+◌, ◌<◌, ◌≤◌, Bool, true, false, cond, ◌&&◌, ◌==◌, eq-eqb, List, [], ◌∷◌, ◌++◌,
-    length, map, take, set, slice_index, replicate, refl, ap, sym, ◌∙◌, inl, inr, ⊎_elim, arith, length-append}
+use Rattle.std.proofs.Common.{◌≡◌, ◌≢◌, ℕ, zero, suc, ◌<◌, ◌≤◌, Bool, true, false, cond, ◌&&◌, ◌==◌, eq-eqb, List, [], ◌∷◌, ◌++◌, length}
+use Rattle.std.proofs.Common.{map, take, set, slice_index, replicate, refl, ap, sym, ◌∙◌, ⊎_elim, arith, length-append}
 use Rattle.std.proofs.Math.ListN.{length-set}
 use Rattle.std.proofs.lemmas.List.{map-append}
 use mathlib.Core.Option.{some, some-injective, some-ne-none}
@@ -8,18 +8,16 @@ use lib.ListN.{get_elem?}
 use borrow.Author.Tests.{eqb-true}
 use Rattle.lock_rules.specs.Tag.{Tag}
 use Rattle.lock_rules.specs.Rows.{row_of}
-use Rattle.lock_rules.specs.Views.{IsPlain, first_view, without_next, next_split, joined_view, spent_view}
+use Rattle.lock_rules.specs.Views.{first_view, without_next, next_split, joined_view, spent_view}
 use Rattle.lock_rules.specs.declared.view.Algorithm.TheVariants.{Mcs}
-use Rattle.lock_rules.specs.declared.view.Phase.TheVariants.{Idle}
 use Rattle.lock_rules.specs.declared.view.View.{View}
 use Rattle.lock_tables.specs.Laws.{IsDisciplined, number_at}
 use Rattle.lock_tables.specs.Rule.{is_busy, IsQueued}
 use Rattle.lock_tables.proofs.Lists.{number_is, at_below, no_true}
-use Rattle.lock_tables.proofs.Queues.{IsSame, WasAt, lives, few_seats, placed_before_split, placed_before_join, after_split, after_join,
-    one_seat_of}
-use Rattle.mcs_lock.specs.Rule.{tail, next, locked, name, before, passes_to, queue_of, IsPlaced, NamesBehind, IsFirst, IsBehind,
-    IsPrepared, IsLinked, mcs_discipline}
-use Rattle.mcs_lock.proofs.Places.{KeepsLinks, WasPlaced, IsStill, still, names_still, names_as, busy_at, live_at, placed_at}
+use Rattle.lock_tables.proofs.Queues.{IsSame, WasAt, lives, few_seats, placed_before_split, placed_before_join, after_split, after_join}
+use Rattle.lock_tables.proofs.Queues.{one_seat_of}
+use Rattle.mcs_lock.specs.Rule.{tail, next, locked, name, before, passes_to, queue_of, IsPlaced, IsPrepared, IsLinked, mcs_discipline}
+use Rattle.mcs_lock.proofs.Places.{KeepsLinks, WasPlaced, still, names_still, names_as, busy_at, live_at, placed_at}
 use Rattle.mcs_lock.proofs.Core.{core_from}
 
 both_true : (a b : Bool) → (a && b) ≡ true → (a ≡ true) × (b ≡ true)
@@ -40,8 +38,8 @@ before_is words (u ∷ us) zero v at b only =
     rw (p, r) (ap (λ (x : View). cond (slice_index words (locked v.number) == 1) x.predecessor 0) s)
 before_is words (u ∷ us) (suc j) v at b only =
     elim (is_busy true u.phase && (u.number == v.number)) as (λ x. (is_busy true u.phase && (u.number == v.number)) ≡ x
-        → cond x (cond (slice_index words (locked v.number) == 1) u.predecessor 0) (before words us v.number)
-            ≡ cond (slice_index words (locked v.number) == 1) v.predecessor 0) [
+    → cond x (cond (slice_index words (locked v.number) == 1) u.predecessor 0) (before words us v.number)
+    ≡ cond (slice_index words (locked v.number) == 1) v.predecessor 0) [
       | true ↦ λ h. let p = both_true (is_busy true u.phase) (u.number == v.number) h in let z : zero ≡ suc j =
           only zero u refl p.0 (eqb-true u.number v.number p.1) in absurd (omega arith)
       | false ↦ λ h. before_is words us j v at b (λ k w at' b' e'. let z : suc k ≡ suc j = only (suc k) w at' b' e' in omega arith)
@@ -122,14 +120,14 @@ module _ (n : ℕ) (tag : Tag) (words seats : List ℕ) (views : List View) (q :
   passes_are i zero v p h = absurd (omega arith)
   passes_are zero (suc most) v p h =
       let none_before : passes_to words views most (before words views v.number) ≡ [] = ap (passes_to words views most) (before_first v p)
-          ∙ none_to words views most in
+      ∙ none_to words views most in
       ap (λ (l : List ℕ). l ++ v.number ∷ []) none_before
       ∙ (λ k. sym (number_of zero v p) k ∷ [])
       ∙ ap (map (number_at views)) (sym (take_next seats zero p.seat p.place))
   passes_are (suc i) (suc most) v p h =
       let u = placed_at n tag words seats views q i (let b = at_below seats (suc i) p.seat p.place in omega arith) in
       let rest : passes_to words views most (name u.0.number) ≡ map (number_at views) (take (suc i) seats) =
-          passes_are i most u.0 u.1 (omega arith) in
+      passes_are i most u.0 u.1 (omega arith) in
       let e = before_next i u.0 v u.1 p in
       ap (λ (l : List ℕ). l ++ v.number ∷ []) (ap (passes_to words views most) e ∙ rest)
       ∙ (λ k. map (number_at views) (take (suc i) seats) ++ sym (number_of (suc i) v p) k ∷ [])
@@ -145,7 +143,7 @@ module _ (n : ℕ) (tag : Tag) (words seats : List ℕ) (views : List View) (q :
         let few = few_seats mcs_discipline n tag words seats views q in
         let long = q.long in
         ap (passes_to words views (length words)) (q.core.last m u.0 u.1 e)
-            ∙ passes_are m (length words) u.0 u.1 (omega (arith, few, long, e))
+        ∙ passes_are m (length words) u.0 u.1 (omega (arith, few, long, e))
         ∙ ap (map (number_at views)) (ap (λ (x : ℕ). take x seats) (sym e) ∙ take_all seats)
   ] refl
 
@@ -166,18 +164,18 @@ core_same : (n : ℕ) (words seats : List ℕ) (views views' : List View) → Is
     → IsLinked n words seats views'
 core_same n words seats views views' k long was prepared =
     let placed = λ (i : ℕ) (u : View) (p : IsPlaced seats views' i u). let w =
-        was i p.seat u p.place p.at in let r : IsPlaced seats views i w.view = record { seat = p.seat; place = p.place; at = w.at } in r in
+    was i p.seat u p.place p.at in let r : IsPlaced seats views i w.view = record { seat = p.seat; place = p.place; at = w.at } in r in
     let before_it : (i : ℕ) (u : View) → IsPlaced seats views' i u → WasPlaced seats views i u
     = λ i u p. (let w = was i p.seat u p.place p.at
-        in record { view = w.view; placed = placed i u p; keeps = same_links u w.view w.same }) in
+    in record { view = w.view; placed = placed i u p; keeps = same_links u w.view w.same }) in
     core_from n words words seats views views' k refl long before_it (λ i u p. refl)
     (λ i u p ne. names_still seats views views' i (slice_index words (next u.number)) (still seats views views' long before_it (suc i))
-        (k.links i u p ne))
+    (k.links i u p ne))
     (λ i u p ne.
     let w = was i p.seat u p.place p.at in
     let b = k.noted i w.view (placed i u p) (λ e. ne (w.same.successor ∙ e)) in
     names_still seats views views' i u.successor (still seats views views' long before_it (suc i))
-        (names_as seats views i w.view.successor u.successor (sym w.same.successor) b))
+    (names_as seats views i w.view.successor u.successor (sym w.same.successor) b))
     prepared
 
 pub disciplined : IsDisciplined mcs_discipline
@@ -195,23 +193,23 @@ disciplined = record {
   splits = λ n tag words seats views id v q at live more. core_same n words seats views
       (set views id (without_next v) ++ next_split v ∷ []) q.core
       (let a = length-append (set views id (without_next v)) (next_split v ∷ []) in let b = length-set views id (without_next v)
-          in omega (arith, a, b))
+      in omega (arith, a, b))
       (λ i j u e e'. placed_before_split mcs_discipline n tag words seats views q id v at i j u e e')
       (λ j u e live'. ⊎_elim
-          (λ (t : WasAt views j u). same_prepared words u t.view t.same (q.core.prepared j t.view t.at (sym t.same.spent ∙ live')))
+      (λ (t : WasAt views j u). same_prepared words u t.view t.same (q.core.prepared j t.view t.at (sym t.same.spent ∙ live')))
       (λ (t : (j ≡ length views) × (next_split v ≡ u)). fresh_prepared words u (ap (λ (x : View). x.unlinked) (sym t.1))
-          (ap (λ (x : View). x.raised) (sym t.1)))
+      (ap (λ (x : View). x.raised) (sym t.1)))
       (after_split views id v at j u e));
   joins = λ n tag words seats views id v other w q at live apart at' idle plain. core_same n words seats views
       (set (set views id (joined_view v w)) other spent_view) q.core
       (let a = length-set (set views id (joined_view v w)) other spent_view in let b = length-set views id (joined_view v w)
-          in omega (arith, a, b))
+      in omega (arith, a, b))
       (λ i j u e e'. placed_before_join mcs_discipline n tag words seats views q id v other w at at' apart idle i j u e e')
       (λ j u e live'. ⊎_elim
-          (λ (t : (j ≢ other) × WasAt views j u). same_prepared words u t.1.view t.1.same
-          (q.core.prepared j t.1.view t.1.at (sym t.1.same.spent ∙ live')))
+      (λ (t : (j ≢ other) × WasAt views j u). same_prepared words u t.1.view t.1.same
+      (q.core.prepared j t.1.view t.1.at (sym t.1.same.spent ∙ live')))
       (λ (t : (j ≡ other) × (spent_view ≡ u)). fresh_prepared words u (ap (λ (x : View). x.unlinked) (sym t.1))
-          (ap (λ (x : View). x.raised) (sym t.1)))
+      (ap (λ (x : View). x.raised) (sym t.1)))
       (after_join views id v other w at j u e));
   queue_is = queue_is;
 }

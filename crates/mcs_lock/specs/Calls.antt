@@ -1,5 +1,5 @@
 -- What each call of an MCS lock did: its steps on words, the view that its token then has, and the events.
-use Rattle.std.specs.Prelude.{◌≡◌, ◌≢◌, ◌⊎◌, ℕ, Bool, List, [], ◌∷◌, Some, Option}
+use Rattle.std.specs.Prelude.{◌≡◌, ◌≢◌, ◌⊎◌, ℕ, Bool, [], ◌∷◌, Some}
 use Rattle.atomic_table.specs.Table.{takes}
 use Rattle.atomic_table.specs.declared.badge.Badge.{Badge}
 use Rattle.lock_rules.specs.Holders.{held_view}
@@ -10,8 +10,8 @@ use Rattle.lock_rules.specs.declared.view.View.{View}
 use Rattle.lock_tables.specs.Happened.{Seated, Stepped, took_view}
 use Rattle.lock_tables.specs.Queue.{Takes, EntersAndTakes}
 use Rattle.lock_tables.specs.Rule.{IsLock}
-use Rattle.mcs_lock.specs.Kinds.{cleared_view, raised_view, queued_view, entered_view, looked_view, others_wait, Cleared, Raised, Entered,
-    Linked, Missed, Tested, Looked, Passed, Ended, Followed}
+use Rattle.mcs_lock.specs.Kinds.{cleared_view, raised_view, queued_view, entered_view, looked_view, others_wait, Cleared, Raised, Entered}
+use Rattle.mcs_lock.specs.Kinds.{Linked, Missed, Tested, Looked, Passed, Ended, Followed}
 use Rattle.mcs_lock.specs.Rule.{tail, locked, name, queue_of, mcs_discipline}
 
 -- the view of a pass that has stored both words for its swap

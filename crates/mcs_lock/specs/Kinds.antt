@@ -21,8 +21,16 @@ raised_view v = record v { raised = true }
 -- the pass is queued behind the one that its swap found
 abbrev pub queued_view : View → ℕ → View
 queued_view v found =
-    record v { phase = Queued; entries = v.entries + 1; predecessor = found; unlinked = false; raised = false; linked = false; successor =
-    0 }
+    record v {
+      phase = Queued;
+      entries = v.entries + 1;
+      predecessor = found;
+      unlinked = false;
+      raised = false;
+      linked = false;
+      successor =
+          0;
+    }
 
 -- the pass holds: its swap found none
 abbrev pub entered_view : View → View
@@ -73,12 +81,12 @@ module _ {V : Type 0} (fit : V → Type 0) (tag_of : V → Tag) (parked : V → 
   abbrev pub Entered : Seated V → ℕ → Seated V → Type 0
   Entered me found me' =
       (found ≤ me.0.count) × Stepped (IsLock mcs_discipline fit tag_of parked) queue_of Enters keeps tail found (name me.0.number) me
-          (queued_view me.0 found) me'
+      (queued_view me.0 found) me'
 
   abbrev pub EnteredAndTook : Seated V → ℕ → Seated V → Type 0
   EnteredAndTook me found me' =
       SteppedAndTook (IsLock mcs_discipline fit tag_of parked) queue_of fit tag_of EntersAndTakes tail found (name me.0.number) me
-          (entered_view me.0) me'
+      (entered_view me.0) me'
 
   abbrev pub Swapped : Seated V → ℕ → Seated V → Type 0
   Swapped me found me' = (found ≡ 0 → EnteredAndTook me found me') × (found ≢ 0 → Entered me found me')
@@ -87,7 +95,7 @@ module _ {V : Type 0} (fit : V → Type 0) (tag_of : V → Tag) (parked : V → 
   abbrev pub Linked : Seated V → Seated V → Type 0
   Linked me me' = (found : ℕ)
       × Stepped (IsLock mcs_discipline fit tag_of parked) queue_of Stays keeps (next (pass_named me.0.predecessor)) found
-          (name me.0.number) me (linked_view me.0) me'
+      (name me.0.number) me (linked_view me.0) me'
 
   -- Load of own `locked`: Take where it is 0, else no event
   abbrev pub Took : Seated V → ℕ → Seated V → Type 0
@@ -111,13 +119,13 @@ module _ {V : Type 0} (fit : V → Type 0) (tag_of : V → Tag) (parked : V → 
   abbrev pub Looked : Seated V → ℕ → Seated V → Type 0
   Looked me found me' =
       (found ≤ me.0.count) × Stepped (IsLock mcs_discipline fit tag_of parked) queue_of Stays keeps (next me.0.number) found found me
-          (looked_view me.0 found) me'
+      (looked_view me.0 found) me'
 
   -- Store of the successor's `locked`: Leave
   abbrev pub Passed : Seated V → Seated V → Type 0
   Passed me me' = (found : ℕ)
       × Stepped (IsLock mcs_discipline fit tag_of parked) queue_of Leaves gives (locked (pass_named me.0.successor)) found 0 me
-          (left_view me.0) me'
+      (left_view me.0) me'
 
   -- Exchange of `tail` from own to 0: Leave where done, else no event
   abbrev pub Ended : Seated V → ℕ → Seated V → Type 0

@@ -6,11 +6,10 @@ ghost use Rattle.lock_rules.specs.declared.step.Answer.TheVariants.{Open, Yes};
 ghost use Rattle.lock_rules.specs.Views.{lock_name, answer_of};
 ghost use Rattle.lock_rules.specs.Holders.{holder_of};
 ghost use Rattle.lock_rules.specs.Steps.{IfNot, IfGot};
-ghost use Rattle.lock_rules.specs.Passes.{IsOf, AreAll};
 ghost use Rattle.lock_rules.specs.Tokens.{view_of, badge_place, badge_waiting};
-ghost use Rattle.lock_tables.specs.Seats.{IsOwn};
 ghost use Rattle.mcs_lock.specs.Calls.{HasEntered, HasEnteredAndTaken, HasMissed, HasTaken, HasAsked};
 ghost use Rattle.mcs_lock.specs.Calls.{at_home, HasLeft, HasPassed, IsFollowed, HasWaited};
+ghost use Rattle.mcs_lock.specs.Own.{IsMine, AreMine};
 ghost use Rattle.mcs_lock.specs.Leaves.{leave_waiting, HasHome};
 
 use crate::laws::McsWords;
@@ -55,7 +54,7 @@ impl<V: Cargo> Basic<V> for Mcs<V> {
 
     /// The answer is `Got` exactly where the swap found no predecessor.
     fn begin(&self, pass: Pass) -> Step<Queue, Held<V>>
-        requires own { IsOwn V.tag mcs_algorithm (padded_value self.now.words.table).shared.table_id (padded_value self.now.words.table).shared.key (badge_place pass.badge) }
+        requires own { IsMine V.tag (padded_value self.now.words.table).shared (badge_place pass.badge) }
         ensures did { IfNot result (λ q. HasEntered V.fit V.tag V.parked pass.badge q.badge) }
         ensures took { IfGot result (λ h. HasEnteredAndTaken V.fit V.tag V.parked pass.badge h) }
         ensures queue { IfNot result (λ q. (badge_waiting q.badge).place ≡ badge_place pass.badge) }
@@ -81,7 +80,7 @@ impl<V: Cargo> Basic<V> for Mcs<V> {
 
     /// The answer is `Got` exactly where the loaded word is 0. The value that was at home is the holder's then.
     fn poll(&self, queue: Queue) -> Step<Queue, Held<V>>
-        requires own { IsOwn V.tag mcs_algorithm (padded_value self.now.words.table).shared.table_id (padded_value self.now.words.table).shared.key (badge_waiting queue.badge).place }
+        requires own { IsMine V.tag (padded_value self.now.words.table).shared (badge_waiting queue.badge).place }
         ensures missed { IfNot result (λ q. HasMissed V.fit V.tag V.parked queue.badge q.badge) }
         ensures took { IfGot result (λ h. HasTaken V.fit V.tag V.parked queue.badge h) }
         ensures queue { IfNot result (λ q. (badge_waiting q.badge).place ≡ (badge_waiting queue.badge).place) }
@@ -102,7 +101,7 @@ impl<V: Cargo> Basic<V> for Mcs<V> {
 
     /// The answer is yes exactly where the loaded word isn't the holder's name.
     fn waiter(&self, held: &mut Held<V>) -> bool
-        requires own { IsOwn V.tag mcs_algorithm (padded_value self.now.words.table).shared.table_id (padded_value self.now.words.table).shared.key (holder_of held.old).place }
+        requires own { IsMine V.tag (padded_value self.now.words.table).shared (holder_of held.old).place }
         ensures asked { HasAsked V.fit V.tag V.parked held.old held.new result }
         ensures place { (holder_of held.new).place ≡ (holder_of held.old).place }
         ensures value { held.new.value ≡ held.old.value }
@@ -116,7 +115,7 @@ impl<V: Cargo> Basic<V> for Mcs<V> {
 
     /// The value is put back. The answer is `Got` where the holder saw its successor, which it lets go on, or was alone in the queue.
     fn begin_release(&self, held: Held<V>) -> Step<Leave<V>, Pass>
-        requires own { IsOwn V.tag mcs_algorithm (padded_value self.now.words.table).shared.table_id (padded_value self.now.words.table).shared.key (holder_of held).place }
+        requires own { IsMine V.tag (padded_value self.now.words.table).shared (holder_of held).place }
         requires fit { V.fit held.value }
         requires tagged { V.tag held.value ≡ V.tag (padded_value self.now.words.table).shared.key.value.value }
         requires relied_on { V.parked held.value ≡ true → (holder_of held).tested ≡ Yes }
@@ -134,8 +133,7 @@ impl<V: Cargo> Basic<V> for Mcs<V> {
         self.words.put(&mut seat, value);
         let successor = self.words.load_next(&mut seat, own);
         if successor != 0 {
-            self.words
-                .store_successor_locked(&mut seat, own, successor);
+            self.words.store_successor_locked(&mut seat, own, successor);
             return Step::Got(Pass::of(seat, own));
         }
         if self.words.compare_and_swap_tail(&mut seat, own) == own + 1 {
@@ -146,7 +144,7 @@ impl<V: Cargo> Basic<V> for Mcs<V> {
 
     /// The answer is `Got` exactly where the pass saw its successor, which it lets go on.
     fn poll_release(&self, leave: Leave<V>) -> Step<Leave<V>, Pass>
-        requires own { IsOwn V.tag mcs_algorithm (padded_value self.now.words.table).shared.table_id (padded_value self.now.words.table).shared.key (leave_waiting leave).place }
+        requires own { IsMine V.tag (padded_value self.now.words.table).shared (leave_waiting leave).place }
         requires rests { HasHome V.fit V.tag V.parked leave }
         ensures did { IfGot result (λ p. HasPassed V.fit V.tag V.parked leave.seat.me p.badge) }
         ensures waited { IfNot result (λ l. HasWaited V.fit V.tag V.parked leave.seat.me l.seat.me) }
@@ -167,7 +165,7 @@ impl<V: Cargo> Basic<V> for Mcs<V> {
     }
 
     fn close(self, passes: Vec<Pass>) -> V
-        requires all { AreAll (λ p. badge_place p.badge) (lock_name mcs_algorithm (padded_value self.words.table).shared.table_id) (V.tag (padded_value self.words.table).shared.key.value.value) (padded_value self.words.table).shared.key.passes passes.items }
+        requires all { AreMine V.tag (padded_value self.words.table).shared passes.items }
         ensures fit { V.fit result }
         ensures tagged { V.tag result ≡ V.tag (padded_value self.words.table).shared.key.value.value }
         ensures unparked { V.parked result ≡ false }

@@ -1,9 +1,6 @@
 //! The lock's words, and the atomic steps on them, by what they are in the published pseudo-code. Nothing else reaches the words.
 ghost use Rattle.std.specs.Prelude.{◌≡◌, ◌≢◌, ◌+◌, ◌-◌, ◌<◌, ◌≤◌, ◌^◌, [], ◌∷◌, true, false, Some, None, IfOk, IfErr};
 ghost use Rattle.crossbeam_utils.specs.Padded.{padded_value};
-ghost use Rattle.lock_rules.specs.Passes.{AreAll};
-ghost use Rattle.lock_rules.specs.Tokens.{badge_place};
-ghost use Rattle.lock_rules.specs.Views.{lock_name};
 ghost use Rattle.lock_rules.specs.declared.view.Algorithm.TheVariants.{Mcs as mcs_algorithm};
 ghost use Rattle.lock_rules.specs.declared.view.Phase.TheVariants.{Idle, Queued, Holding};
 ghost use Rattle.lock_tables.specs.Happened.{MayRest};
@@ -11,7 +8,7 @@ ghost use Rattle.lock_tables.specs.Rule.{is_holder};
 ghost use Rattle.lock_tables.specs.Seats.{IsSized, seat_as};
 ghost use Rattle.mcs_lock.specs.Kinds.{Cleared, Raised, EnteredAndTook, Entered, Linked, Took, Missed};
 ghost use Rattle.mcs_lock.specs.Kinds.{Tested, Looked, Passed, Ended, Followed};
-ghost use Rattle.mcs_lock.specs.Own.{IsSeatOf};
+ghost use Rattle.mcs_lock.specs.Own.{IsSeatOf, AreMine};
 ghost use Rattle.mcs_lock.specs.Rule.{next, locked, name, pass_named};
 
 use crate::kinds::{
@@ -64,7 +61,7 @@ impl<V: Cargo> Words<V> {
         requires unparked { V.parked value ≡ false }
         ensures count { IfOk result (λ m. (padded_value m.0.table).shared.key.passes ≡ passes) }
         ensures value { IfOk result (λ m. (padded_value m.0.table).shared.key.value.value ≡ value) }
-        ensures passes { IfOk result (λ m. AreAll (λ p. badge_place p.badge) (lock_name mcs_algorithm (padded_value m.0.table).shared.table_id) (V.tag value) passes m.1.items) }
+        ensures passes { IfOk result (λ m. AreMine V.tag (padded_value m.0.table).shared m.1.items) }
         ensures refused { IfErr result (λ r. r.value ≡ value) }
     {
         let Ok(opening) = vec![in alloc; 0; (passes as usize + 2) * 16] else {
@@ -81,7 +78,7 @@ impl<V: Cargo> Words<V> {
 
     /// The value of a lock whose passes came back.
     pub(crate) fn close(self, passes: Vec<Pass>) -> V
-        requires all { AreAll (λ p. badge_place p.badge) (lock_name mcs_algorithm (padded_value self.table).shared.table_id) (V.tag (padded_value self.table).shared.key.value.value) (padded_value self.table).shared.key.passes passes.items }
+        requires all { AreMine V.tag (padded_value self.table).shared passes.items }
         ensures fit { V.fit result }
         ensures tagged { V.tag result ≡ V.tag (padded_value self.table).shared.key.value.value }
         ensures unparked { V.parked result ≡ false }
@@ -161,13 +158,12 @@ impl<V: Cargo> Words<V> {
     }
 
     /// Loads `L`, which a holder compares with its own name.
-    pub(crate) fn load_tail(&self, seat: &mut Seat<Option<V>, View>, own: u64) -> u64
-        requires seat { IsSeatOf own (padded_value self.now.table).shared.table_id (padded_value self.now.table).shared.key seat.old }
+    pub(crate) fn load_tail(&self, seat: &mut Seat<Option<V>, View>, _own: u64) -> u64
+        requires seat { IsSeatOf _own (padded_value self.now.table).shared.table_id (padded_value self.now.table).shared.key seat.old }
         requires holds { seat.old.me.0.phase ≡ Holding }
-        ensures seat { IsSeatOf own (padded_value self.now.table).shared.table_id (padded_value self.now.table).shared.key seat.new }
+        ensures seat { IsSeatOf _own (padded_value self.now.table).shared.table_id (padded_value self.now.table).shared.key seat.new }
         ensures step { Tested V.fit V.tag V.parked seat.old.me result seat.new.me }
     {
-        let _ = own;
         self.table.shared.load::<LoadTail>(seat, TAIL)
     }
 
@@ -185,19 +181,18 @@ impl<V: Cargo> Words<V> {
     pub(crate) fn store_successor_locked(
         &self,
         seat: &mut Seat<Option<V>, View>,
-        own: u64,
+        _own: u64,
         successor: u64,
     )
-        requires seat { IsSeatOf own (padded_value self.now.table).shared.table_id (padded_value self.now.table).shared.key seat.old }
+        requires seat { IsSeatOf _own (padded_value self.now.table).shared.table_id (padded_value self.now.table).shared.key seat.old }
         requires holds { is_holder true seat.old.me.0.phase ≡ true }
         requires successor { successor ≡ seat.old.me.0.successor }
         requires followed { successor ≢ 0 }
         requires within { successor ≤ seat.old.me.0.count }
         requires home { (x : V) × (seat.old.me.1 ≡ (0, Some x) ∷ []) × MayRest V.fit V.tag V.parked seat.old.me.0 x }
-        ensures seat { IsSeatOf own (padded_value self.now.table).shared.table_id (padded_value self.now.table).shared.key seat.new }
+        ensures seat { IsSeatOf _own (padded_value self.now.table).shared.table_id (padded_value self.now.table).shared.key seat.new }
         ensures step { Passed V.fit V.tag V.parked seat.old.me seat.new.me }
     {
-        let _ = own;
         self.table
             .shared
             .store::<StoreSuccessorLocked>(seat, locked_of(successor - 1), 0);

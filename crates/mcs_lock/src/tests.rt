@@ -77,35 +77,23 @@ fn a_parked_value_is_handed_over(rt: HostRuntime) {
 }
 
 #[test]
-fn a_pass_holds_again_and_again(rt: HostRuntime) {
+fn a_pass_holds_again(rt: HostRuntime) {
     let moves = [
-        first(Call::Begin),
-        first(Call::Waiter),
-        first(Call::BeginRelease),
         second(Call::Begin),
         first(Call::Begin),
         second(Call::BeginRelease),
         second(Call::Begin),
         first(Call::Poll),
         first(Call::BeginRelease),
-        first(Call::Begin),
         second(Call::Poll),
         second(Call::BeginRelease),
-        first(Call::Poll),
-        first(Call::BeginRelease),
     ];
     let Some(outcome) = carry_out::<Mcs<Parcel>>(rt.alloc(), (), &moves) else {
         panic!(rt; "the script was not carried out")
     };
     let told = [
         Told::Got,
-        Told::No,
-        Told::Got,
-        Told::Got,
         Told::Not,
-        Told::Got,
-        Told::Not,
-        Told::Got,
         Told::Got,
         Told::Not,
         Told::Got,
@@ -119,8 +107,7 @@ fn a_pass_holds_again_and_again(rt: HostRuntime) {
 #[test]
 fn four_threads_hold_in_turn(rt: HostRuntime) {
     for parks in [false, true] {
-        let Some(parcel) = hold_by_four::<Mcs<Parcel>, _>(&rt, rt.alloc(), (), HOLDS, parks)
-        else {
+        let Some(parcel) = hold_by_four::<Mcs<Parcel>, _>(&rt, rt.alloc(), (), HOLDS, parks) else {
             panic!(rt; "there was no memory")
         };
         assert!(rt; parcel.count == 4 * u64::from(HOLDS));
@@ -129,15 +116,10 @@ fn four_threads_hold_in_turn(rt: HostRuntime) {
 }
 
 #[test]
-fn one_pass_is_made_or_the_value_comes_back(rt: HostRuntime) {
-    match Mcs::make(rt.alloc(), (), 1, Parcel::new(START)) {
-        Ok((lock, passes)) => {
-            assert!(rt; passes.len() == 1);
-            assert!(rt; lock.close(passes).count == START);
-        }
-        Err(refused) => {
-            assert!(rt; refused.value.count == START);
-            panic!(rt; "there was no memory")
-        }
-    }
+fn one_pass_is_made(rt: HostRuntime) {
+    let Ok((lock, passes)) = Mcs::make(rt.alloc(), (), 1, Parcel::new(START)) else {
+        panic!(rt; "there was no memory")
+    };
+    assert!(rt; passes.len() == 1);
+    assert!(rt; lock.close(passes).count == START);
 }

@@ -1,4 +1,4 @@
-use Rattle.std.proofs.Common.{ap, sym, ◌∙◌, refl}
+use Rattle.std.proofs.Common.{refl}
 use Rattle.mcs_lock.proofs.Own.{own_from}
 use Rattle.mcs_lock.proofs.lock.McsBasic.poll_release.Goals as goal
 

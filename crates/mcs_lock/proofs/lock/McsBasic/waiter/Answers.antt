@@ -1,4 +1,4 @@
-use Rattle.std.proofs.Common.{ap, sym, ◌∙◌, refl}
+use Rattle.std.proofs.Common.{refl}
 use Rattle.lock_rules.specs.Holders.{held_view}
 use Rattle.mcs_lock.proofs.Own.{own_from}
 use Rattle.mcs_lock.proofs.lock.McsBasic.waiter.Goals as goal

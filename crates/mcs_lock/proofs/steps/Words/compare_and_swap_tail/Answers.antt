@@ -1,10 +1,8 @@
-use Rattle.std.proofs.Common.{◌≡◌, ◌≢◌, ℕ, ◌<◌, ap, sym, ◌∙◌, refl, arith}
+use Rattle.std.proofs.Common.{ap, sym, ◌∙◌, refl, arith}
 use mathlib.Core.Logic.{dite}
 use native.Mathlib.Decide.{ℕ_discrete}
-use Rattle.lock_tables.specs.Happened.{missed_view, took_view, tested_view}
-use Rattle.mcs_lock.specs.Kinds.{cleared_view, raised_view, queued_view, entered_view, linked_view, looked_view, followed_view, left_view,
-    others_wait}
-use Rattle.mcs_lock.specs.Rule.{next, locked, name, pass_named}
+use Rattle.mcs_lock.specs.Kinds.{followed_view, left_view}
+use Rattle.mcs_lock.specs.Rule.{name}
 use Rattle.mcs_lock.proofs.Kept.{exchanges}
 use Rattle.mcs_lock.proofs.Own.{own_after, alike}
 use Rattle.mcs_lock.proofs.steps.Words.compare_and_swap_tail.Goals as goal
@@ -13,10 +11,12 @@ pub compare_exchange-requires : goal.compare_exchange-requires
 compare_exchange-requires g c =
     let words = ap (λ t. t.shared.table_id.words) c.deref.ensures ∙ c.args.self.now.sized.row in
     let number = c.requires.seat.number in
-    let home = c.requires.home in
-    (c.requires.seat.table ∙ sym (ap (λ t. t.shared.table_id) c.deref.ensures), omega (arith, words),
-    exchanges g.V.Cargo.fit g.V.Cargo.tag g.V.Cargo.parked _ _ _ _ _ home.0 _ _
-        (omega (arith, number)) c.requires.holds c.requires.seat.plain.unspent home.1 home.2)
+    let home = c.requires.home in (
+      c.requires.seat.table ∙ sym (ap (λ t. t.shared.table_id) c.deref.ensures),
+      omega (arith, words),
+      exchanges g.V.Cargo.fit g.V.Cargo.tag g.V.Cargo.parked _ _ _ _ _ home.0 _ _
+          (omega (arith, number)) c.requires.holds c.requires.seat.plain.unspent home.1 home.2,
+    )
 
 pub returns-clause-seat : goal.returns-clause-seat
 returns-clause-seat g c =
