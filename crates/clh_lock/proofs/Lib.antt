@@ -1,0 +1,5 @@
+pub mod Nodes
+pub mod Chain
+pub mod Queue
+pub mod Kept
+pub mod Tokens
