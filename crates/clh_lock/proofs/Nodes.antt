@@ -37,13 +37,13 @@ zeros (suc count) (suc i) = zeros count i
 abbrev pub Once : ℕ → List View → ℕ → Type 0
 Once n views free = (k : ℕ) → sum_by (stands_in by_node k) views + cond (free == k) 1 0 ≡ cond (nat_le k n) 1 0
 
-hits_self : (a : ℕ) → hits a a ≡ 1
+pub hits_self : (a : ℕ) → hits a a ≡ 1
 hits_self a = let e : (a == a) ≡ true = eq-eqb a a refl in rw e refl
 
-is_within : (k n : ℕ) → 0 < cond (nat_le k n) 1 0 → k ≤ n
+pub is_within : (k n : ℕ) → 0 < cond (nat_le k n) 1 0 → k ≤ n
 is_within k n h = grind (arith, nat_tests)
 
-at_most_one : (k n : ℕ) → cond (nat_le k n) 1 0 ≤ 1
+pub at_most_one : (k n : ℕ) → cond (nat_le k n) 1 0 ≤ 1
 at_most_one k n = elim (nat_le k n) as (λ b. cond b 1 0 ≤ 1) [ true ↦ omega arith | false ↦ omega arith ]
 
 pub with_last : (n k : ℕ) → cond (nat_lt k n) 1 0 + cond (n == k) 1 0 ≡ cond (nat_le k n) 1 0

@@ -29,5 +29,5 @@ mod steps;
 mod tests;
 
 pub use kinds::{FetchAndStoreTail, LoadTail, LoadWatched, StoreGranted, StorePending};
-pub use laws::ClhWords;
+pub use laws::{ClhWords, rule_has_nodes};
 pub use lock::Clh;
