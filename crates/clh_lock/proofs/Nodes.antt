@@ -1,5 +1,6 @@
 -- The nodes of a CLH lock: each once, and their flags.
-use Rattle.std.proofs.Common.{◌≡◌, ◌≢◌, ℕ, zero, suc, ◌+◌, ◌<◌, ◌≤◌, true, false, cond, ◌==◌, eq-eqb, List, [], ◌∷◌, length, set, replicate, slice_index, nat_le, nat_lt, refl, ap, ◌∙◌, arith}
+use Rattle.std.proofs.Common.{◌≡◌, ◌≢◌, ℕ, zero, suc, ◌+◌, ◌<◌, ◌≤◌, true, false, cond, ◌==◌, eq-eqb, List, [], ◌∷◌, length, set}
+use Rattle.std.proofs.Common.{replicate, slice_index, nat_le, nat_lt, refl, ap, ◌∙◌, arith}
 use Rattle.std.specs.List.{sum_by}
 use Rattle.std.proofs.lemmas.Bool.Decides.{nat_tests}
 use mathlib.Core.Option.{some}
@@ -21,7 +22,8 @@ pub tail_not_flag : (a : ℕ) → tail ≢ flag a
 tail_not_flag a e = absurd (omega (arith, e))
 
 -- words after a store of a pending flag: one that was pending stays so
-pub stays_pending : (words : List ℕ) (i j : ℕ) → i < length words → slice_index words j ≡ pending → slice_index (set words i pending) j ≡ pending
+pub stays_pending : (words : List ℕ) (i j : ℕ) → i < length words → slice_index words j ≡ pending
+    → slice_index (set words i pending) j ≡ pending
 stays_pending [] i j h e = e
 stays_pending (w ∷ ws) zero zero h e = refl
 stays_pending (w ∷ ws) zero (suc j) h e = e
@@ -72,13 +74,15 @@ module _ (n : ℕ) (views : List View) (free : ℕ) (once : Once n views free) w
       let m = at_most_one v.node n in omega (arith, o, h, f, m)
 
   -- two seats do not have one node
-  pub nodes_apart : (i j : ℕ) (v u : View) → get_elem? views i ≡ some v → get_elem? views j ≡ some u → v.spent ≡ false → u.spent ≡ false → j ≢ i → u.node ≢ v.node
+  pub nodes_apart : (i j : ℕ) (v u : View) → get_elem? views i ≡ some v → get_elem? views j ≡ some u → v.spent ≡ false
+      → u.spent ≡ false → j ≢ i → u.node ≢ v.node
   nodes_apart i j v u at at' live live' ne =
       let o = once v.node in let m = at_most_one v.node n in
       own_apart by_node views i j v u (omega (arith, o, m)) at at' live live' ne
 
 -- a step that leaves its seat's nodes
-pub nodes_stay : (n : ℕ) (views : List View) (free : ℕ) (id : ℕ) (v w : View) → get_elem? views id ≡ some v → ((k : ℕ) → stands_in by_node k w ≡ stands_in by_node k v)
+pub nodes_stay : (n : ℕ) (views : List View) (free : ℕ) (id : ℕ) (v w : View) → get_elem? views id ≡ some v → ((k : ℕ)
+    → stands_in by_node k w ≡ stands_in by_node k v)
     → Once n views free → Once n (set views id w) free
 nodes_stay n views free id v w at same once k =
     let s = sum_set (stands_in by_node k) views id v w at in let e = same k in let o = once k in

@@ -1,5 +1,6 @@
 -- The CLH lock's part of the rule holds at the start, is kept where seats are split off and joined, and tells the queue.
-use Rattle.std.proofs.Common.{◌≡◌, ◌≢◌, ℕ, ◌+◌, ◌<◌, true, false, cond, ◌||◌, ◌==◌, List, [], ◌∷◌, ◌++◌, length, map, set, replicate, slice_index, ap, sym, ◌∙◌, ⊎_elim, arith}
+use Rattle.std.proofs.Common.{◌≡◌, ◌≢◌, ℕ, ◌+◌, ◌<◌, true, false, cond, ◌||◌, ◌==◌, List, [], ◌∷◌, ◌++◌, length, map, set, replicate}
+use Rattle.std.proofs.Common.{slice_index, ap, sym, ◌∙◌, ⊎_elim, arith}
 use Rattle.std.proofs.Math.ListN.{length-set}
 use Rattle.std.proofs.lemmas.List.{length-replicate}
 use Rattle.std.specs.List.{sum_by}
@@ -28,7 +29,8 @@ had_node : (views : List View) (j : ℕ) (u : View) → WasAt views j u → HadN
 had_node views j u w = record { view = w.view; at = w.at; node = w.same.node; predecessor = w.same.predecessor }
 
 -- the flag of a seat that was there
-flag_before : (n : ℕ) (words seats : List ℕ) (views : List View) (nodes : HasNodes n words seats views) (j : ℕ) (u : View) → WasAt views j u → u.spent ≡ false → is_pending u ≡ true
+flag_before : (n : ℕ) (words seats : List ℕ) (views : List View) (nodes : HasNodes n words seats views) (j : ℕ) (u : View)
+    → WasAt views j u → u.spent ≡ false → is_pending u ≡ true
     → slice_index words (flag u.node) ≡ pending
 flag_before n words seats views nodes j u w live raised =
     ap (λ (k : ℕ). slice_index words (flag k)) w.same.node
@@ -49,7 +51,8 @@ opens_nodes n tag some_pass =
     }
 
 module _ (n : ℕ) (tag : Tag) (words seats : List ℕ) (views : List View) (q : IsQueued clh_discipline n tag words seats views) where
-  splits : (id : ℕ) (v : View) → get_elem? views id ≡ some v → v.spent ≡ false → v.from < v.to → HasNodes n words seats (set views id (without_next v) ++ next_split v ∷ [])
+  splits : (id : ℕ) (v : View) → get_elem? views id ≡ some v → v.spent ≡ false → v.from < v.to
+      → HasNodes n words seats (set views id (without_next v) ++ next_split v ∷ [])
   splits id v at live more = record {
     free = q.core.free;
     once = λ k. ap (λ (x : ℕ). x + cond (q.core.free == k) 1 0) (stands_split by_node node_dealt views id v k at live more) ∙ q.core.once k;
@@ -62,13 +65,16 @@ module _ (n : ℕ) (tag : Tag) (words seats : List ℕ) (views : List View) (q :
         (after_split views id v at j u e);
   }
 
-  joins : (id : ℕ) (v : View) (other : ℕ) (w : View) → get_elem? views id ≡ some v → v.spent ≡ false → ¬ (other ≡ id) → get_elem? (set views id (joined_view v w)) other ≡ some w
+  joins : (id : ℕ) (v : View) (other : ℕ) (w : View) → get_elem? views id ≡ some v → v.spent ≡ false → ¬ (other ≡ id)
+      → get_elem? (set views id (joined_view v w)) other ≡ some w
       → w.phase ≡ Idle → IsPlain w → HasNodes n words seats (set (set views id (joined_view v w)) other spent_view)
   joins id v other w at live apart at' idle plain = record {
     free = q.core.free;
-    once = λ k. ap (λ (x : ℕ). x + cond (q.core.free == k) 1 0) (stands_join by_node node_dealt views id v other w k at at' live plain) ∙ q.core.once k;
+    once = λ k. ap (λ (x : ℕ). x + cond (q.core.free == k) 1 0) (stands_join by_node node_dealt views id v other w k at at' live plain)
+        ∙ q.core.once k;
     leads = leads_stay views (set (set views id (joined_view v w)) other spent_view) seats q.core.free (slice_index words tail)
-        (λ i j u e e'. had_node views j u (placed_before_join clh_discipline n tag words seats views q id v other w at at' apart idle i j u e e')) q.core.leads;
+        (λ i j u e e'. had_node views j u (placed_before_join clh_discipline n tag words seats views q id v other w at at' apart idle i j
+        u e e')) q.core.leads;
     free_granted = q.core.free_granted;
     own_pending = λ j u e live' raised. ⊎_elim
         (λ (t : (j ≢ other) × WasAt views j u). flag_before n words seats views q.core j u t.1 live' raised)
@@ -78,7 +84,8 @@ module _ (n : ℕ) (tag : Tag) (words seats : List ℕ) (views : List View) (q :
 
   -- the queue has no node twice
   are_apart : AreApart views
-  are_apart j k u w at at' b b' e = dite (ℕ_discrete j k) (λ same. same) (λ ne. absurd (nodes_apart n views q.core.free q.core.once k j w u at' at
+  are_apart j k u w at at' b b' e = dite (ℕ_discrete j k) (λ same. same) (λ ne. absurd
+      (nodes_apart n views q.core.free q.core.once k j w u at' at
       (lives clh_discipline n tag words seats views q k w at' b') (lives clh_discipline n tag words seats views q j u at b) ne e))
 
   queue_is : queue_of words views ≡ map (number_at views) seats
@@ -92,6 +99,7 @@ disciplined = record {
   opens_long = λ n. length-set (replicate (row_of Clh n) granted) tail n ∙ length-replicate (row_of Clh n) granted;
   opens = λ n tag some_pass few. opens_nodes n tag some_pass;
   splits = λ n tag words seats views id v q at live more. splits n tag words seats views q id v at live more;
-  joins = λ n tag words seats views id v other w q at live apart at' idle plain. joins n tag words seats views q id v other w at live apart at' idle plain;
+  joins = λ n tag words seats views id v other w q at live apart at' idle plain. joins n tag words seats views q id v other w at live
+      apart at' idle plain;
   queue_is = queue_is;
 }

@@ -1,5 +1,6 @@
 -- A number of a numbering stands in a seat exactly where the seat has it. (Of no lock's own.)
-use Rattle.std.proofs.Common.{◌≡◌, ◌⊎◌, ℕ, zero, suc, ◌<◌, ◌≤◌, true, false, cond, List, [], ◌∷◌, ◌==◌, slice_get, refl, ap, inl, inr, ⊎_elim, arith, Some}
+use Rattle.std.proofs.Common.{◌≡◌, ◌⊎◌, ℕ, zero, suc, ◌<◌, ◌≤◌, true, false, cond, List, [], ◌∷◌, ◌==◌, slice_get, refl, ap, inl, inr}
+use Rattle.std.proofs.Common.{⊎_elim, arith, Some}
 use Rattle.std.specs.List.{count_by}
 use Rattle.std.proofs.lemmas.List.Sums.{sum_by-cons}
 use Rattle.std.proofs.lemmas.Bool.Decides.{nat_tests}
@@ -57,5 +58,6 @@ module _ (m : Numbering) (k : ℕ) (v : View) where
       let s = stands_unspent m k v live in
       ⊎_elim (λ (e : m.own v ≡ k). let a : hits (m.own v) k ≡ 1 = grind (arith, nat_tests) in omega (arith, s, a))
       (λ t. ⊎_elim
-      (λ (r : (v.from ≤ k) × (k < v.to)). let a = r.0 in let b = r.1 in let c : span v.from v.to k ≡ 1 = grind (arith, nat_tests) in omega (arith, s, c))
+      (λ (r : (v.from ≤ k) × (k < v.to)). let a = r.0 in let b = r.1 in let c : span v.from v.to k ≡ 1 = grind (arith, nat_tests) in
+      omega (arith, s, c))
       (λ (r : IsIn k (m.taken v)). let a = counts k (m.taken v) r.0 r.1 in omega (arith, s, a)) t) h

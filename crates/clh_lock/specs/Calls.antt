@@ -7,11 +7,10 @@ use Rattle.lock_rules.specs.Tag.{Tag}
 use Rattle.lock_rules.specs.Tokens.{view_of}
 use Rattle.lock_rules.specs.declared.held.Held.{Held}
 use Rattle.lock_rules.specs.declared.view.View.{View}
-use Rattle.lock_tables.specs.Happened.{Seated, Stepped, took_view}
+use Rattle.lock_tables.specs.Happened.{Seated, took_view}
 use Rattle.lock_tables.specs.Queue.{Takes}
-use Rattle.lock_tables.specs.Rule.{IsLock}
-use Rattle.clh_lock.specs.Kinds.{others_wait, Raised, Entered, Missed, Tested, Left}
-use Rattle.clh_lock.specs.Rule.{flag, granted, queue_of, clh_discipline}
+use Rattle.clh_lock.specs.Kinds.{ClhStep, others_wait, Raised, Entered, Missed, Tested, Left}
+use Rattle.clh_lock.specs.Rule.{flag, granted}
 
 module _ {V : Type 0} (fit : V → Type 0) (tag_of : V → Tag) (parked : V → Bool) where
   -- the store of own flag, and behind it the swap of `tail`, which found the node to watch
@@ -29,7 +28,7 @@ module _ {V : Type 0} (fit : V → Type 0) (tag_of : V → Tag) (parked : V → 
 
   -- a load of the predecessor's flag that showed it granted; the value that was at home is the holder's
   pub record HasTaken (before : Badge View) (after : Held V) : Type 0 where
-    pub step : Stepped (IsLock clh_discipline fit tag_of parked) queue_of Takes (takes 0 (Some after.value)) (flag (view_of before).predecessor) granted granted
+    pub step : ClhStep fit tag_of parked Takes (takes 0 (Some after.value)) (flag (view_of before).predecessor) granted granted
         (view_of before, []) (took_view (view_of before)) (held_view after, (0, Some after.value) ∷ [])
 
   -- a load of `tail`; the answer is yes exactly where it was not the holder's own node

@@ -1,5 +1,6 @@
 -- The words of a CLH lock, its part of the rule, and its queue as a function of words and views.
-use Rattle.std.specs.Prelude.{◌≡◌, ℕ, zero, suc, ◌+◌, Bool, true, false, cond, ◌&&◌, ◌||◌, List, [], ◌∷◌, ◌++◌, replicate, slice_index, slice_set, nat_le, ◌==◌}
+use Rattle.std.specs.Prelude.{◌≡◌, ℕ, zero, suc, ◌+◌, Bool, true, false, cond, ◌&&◌, ◌||◌}
+use Rattle.std.specs.Prelude.{List, [], ◌∷◌, ◌++◌, replicate, slice_index, slice_set, nat_le, ◌==◌}
 use Rattle.std.specs.List.{sum_by}
 use mathlib.Core.Option.{some}
 use lib.ListN.{get_elem?}
@@ -42,8 +43,8 @@ passes_to views (suc count) node = passes_to views count (owner_of views node).p
 abbrev pub queue_of : List ℕ → List View → List ℕ
 queue_of words views = passes_to views (sum_by (busy false) views) (slice_index words tail)
 
--- The seats stand one behind another, from the node `first` to the node `last`: the first seat's predecessor is `first`, that of each other one is the own
--- node of the seat before it, and the last seat's own node is `last`
+-- The seats stand one behind another, from the node `first` to the node `last`: the first seat's predecessor is `first`, that of
+-- each other one is the own node of the seat before it, and the last seat's own node is `last`
 abbrev pub Leads : List View → ℕ → List ℕ → ℕ → Type 0
 Leads views first [] last = last ≡ first
 Leads views first (j ∷ js) last = (v : View) → get_elem? views j ≡ some v → (v.predecessor ≡ first) × Leads views v.node js last
@@ -54,13 +55,15 @@ is_pending v = is_busy false v.phase || v.raised
 
 -- The nodes of a lock with n passes, whose queue is that of these seats
 pub record HasNodes (n : ℕ) (words : List ℕ) (seats : List ℕ) (views : List View) : Type 0 where
-  -- One node is free. The free node, and the nodes that the seats have, that are not split off yet and that were taken over by joining, are 0 to n, each once
+  -- One node is free. The free node, and the nodes that the seats have, that are not split off yet and that were taken over by
+  -- joining, are 0 to n, each once
   pub free : ℕ
   pub once : (k : ℕ) → sum_by (stands_in by_node k) views + cond (free == k) 1 0 ≡ cond (nat_le k n) 1 0
   -- the free node is the head's predecessor, and `tail` is the own node of the last seat, or the free node where the queue is empty
   pub leads : Leads views free seats (slice_index words tail)
   pub free_granted : slice_index words (flag free) ≡ granted
-  pub own_pending : (j : ℕ) (v : View) → get_elem? views j ≡ some v → v.spent ≡ false → is_pending v ≡ true → slice_index words (flag v.node) ≡ pending
+  pub own_pending : (j : ℕ) (v : View) → get_elem? views j ≡ some v → v.spent ≡ false → is_pending v ≡ true
+      → slice_index words (flag v.node) ≡ pending
 
 abbrev pub clh_discipline : Discipline
 clh_discipline = record {

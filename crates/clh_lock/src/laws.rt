@@ -14,8 +14,9 @@ impl Disciplined for ClhWords {
     fn is_disciplined() {}
 }
 
-/// Of the nodes 0 to n one is free, and each other one has exactly one seat. The free node is `tail` where the queue is empty, and else the one that the head
-/// watches. It is granted, and the own node of a pass that is queued, holds or has stored its flag is pending.
+/// Of the nodes 0 to n one is free, and each other one has exactly one seat. The free node is `tail` where the queue is empty, and
+/// else the one that the head watches. It is granted, and the own node of a pass that is queued, holds or has stored its flag is
+/// pending.
 pub fn rule_has_nodes<V: Cargo>()
     ensures { RuleHasNodes V.fit V.tag V.parked }
 {}

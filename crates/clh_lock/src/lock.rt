@@ -52,7 +52,8 @@ impl<V: Cargo> Basic<V> for Clh<V> {
 
     /// The answer is always `Not`: a pass swaps its node into `tail`, and looks whether the node before it is granted by `poll` alone.
     fn begin(&self, pass: Pass) -> Step<Queue, Held<V>>
-        requires own { IsOwn V.tag clh_algorithm (padded_value self.now.words.table).shared.table_id (padded_value self.now.words.table).shared.key (badge_place pass.badge) }
+        requires own { IsOwn V.tag clh_algorithm (padded_value self.now.words.table).shared.table_id
+            (padded_value self.now.words.table).shared.key (badge_place pass.badge) }
         ensures always { IsNot result }
         ensures did { IfNot result (λ q. HasEntered V.fit V.tag V.parked pass.badge q.badge) }
         ensures queue { IfNot result (λ q. (badge_waiting q.badge).place ≡ badge_place pass.badge) }
@@ -68,9 +69,11 @@ impl<V: Cargo> Basic<V> for Clh<V> {
         Step::Not(Queue::of(seat, node, predecessor))
     }
 
-    /// The answer is `Not` exactly where the flag of the node that the pass watches isn't granted. Else the value that was at home is the holder's.
+    /// The answer is `Not` exactly where the flag of the node that the pass watches isn't granted. Else the value that was at home is the
+    /// holder's.
     fn poll(&self, queue: Queue) -> Step<Queue, Held<V>>
-        requires own { IsOwn V.tag clh_algorithm (padded_value self.now.words.table).shared.table_id (padded_value self.now.words.table).shared.key (badge_waiting queue.badge).place }
+        requires own { IsOwn V.tag clh_algorithm (padded_value self.now.words.table).shared.table_id
+            (padded_value self.now.words.table).shared.key (badge_waiting queue.badge).place }
         ensures missed { IfNot result (λ q. HasMissed V.fit V.tag V.parked queue.badge q.badge) }
         ensures took { IfGot result (λ h. HasTaken V.fit V.tag V.parked queue.badge h) }
         ensures queue { IfNot result (λ q. (badge_waiting q.badge).place ≡ (badge_waiting queue.badge).place) }
@@ -91,7 +94,8 @@ impl<V: Cargo> Basic<V> for Clh<V> {
 
     /// The answer is yes exactly where `tail` isn't the holder's own node.
     fn waiter(&self, held: &mut Held<V>) -> bool
-        requires own { IsOwn V.tag clh_algorithm (padded_value self.now.words.table).shared.table_id (padded_value self.now.words.table).shared.key (holder_of held.old).place }
+        requires own { IsOwn V.tag clh_algorithm (padded_value self.now.words.table).shared.table_id
+            (padded_value self.now.words.table).shared.key (holder_of held.old).place }
         ensures asked { HasAsked V.fit V.tag V.parked held.old held.new result }
         ensures place { (holder_of held.new).place ≡ (holder_of held.old).place }
         ensures value { held.new.value ≡ held.old.value }
@@ -102,9 +106,11 @@ impl<V: Cargo> Basic<V> for Clh<V> {
         tail != held.seat.mark
     }
 
-    /// The answer is never `Not`: the value is put back, the holder's node is granted, and the node that it watched is its own from then on.
+    /// The answer is never `Not`: the value is put back, the holder's node is granted, and the node that it watched is its own from then
+    /// on.
     fn begin_release(&self, held: Held<V>) -> Step<Left, Pass>
-        requires own { IsOwn V.tag clh_algorithm (padded_value self.now.words.table).shared.table_id (padded_value self.now.words.table).shared.key (holder_of held).place }
+        requires own { IsOwn V.tag clh_algorithm (padded_value self.now.words.table).shared.table_id
+            (padded_value self.now.words.table).shared.key (holder_of held).place }
         requires fit { V.fit held.value }
         requires tagged { V.tag held.value ≡ V.tag (padded_value self.now.words.table).shared.key.value.value }
         requires relied_on { V.parked held.value ≡ true → (holder_of held).tested ≡ Yes }
@@ -125,7 +131,8 @@ impl<V: Cargo> Basic<V> for Clh<V> {
 
     /// The answer is never `Not`.
     fn poll_release(&self, leave: Left) -> Step<Left, Pass>
-        requires own { IsOwn V.tag clh_algorithm (padded_value self.now.words.table).shared.table_id (padded_value self.now.words.table).shared.key (badge_waiting leave.pass.badge).place }
+        requires own { IsOwn V.tag clh_algorithm (padded_value self.now.words.table).shared.table_id
+            (padded_value self.now.words.table).shared.key (badge_waiting leave.pass.badge).place }
         ensures never { IsGot result }
         ensures leave { IfNot result (λ l. (badge_waiting l.pass.badge).place ≡ (badge_waiting leave.pass.badge).place) }
         ensures loaded { IfNot result (λ l. (badge_waiting l.pass.badge).loads ≡ (badge_waiting leave.pass.badge).loads + 1) }
@@ -138,7 +145,8 @@ impl<V: Cargo> Basic<V> for Clh<V> {
     }
 
     fn close(self, passes: Vec<Pass>) -> V
-        requires all { AreAll (λ p. badge_place p.badge) (lock_name clh_algorithm (padded_value self.words.table).shared.table_id) (V.tag (padded_value self.words.table).shared.key.value.value) (padded_value self.words.table).shared.key.passes passes.items }
+        requires all { AreAll (λ p. badge_place p.badge) (lock_name clh_algorithm (padded_value self.words.table).shared.table_id)
+            (V.tag (padded_value self.words.table).shared.key.value.value) (padded_value self.words.table).shared.key.passes passes.items }
         ensures fit { V.fit result }
         ensures tagged { V.tag result ≡ V.tag (padded_value self.words.table).shared.key.value.value }
         ensures unparked { V.parked result ≡ false }

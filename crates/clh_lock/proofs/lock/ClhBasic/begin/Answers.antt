@@ -24,4 +24,5 @@ fetch_and_store_tail-predecessor-requires-clause-table g c =
 pub fetch_and_store_tail-predecessor-requires-clause-own : goal.fetch_and_store_tail-predecessor-requires-clause-own
 fetch_and_store_tail-predecessor-requires-clause-own g c =
     let parts = c.into_parts-seat.ensures in
-    mark_is _ _ _ (view_of c.args.pass.badge) c.requires.own _ parts.mark ∙ sym (ap (λ m. m.0.node) c.store_pending.ensures.step.1.0 ∙ ap (λ m. m.0.node) parts.view)
+    mark_is _ _ _ (view_of c.args.pass.badge) c.requires.own _ parts.mark ∙ sym (ap (λ m. m.0.node) c.store_pending.ensures.step.1.0
+    ∙ ap (λ m. m.0.node) parts.view)
