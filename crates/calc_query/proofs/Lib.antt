@@ -1,0 +1,5 @@
+pub mod Wraps
+pub mod Ranges
+pub mod CandidateLaws
+pub mod SelectionLaws
+pub mod PickLaws
