@@ -20,7 +20,7 @@ use Rattle.lock_tables.proofs.Lists.{set_at, at_below, head_cut, no_true, wrote_
 use Rattle.lock_tables.proofs.Numbers.{hits, stands_unspent}
 use Rattle.lock_tables.proofs.Queues.{IsLike, lives, no_place, wrong_phase}
 use Rattle.lock_tables.proofs.Steps.{stays, loads, enters, takes_head, leaves}
-use Rattle.lock_tables.proofs.Sums.{sum_set}
+use Rattle.lock_rules.proofs.Sums.{sum_set}
 use Rattle.clh_lock.specs.Kinds.{raised_view, queued_view, left_view, others_wait, Raised, Entered, Polled, Tested, Left}
 use Rattle.clh_lock.specs.Rule.{tail, flag, pending, granted, is_pending, Leads, HasNodes, clh_discipline}
 use Rattle.clh_lock.proofs.Nodes.{flags_apart, flag_not_tail, tail_not_flag, stays_pending, Once, nodes_stay, free_within, own_within}

@@ -8,7 +8,7 @@ use lib.ListN.{get_elem?}
 use Rattle.lock_rules.specs.declared.view.View.{View}
 use Rattle.lock_tables.specs.Numbers.{by_node, stands_in}
 use Rattle.lock_tables.proofs.Numbers.{own_stands, own_apart, hits}
-use Rattle.lock_tables.proofs.Sums.{sum_set, part_le}
+use Rattle.lock_rules.proofs.Sums.{sum_set, part_le}
 use Rattle.clh_lock.specs.Rule.{tail, flag, pending}
 
 -- two flags, and a flag and `tail`, are different words

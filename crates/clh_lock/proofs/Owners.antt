@@ -16,7 +16,7 @@ use Rattle.lock_tables.specs.Rule.{IsQueued}
 use Rattle.lock_tables.proofs.Lists.{head_cut, mapped, number_is}
 use Rattle.lock_tables.proofs.Numbers.{hits}
 use Rattle.lock_tables.proofs.Queues.{lives, one_seat_of}
-use Rattle.lock_tables.proofs.Sums.{part_le, parts_le, some_part}
+use Rattle.lock_rules.proofs.Sums.{part_le, parts_le, some_part}
 use Rattle.clh_lock.specs.Nodes.{HasNode, HasOneOwner, AreNodes}
 use Rattle.clh_lock.specs.Rule.{tail, queue_of, Leads, clh_discipline}
 use Rattle.clh_lock.proofs.Chain.{leads_none}
