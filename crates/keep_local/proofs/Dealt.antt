@@ -1,12 +1,14 @@
 -- How the shares of a trail are given out, one after another.
-use Rattle.std.proofs.Common.{◌≡◌, ℕ, suc, ◌+◌, ◌<◌, ◌≤◌, List, [], ◌∷◌, ◌++◌, map, length, take, drop, slice_index, ap, sym, ◌∙◌, arith, add-one, drop-cons}
+use Rattle.std.proofs.Common.{◌≡◌, ℕ, suc, ◌+◌, ◌<◌, ◌≤◌, List, [], ◌∷◌, ◌++◌, map, length, take, drop, slice_index, refl, ap, sym, ◌∙◌, arith, add-one, drop-cons}
 use Rattle.std.specs.List.{enumerate_from}
 use Rattle.std.proofs.lemmas.List.{map-append, take_more, length-take-le}
+use Rattle.std.specs.Prelude.{All}
+use Rattle.std.proofs.lemmas.List.Elements.{All-map}
 use Rattle.atomic_table.specs.Seated.{TableId}
 use Rattle.keep_local.specs.declared.view.Tally.{Tally}
 use Rattle.keep_local.specs.Views.{home_view, new_tally, behind_first, without_first, first_split, share_view}
 use Rattle.keep_local.specs.Steps.{Seated}
-use Rattle.keep_local.specs.States.{new_share, new_shares}
+use Rattle.keep_local.specs.States.{ShareState, new_share, new_shares}
 
 -- the tallies of the callers from this one on
 abbrev pub tallies_from : ℕ → List ℕ → List Tally
@@ -37,3 +39,7 @@ shares_dealt z i quotas h =
     let more = take_more quotas i 0 h in
     let long : 0 + length (take i quotas) ≡ i = let within : i ≤ length quotas = omega arith in omega (arith, length-take-le i quotas within) in
     ap (new_shares z) more ∙ shares_push z (take i quotas) (slice_index quotas i) ∙ ap (λ (k : ℕ). new_shares z (take i quotas) ++ new_share z (k, slice_index quotas i) ∷ []) long
+
+-- every share has the trail's name
+pub shares_named : (z : TableId) (quotas : List ℕ) → All (λ share. share.name ≡ z) (new_shares z quotas)
+shares_named z quotas = All-map (λ (share : ShareState). share.name ≡ z) (new_share z) (enumerate_from 0 quotas) (λ k d h. refl)

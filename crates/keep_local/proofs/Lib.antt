@@ -8,3 +8,4 @@ pub mod Logs
 pub mod Steps
 pub mod Lawful
 pub mod Checked
+pub mod Noting

@@ -6,6 +6,8 @@ mod laws;
 mod plays;
 mod shape;
 mod share;
+#[cfg(test)]
+mod tests;
 mod tie;
 mod trail;
 mod tree;
