@@ -127,11 +127,7 @@ fn with_step(alloc: Global, path: &Path, step: Step2) -> Result<Path, AllocError
 }
 
 /// The objects of a depth that a set has all PUs of, while it hasn't all of the object above; in tree order.
-pub fn largest(
-    alloc: Global,
-    topology: &Topology,
-    set: &CpuSet,
-) -> Result<Vec<Object>, OutOfMemory>
+pub fn largest(alloc: Global, topology: &Topology, set: &CpuSet) -> Result<Vec<Object>, OutOfMemory>
     ensures { IfOk result (λ objects. objects.items ≡ largest topology.now set.now) }
 {
     let mut objects = Vec::new(alloc);

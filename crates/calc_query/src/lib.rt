@@ -16,3 +16,6 @@ pub use fault::CalcFault;
 pub use query::{Location, Numbering, Op, Part, Path, Pick, Step2, Term};
 pub use reading::{read_location, read_term};
 pub use selecting::select;
+
+#[cfg(test)]
+mod tests;
