@@ -1,0 +1,10 @@
+pub mod Counts
+pub mod Tied
+pub mod Seated
+pub mod Dealt
+pub mod Runs
+pub mod Trails
+pub mod Logs
+pub mod Steps
+pub mod Lawful
+pub mod Checked

@@ -1,0 +1,10 @@
+pub mod Shapes
+pub mod Turns
+pub mod Laws
+pub mod Views
+pub mod Tie
+pub mod Steps
+pub mod States
+pub mod Shares
+pub mod Ties
+pub mod Trails

@@ -1,0 +1,198 @@
+//! The record of all holds of a lock.
+ghost use Rattle.std.specs.Prelude.{◌≡◌, ℕ, ◌+◌, ◌^◌, ◌<◌, ◌≤◌, ◌↔◌, [], ◌∷◌, ◌++◌, length, sum, slice_index, IfOk, IfSome, IsSome, IsTrue, None, Some, option_map};
+ghost use Rattle.keep_local.specs.Shapes.{IsWellFormed, top_of, callers_of};
+ghost use Rattle.keep_local.specs.Turns.{run, Begins};
+ghost use Rattle.keep_local.specs.States.{IsTrail, IsShareOf, MayLeave, all_turns, left_at, new_shares, new_trail, opened, option_list, tested, with_test as set_where_queued};
+
+use crate::shape::Shape;
+use crate::share::Share;
+use crate::tie::Tie;
+use crate::turn::Turn;
+use edge_io::OutOfMemory;
+use std::alloc::Global;
+use std::marker::Model;
+
+// A shape has at most 33 levels: the tests of a turn have 32 bits, and the top has none.
+const LEVELS: usize = 33;
+
+// What a trail keeps. The turns up to `closed` are closed, and at most one behind them is open.
+#[derive(Drop)]
+pub(crate) struct Log {
+    tie: Tie,
+    shape: Shape,
+    turns: Vec<Turn>,
+    closed: usize,
+    noted: u32,
+    // The run of each level, over the closed turns.
+    runs: [u32; LEVELS],
+}
+
+/// The turns of a lock's callers, in order. It is one pointer, since it moves with every hold.
+#[derive(Drop)]
+pub struct Trail {
+    log: Box<Log>,
+}
+
+impl Model for Trail {
+    ghost use Rattle.keep_local.specs.States.{TrailState};
+
+    ghost Value = { TrailState };
+
+    ghost use Rattle.keep_local.specs.Trails.{log_state, IsKept};
+
+    ghost view = { λ trail. log_state trail.log.value };
+
+    ghost invariant = { λ trail. IsKept trail.log.value };
+}
+
+impl Trail {
+    /// A trail without turns, for callers with these paths, and a share for each caller with its quota, in order. It takes the room for every turn.
+    pub fn reserve(
+        alloc: Global,
+        shape: Shape,
+        quotas: &[u32],
+    ) -> Result<(Trail, Vec<Share>), OutOfMemory>
+        requires shape { IsWellFormed shape }
+        requires few { callers_of shape < 2 ^ 32 }
+        requires quotas { length quotas.now ≡ callers_of shape }
+        requires fits { sum quotas.now < 2 ^ 32 }
+        ensures trail { IfOk result (λ made. made.0 ≡ new_trail made.0.name shape quotas.now) }
+        ensures shares { IfOk result (λ made. made.1.items ≡ new_shares made.0.name quotas.now) }
+        ensures lawful { IfOk result (λ made. IsTrail made.0) }
+    {
+        let room: u32 = quotas.iter().sum();
+        let turns = Vec::with_capacity(alloc, room as usize)?;
+        let (tie, shares) = Tie::make(alloc, quotas)?;
+        let log = Log {
+            tie,
+            shape,
+            turns,
+            closed: 0,
+            noted: 0,
+            runs: [0; LEVELS],
+        };
+        let log = Box::new(alloc, log)?;
+        Ok((Trail { log }, shares))
+    }
+
+    /// Opens a turn of the share's caller, which climbed up to this level.
+    pub fn open(&mut self, share: &mut Share, climb: u32)
+        requires closed { self.old.current ≡ None }
+        requires own { share.old.name ≡ self.old.name }
+        requires quota { share.old.made < share.old.quota }
+        requires begins { Begins self.old.shape self.old.closed (opened self.old share.old.caller climb) }
+        ensures opened { self.new ≡ record self.old { current = Some (opened self.old share.old.caller climb) } }
+        ensures made { share.new ≡ record share.old { made = share.old.made + 1 } }
+        ensures counted { IsShareOf self.new share.new }
+        ensures lawful { IsTrail self.new }
+    {
+        let log = &mut *self.log;
+        log.tie.append(share);
+        let turn = Turn {
+            caller: share.caller(),
+            climb,
+            tests: 0,
+            left: log.shape.top(),
+        };
+        log.turns.push_reserved(turn);
+    }
+
+    /// Notes for the open turn whether its release found another caller queued at a level. Levels are noted from 0 up.
+    pub fn note(&mut self, level: u32, yes: bool)
+        requires open { IsSome self.old.current }
+        requires next { level ≡ self.old.noted }
+        requires below { level < top_of self.old.shape }
+        ensures noted { self.new ≡ record self.old { current = option_map (λ t. tested t level yes) self.old.current; noted = level + 1 } }
+        ensures lawful { IsTrail self.new }
+    {
+        let log = &mut *self.log;
+        let turn = &mut log.turns[log.closed];
+        turn.tests = with_test(turn.tests, level, yes);
+        log.noted = level + 1;
+    }
+
+    /// Closes the open turn, which leaves the lock at this level.
+    pub fn leave(&mut self, level: u32)
+        requires open { IsSome self.old.current }
+        requires may { IfSome self.old.current (MayLeave self.old level) }
+        ensures left { self.new ≡ record self.old { closed = self.old.closed ++ option_list (option_map (λ t. left_at t level) self.old.current); current = None; noted = 0 } }
+        ensures lawful { IsTrail self.new }
+    {
+        let log = &mut *self.log;
+        log.turns[log.closed].left = level;
+        log.closed += 1;
+        log.noted = 0;
+        count_run(&mut log.runs, level);
+    }
+
+    /// Whether a turn is open.
+    pub fn is_open(&self) -> bool
+        ensures open { IsTrue result ↔ IsSome self.now.current }
+        ensures lawful { IsTrail self.now }
+    {
+        self.log.closed < self.log.turns.len()
+    }
+
+    /// All turns, an open one last.
+    pub fn turns(&self) -> &[Turn]
+        ensures turns { result.now ≡ all_turns self.now }
+        ensures lawful { IsTrail self.now }
+    {
+        &self.log.turns
+    }
+
+    /// How many closed turns left at a level, behind the last one that left higher.
+    pub fn run(&self, level: u32) -> u32
+        ensures run { result ≡ run level self.now.closed }
+        ensures lawful { IsTrail self.now }
+    {
+        if (level as usize) < LEVELS {
+            self.log.runs[level as usize]
+        } else {
+            0
+        }
+    }
+
+    /// The shape that the trail was made with.
+    pub fn shape(&self) -> &Shape
+        ensures shape { result.now ≡ self.now.shape }
+        ensures lawful { IsTrail self.now }
+    {
+        &self.log.shape
+    }
+
+    /// How many turns the share's caller has in the trail.
+    pub fn agree(&mut self, share: &mut Share) -> u32
+        requires own { share.old.name ≡ self.old.name }
+        ensures made { result ≡ share.old.made }
+        ensures trail { self.new ≡ self.old }
+        ensures share { share.new ≡ share.old }
+        ensures counted { IsShareOf self.old share.old }
+        ensures lawful { IsTrail self.new }
+    {
+        let log = &mut *self.log;
+        log.tie.look(share);
+        share.made()
+    }
+}
+
+// The tests with a level's bit set, where another caller was queued there.
+fn with_test(tests: u32, level: u32, queued: bool) -> u32
+    requires { level < 32 }
+    ensures { result ≡ set_where_queued tests level queued }
+{
+    if queued { tests | 1 << level } else { tests }
+}
+
+// Counts one more turn that left at a level: the runs of the lower levels end.
+fn count_run(runs: &mut [u32], level: u32)
+    requires there { level < length runs.old }
+    requires small { slice_index runs.old level + 1 < 2 ^ 32 }
+    ensures own { slice_index runs.new level ≡ slice_index runs.old level + 1 }
+    ensures lower { (k : ℕ) → k < level → slice_index runs.new k ≡ 0 }
+    ensures higher { (k : ℕ) → level < k → slice_index runs.new k ≡ slice_index runs.old k }
+{
+    let (lower, others) = runs.split_at_mut(level as usize);
+    lower.fill(0);
+    others[0] += 1;
+}
