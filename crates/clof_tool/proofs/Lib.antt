@@ -1,4 +1,5 @@
 pub mod Askings
+pub mod Codes
 pub mod Lists
 pub mod Stops
 pub mod Topologies

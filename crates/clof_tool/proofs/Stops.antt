@@ -6,8 +6,10 @@ use Rattle.clof_tool.specs.declared.status.Status.TheVariants as statuses
 use Rattle.clof_tool.specs.Outcome.{HasWritten}
 
 -- where a write stopped, there was a text
-pub stopped_text : {T : Type 0} (made : Result T Status) (result : Status) (written : ℕ) (P Q : T → Type 0) → result ≡ statuses.WriteFault written
-    → IfErr made (λ status. result ≡ status) → IfErr made (λ status. HasWritten status → ⊥) → IfOk made P → IfOk made Q → (text : T) × (P text × Q text)
+pub stopped_text : {T : Type 0} (made : Result T Status) (result : Status) (written : ℕ) (P Q : T → Type 0)
+    → result ≡ statuses.WriteFault written
+    → IfErr made (λ status. result ≡ status) → IfErr made (λ status. HasWritten status → ⊥) → IfOk made P → IfOk made Q
+    → (text : T) × (P text × Q text)
 stopped_text (Ok text) result written P Q is handed silent first second = (text, (first, second))
 stopped_text (Err status) result written P Q is handed silent first second =
     absurd (silent (subst HasWritten handed (subst HasWritten (sym is) tt)))

@@ -14,7 +14,8 @@ use Rattle.clof_tool.specs.declared.status.Status.TheVariants.{OutOfMemory}
 use Rattle.clof_tool.specs.TopoText.{synth_status, build_status, PrintsTopo, TopoRefuses}
 
 -- a fault of reading is want of memory, or it is what the reading says
-memory_or_read : {A : Type 0} (fault : SynthFault) (reading : Result A SynthFault) → FailsWith fault reading → (synth_status fault ≡ OutOfMemory) ⊎ (reading ≡ Err fault)
+memory_or_read : {A : Type 0} (fault : SynthFault) (reading : Result A SynthFault) → FailsWith fault reading
+    → (synth_status fault ≡ OutOfMemory) ⊎ (reading ≡ Err fault)
 memory_or_read synth.Empty reading fails = inr fails
 memory_or_read (synth.BadType at) reading fails = inr fails
 memory_or_read (synth.BadArity at) reading fails = inr fails
@@ -27,14 +28,17 @@ memory_or_read synth.TooManyObjects reading fails = inr fails
 memory_or_read synth.OutOfMemory reading fails = inl refl
 
 -- a fault of building is want of memory, or the first broken rule
-memory_or_built : (fault : BuildFault) (first : Option BuildFault) → IsFaultUnlessMemory first fault → (build_status fault ≡ OutOfMemory) ⊎ (first ≡ Some fault)
+memory_or_built : (fault : BuildFault) (first : Option BuildFault) → IsFaultUnlessMemory first fault
+    → (build_status fault ≡ OutOfMemory) ⊎ (first ≡ Some fault)
 memory_or_built (build.IndexCount found wanted) first is = inr is
 memory_or_built (build.IndexRange number) first is = inr is
 memory_or_built (build.IndexTwice number) first is = inr is
 memory_or_built build.OutOfMemory first is = inl refl
 
 -- the text is refused for one fault of reading alone
-pub read_refused : (text : List ℕ) (fault : SynthFault) → ((described : Description) → Describes text described → FailsWith fault (Ok described)) → ((other : SynthFault) → SynthRefused text other → FailsWith {A = Description} fault (Err other))
+pub read_refused : (text : List ℕ) (fault : SynthFault)
+    → ((described : Description) → Describes text described → FailsWith fault (Ok described))
+    → ((other : SynthFault) → SynthRefused text other → FailsWith {A = Description} fault (Err other))
     → (status : Status) → TopoRefuses text status → (synth_status fault ≡ status) ⊎ (synth_status fault ≡ OutOfMemory)
 read_refused text fault each every status (inl refuses) =
     elim (memory_or_read {A = Description} fault (Err refuses.fault) (every refuses.fault refuses.refused)) [
@@ -47,7 +51,9 @@ read_refused text fault each every status (inr refuses) =
       | inr same ↦ cc
     ]
 
-pub read_prints : (text : List ℕ) (export : Bool) (printed : List ℕ) (fault : SynthFault) → ((described : Description) → Describes text described → FailsWith fault (Ok described)) → PrintsTopo export text printed → synth_status fault ≡ OutOfMemory
+pub read_prints : (text : List ℕ) (export : Bool) (printed : List ℕ) (fault : SynthFault)
+    → ((described : Description) → Describes text described → FailsWith fault (Ok described)) → PrintsTopo export text printed
+    → synth_status fault ≡ OutOfMemory
 read_prints text export printed fault each prints =
     elim (memory_or_read {A = Description} fault (Ok prints.described) (each prints.described prints.describes)) [
       | inl memory ↦ memory
@@ -55,18 +61,23 @@ read_prints text export printed fault each prints =
     ]
 
 -- where the text describes one thing, what is not built of it is refused for one fault alone
-pub build_refused : (text : List ℕ) (found : Description) (fault : BuildFault) → ((described : Description) → Describes text described → Answers (Ok found) (Ok described)) → ((other : SynthFault) → SynthRefused text other → Answers {A = Description} (Ok found) (Err other))
-    → IsFaultUnlessMemory (build_fault found) fault → (status : Status) → TopoRefuses text status → (build_status fault ≡ status) ⊎ (build_status fault ≡ OutOfMemory)
+pub build_refused : (text : List ℕ) (found : Description) (fault : BuildFault)
+    → ((described : Description) → Describes text described → Answers (Ok found) (Ok described))
+    → ((other : SynthFault) → SynthRefused text other → Answers {A = Description} (Ok found) (Err other))
+    → IsFaultUnlessMemory (build_fault found) fault → (status : Status) → TopoRefuses text status
+    → (build_status fault ≡ status) ⊎ (build_status fault ≡ OutOfMemory)
 build_refused text found fault each every first status (inl refuses) = let wrong = every refuses.fault refuses.refused in cc
 build_refused text found fault each every first status (inr refuses) =
     let same : refuses.described ≡ found = let answer = each refuses.described refuses.describes in cc in
-    let other : build_fault found ≡ Some refuses.fault = subst (λ described. build_fault described ≡ Some refuses.fault) same refuses.refused in
+    let other : build_fault found ≡ Some refuses.fault =
+    subst (λ described. build_fault described ≡ Some refuses.fault) same refuses.refused in
     elim (memory_or_built fault (build_fault found) first) [
       | inl memory ↦ inr memory
       | inr is ↦ let one : fault ≡ refuses.fault = cc in inl (ap build_status one ∙ sym refuses.status_is)
     ]
 
-pub build_prints : (text : List ℕ) (export : Bool) (printed : List ℕ) (found : Description) (fault : BuildFault) → ((described : Description) → Describes text described → Answers (Ok found) (Ok described))
+pub build_prints : (text : List ℕ) (export : Bool) (printed : List ℕ) (found : Description) (fault : BuildFault)
+    → ((described : Description) → Describes text described → Answers (Ok found) (Ok described))
     → IsFaultUnlessMemory (build_fault found) fault → PrintsTopo export text printed → build_status fault ≡ OutOfMemory
 build_prints text export printed found fault each first prints =
     let same : prints.described ≡ found = let answer = each prints.described prints.describes in cc in
@@ -74,10 +85,13 @@ build_prints text export printed found fault each first prints =
     elim (memory_or_built fault (build_fault found) first) [ inl memory ↦ memory | inr is ↦ cc ]
 
 -- what is built is not refused
-pub built_not_refused : (text : List ℕ) (found : Description) → ((described : Description) → Describes text described → Answers (Ok found) (Ok described)) → ((other : SynthFault) → SynthRefused text other → Answers {A = Description} (Ok found) (Err other))
+pub built_not_refused : (text : List ℕ) (found : Description)
+    → ((described : Description) → Describes text described → Answers (Ok found) (Ok described))
+    → ((other : SynthFault) → SynthRefused text other → Answers {A = Description} (Ok found) (Err other))
     → build_fault found ≡ None → (status : Status) → TopoRefuses text status → ⊥
 built_not_refused text found each every none status (inl refuses) = let wrong = every refuses.fault refuses.refused in cc
 built_not_refused text found each every none status (inr refuses) =
     let same : refuses.described ≡ found = let answer = each refuses.described refuses.describes in cc in
-    let other : build_fault found ≡ Some refuses.fault = subst (λ described. build_fault described ≡ Some refuses.fault) same refuses.refused in
+    let other : build_fault found ≡ Some refuses.fault =
+    subst (λ described. build_fault described ≡ Some refuses.fault) same refuses.refused in
     cc

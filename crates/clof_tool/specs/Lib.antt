@@ -1,5 +1,7 @@
 pub mod Asked
+pub mod Line
 pub mod Outcome
+pub mod Process
 pub mod Run
 pub mod SetText
 pub mod Status

@@ -1,6 +1,7 @@
--- How a call of the program ends, by what its words ask for and by its input.
-use Rattle.std.specs.Prelude.{◌≡◌, ◌≤◌, ◌<◌, ℕ, Bool, List, length, Some}
+-- How a call of the program ends, by what its words ask for and by what it read.
+use Rattle.std.specs.Prelude.{◌≡◌, ◌≤◌, ◌<◌, ◌+◌, ◌⊎◌, ℕ, Bool, List, length, Some, IfSome}
 use Rattle.std.specs.declared.option.Option.{Option}
+use Rattle.edge_io.specs.Counts.{RisesBy}
 use Rattle.placed_runner.specs.declared.fault.SectionFault.TheVariants.{NotYet}
 use Rattle.clof_tool.specs.declared.status.Fault.TheVariants.{Set as SetOf, Section, Input}
 use Rattle.clof_tool.specs.declared.status.Status.{Status}
@@ -23,21 +24,23 @@ IsInput Run left input = left ≡ Some input
 IsInput (Set list text) left input = Unit {0}
 IsInput (Topo export text) left input = Unit {0}
 
+-- a source gave this input and came to its end: as many bytes as its count of given ones rose by, which are what it had
+-- left, where it tells that
+pub record WasRead (left : Option (List ℕ)) (given given_now : ℕ) (input : List ℕ) : Type 0 where
+  pub is_left : IfSome left (λ all. input ≡ all)
+  pub size : RisesBy (length input) given given_now
+
+-- the input that was read for what is asked for, or any text where it doesn't depend on one
+abbrev pub HasRead : Asked → Option (List ℕ) → ℕ → ℕ → List ℕ → Type 0
+HasRead Run left given given_now input = WasRead left given given_now input
+HasRead (Set list text) left given given_now input = Unit {0}
+HasRead (Topo export text) left given given_now input = Unit {0}
+
 -- the text that is printed
 abbrev pub IsAnswer : Asked → List ℕ → List ℕ → Type 0
 IsAnswer Run input printed = (length input ≤ input_limit) × Prints input printed
 IsAnswer (Set list text) input printed = PrintsSet list text printed
 IsAnswer (Topo export text) input printed = PrintsTopo export text printed
-
--- why `run` refuses an input: it is too long, or it is no section that can be served yet
-abbrev pub RunRefuses : List ℕ → Status → Type 0
-RunRefuses input statuses.Ok = ⊥
-RunRefuses input statuses.Usage = ⊥
-RunRefuses input (statuses.Malformed fault) = (fault ≡ Section NotYet) × (length input ≤ input_limit) × IsNotYet input
-RunRefuses input (statuses.Limit fault) = (fault ≡ Input) × (input_limit < length input)
-RunRefuses input statuses.ReadFault = ⊥
-RunRefuses input (statuses.WriteFault written) = ⊥
-RunRefuses input statuses.OutOfMemory = ⊥
 
 -- why `set` refuses its text: by the leftmost rule that it breaks
 abbrev pub SetRefuses : Bool → List ℕ → Status → Type 0
@@ -49,11 +52,53 @@ SetRefuses list text statuses.ReadFault = ⊥
 SetRefuses list text (statuses.WriteFault written) = ⊥
 SetRefuses list text statuses.OutOfMemory = ⊥
 
--- the status with which what is asked for is refused
-abbrev pub Refuses : Asked → List ℕ → Status → Type 0
-Refuses Run input status = RunRefuses input status
-Refuses (Set list text) input status = SetRefuses list text status
-Refuses (Topo export text) input status = TopoRefuses text status
+-- the status with which what is asked for is refused by its words, whatever the input is
+abbrev pub WordsRefused : Asked → Status → Type 0
+WordsRefused Run status = ⊥
+WordsRefused (Set list text) status = SetRefuses list text status
+WordsRefused (Topo export text) status = TopoRefuses text status
+
+-- why `run` refuses an input: it is too long, or it is no section that can be served yet
+abbrev pub RunRefuses : List ℕ → Status → Type 0
+RunRefuses input statuses.Ok = ⊥
+RunRefuses input statuses.Usage = ⊥
+RunRefuses input (statuses.Malformed fault) = (fault ≡ Section NotYet) × (length input ≤ input_limit) × IsNotYet input
+RunRefuses input (statuses.Limit fault) = (fault ≡ Input) × (input_limit < length input)
+RunRefuses input statuses.ReadFault = ⊥
+RunRefuses input (statuses.WriteFault written) = ⊥
+RunRefuses input statuses.OutOfMemory = ⊥
+
+-- the status with which what is asked for is refused by its input
+abbrev pub InputRefused : Asked → List ℕ → Status → Type 0
+InputRefused Run input status = RunRefuses input status
+InputRefused (Set list text) input status = ⊥
+InputRefused (Topo export text) input status = ⊥
+
+-- the source had more left than an input may have, where it tells that, and one byte more than that was read
+pub record WasTooLong (left : Option (List ℕ)) (given given_now : ℕ) : Type 0 where
+  pub longer : IfSome left (λ all. input_limit < length all)
+  pub size : RisesBy (input_limit + 1) given given_now
+
+-- what was read tells that `run` refuses it with this status
+abbrev pub RunFound : Option (List ℕ) → ℕ → ℕ → Status → Type 0
+RunFound left given given_now statuses.Ok = ⊥
+RunFound left given given_now statuses.Usage = ⊥
+RunFound left given given_now (statuses.Malformed fault) = (input : List ℕ) × WasRead left given given_now input
+    × RunRefuses input (statuses.Malformed fault)
+RunFound left given given_now (statuses.Limit fault) = (fault ≡ Input) × WasTooLong left given given_now
+RunFound left given given_now statuses.ReadFault = ⊥
+RunFound left given given_now (statuses.WriteFault written) = ⊥
+RunFound left given given_now statuses.OutOfMemory = ⊥
+
+-- what was read tells that what is asked for is refused with this status
+abbrev pub WasFound : Asked → Option (List ℕ) → ℕ → ℕ → Status → Type 0
+WasFound Run left given given_now status = RunFound left given given_now status
+WasFound (Set list text) left given given_now status = ⊥
+WasFound (Topo export text) left given given_now status = ⊥
+
+-- the cause of a refusal: the words, or what was read
+abbrev pub HasCause : Asked → Option (List ℕ) → ℕ → ℕ → Status → Type 0
+HasCause asked left given given_now status = WordsRefused asked status ⊎ WasFound asked left given given_now status
 
 -- the status is a refusal: something is malformed or over its limit
 abbrev pub IsRefusal : Status → Type 0

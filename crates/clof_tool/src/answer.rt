@@ -1,96 +1,79 @@
-// What the program does, without a runtime: nothing waits yet.
-ghost use Rattle.std.specs.Prelude.{◌≡◌, ◌≢◌, ◌<◌, ◌+◌, ◌⊎◌, ◌↔◌, ℕ, List, length, take, IfErr, IfOk, IfSome};
-ghost use Rattle.edge_io.specs.Counts.{Rose, RisesBy};
-ghost use Rattle.edge_io.specs.Contents.{Gains, IsDrained};
+// The text that is printed, all of it before the first write.
+ghost use Rattle.std.specs.Prelude.{◌≡◌, ◌≢◌, ◌≤◌, ◌⊎◌, ℕ, List, Some, length, IfErr, IfOk, IsOk, OnOk};
+ghost use Rattle.edge_io.specs.Counts.{Rose};
+ghost use Rattle.edge_io.specs.Contents.{IsDrained};
+ghost use Rattle.edge_io.specs.Reading.{HasGiven};
 ghost use Rattle.clof_tool.specs.declared.status.Status.{Status as AnyStatus};
-ghost use Rattle.clof_tool.specs.declared.status.Fault.{Fault as AnyFault};
-ghost use Rattle.clof_tool.specs.Words.{Asked, Says, IsUsage};
+ghost use Rattle.clof_tool.specs.declared.status.Fault.TheVariants.{Input as InputOf};
+ghost use Rattle.clof_tool.specs.Asked.{plain};
 ghost use Rattle.clof_tool.specs.Run.{input_limit};
-ghost use Rattle.clof_tool.specs.Outcome.{ReadsInput, IsInput, IsAnswer, Refuses, IsRefusal, HasWritten};
+ghost use Rattle.clof_tool.specs.Outcome.{ReadsInput, IsInput, WasRead, WasTooLong, HasRead, IsAnswer, WordsRefused, InputRefused};
+ghost use Rattle.clof_tool.specs.Outcome.{HasCause, IsRefusal, HasWritten};
 
-use crate::Status;
-use crate::made::make;
-use crate::report::report;
-use crate::words::read_words;
-use edge_io::{Sink, Source, Stopped, write_all};
+use crate::running::run_text;
+use crate::set_text::set_text;
+use crate::topo_text::topo_text;
+use crate::words::Asked;
+use crate::{Fault, Status};
+use edge_io::{ReadAllFault, Source, read_all};
 use std::alloc::Global;
 
-/// Does what the words ask, and writes what it prints to `out` and the line on what went wrong to `err`.
-pub(crate) fn answer<S: Source, K: Sink, E: Sink>(
+// The greatest length of an input.
+const INPUT_LIMIT: usize = 16_777_216;
+
+/// The text that is printed, or the status where there is none.
+pub(crate) fn answer<S: Source>(
     alloc: Global,
-    words: &[String],
+    asked: Asked<'_>,
     source: &mut S,
-    out: &mut K,
-    err: &mut E,
-) -> Status
-    // The words.
-    ensures usage { (result ≡ Status.Usage) ↔ IsUsage words.now }
-    ensures unread { result ≡ Status.Usage → source.new ≡ source.old }
-    ensures unread_else { (asked : Asked) → Says words.now asked → (ReadsInput asked → ⊥) → source.new ≡ source.old }
-
-    // What is printed, and that the input was read to its end.
-    ensures printed { (asked : Asked) (input : List ℕ) → Says words.now asked → IsInput asked (S.left source.old) input → result ≡ Status.Ok →
-        (text : List ℕ) × IsAnswer asked input text × Gains (K.held out.old) (K.held out.new) text }
-    ensures at_end { (asked : Asked) → Says words.now asked → ReadsInput asked → result ≡ Status.Ok → IsDrained (S.left source.old) (S.left source.new) }
-
-    // What is refused.
-    ensures refusal { (asked : Asked) (input : List ℕ) → Says words.now asked → IsInput asked (S.left source.old) input → IsRefusal result → Refuses asked input result }
-    ensures limit { (asked : Asked) (fault : AnyFault) → Says words.now asked → ReadsInput asked → result ≡ Status.Limit fault →
-        RisesBy (input_limit + 1) (S.given source.old) (S.given source.new) }
-    ensures refused { (asked : Asked) (input : List ℕ) (status : AnyStatus) → Says words.now asked → IsInput asked (S.left source.old) input → Refuses asked input status →
-        (ReadsInput asked → Rose (S.faults source.old) (S.faults source.new) → ⊥) → (result ≡ status) ⊎ (result ≡ Status.OutOfMemory) }
-
-    // Faults of the source and of the output.
-    ensures read_fault { result ≡ Status.ReadFault → Rose (S.faults source.old) (S.faults source.new) }
-    ensures read_fault_input { (asked : Asked) → Says words.now asked → result ≡ Status.ReadFault → ReadsInput asked }
-    ensures read_calm { result ≢ Status.ReadFault → S.faults source.new ≡ S.faults source.old }
-    ensures write_fault { (written : ℕ) → result ≡ Status.WriteFault written →
-        Rose (K.faults out.old) (K.faults out.new) ⊎ Rose (K.stalls out.old) (K.stalls out.new) }
-    ensures write_full { (written : ℕ) → result ≡ Status.WriteFault written →
-        Rose (K.faults out.old) (K.faults out.new) ⊎ IfSome (K.room out.old) (λ room. room ≡ written) }
-    ensures cut_short { (asked : Asked) (input : List ℕ) (written : ℕ) → Says words.now asked → IsInput asked (S.left source.old) input → result ≡ Status.WriteFault written →
-        (text : List ℕ) × IsAnswer asked input text × (written < length text) × Gains (K.held out.old) (K.held out.new) (take written text) }
-    ensures unwritten { (HasWritten result → ⊥) → out.new ≡ out.old }
-
-    // Where nothing goes wrong, the text is printed.
-    ensures complete { (asked : Asked) (input text : List ℕ) → Says words.now asked → IsInput asked (S.left source.old) input → IsAnswer asked input text →
-        (ReadsInput asked → Rose (S.faults source.old) (S.faults source.new) → ⊥) → (Rose (K.faults out.old) (K.faults out.new) → ⊥) → (Rose (K.stalls out.old) (K.stalls out.new) → ⊥) →
-        (result ≡ Status.Ok) ⊎ (result ≡ Status.OutOfMemory) }
+) -> Result<Vec<u8>, Status>
+    ensures answer { IfOk result (λ text. (input : List ℕ)
+        × HasRead (plain asked.entry) (S.left source.old) (S.given source.old) (S.given source.new) input
+        × IsAnswer (plain asked.entry) input text.items) }
+    ensures at_end { OnOk result (ReadsInput (plain asked.entry) → IsDrained (S.left source.old) (S.left source.new)) }
+    ensures unread { (ReadsInput (plain asked.entry) → ⊥) → source.new ≡ source.old }
+    ensures cause { IfErr result (λ status. IsRefusal status →
+        HasCause (plain asked.entry) (S.left source.old) (S.given source.old) (S.given source.new) status) }
+    ensures silent { IfErr result (λ status. HasWritten status → ⊥) }
+    ensures not_usage { result ≢ Err Status.Usage }
+    ensures read_fault { result ≡ Err Status.ReadFault →
+        ReadsInput (plain asked.entry) × Rose (S.faults source.old) (S.faults source.new) }
+    ensures read_in_part { result ≡ Err Status.ReadFault →
+        HasGiven input_limit (S.left source.old) (S.left source.new) (S.given source.old) (S.given source.new) }
+    ensures read_calm { result ≢ Err Status.ReadFault → S.faults source.new ≡ S.faults source.old }
+    ensures words_refused { (status : AnyStatus) → WordsRefused (plain asked.entry) status →
+        (result ≡ Err status) ⊎ (result ≡ Err Status.OutOfMemory) }
+    ensures input_refused { (input : List ℕ) (status : AnyStatus) →
+        S.left source.old ≡ Some input → InputRefused (plain asked.entry) input status →
+        (Rose (S.faults source.old) (S.faults source.new) → ⊥) → (result ≡ Err status) ⊎ (result ≡ Err Status.OutOfMemory) }
+    ensures complete { (input text : List ℕ) →
+        IsInput (plain asked.entry) (S.left source.old) input → IsAnswer (plain asked.entry) input text →
+        (ReadsInput (plain asked.entry) → Rose (S.faults source.old) (S.faults source.new) → ⊥) →
+        IsOk result ⊎ (result ≡ Err Status.OutOfMemory) }
 {
-    match read_words(words) {
-        Some(asked) => {
-            let made = make(alloc, asked, source);
-            let status = print(made, out);
-            report(err, &status);
-            status
-        }
-        None => {
-            report(err, &Status::Usage);
-            Status::Usage
-        }
+    match asked {
+        Asked::Run => run_text(alloc, &read_input(alloc, source)?),
+        Asked::Set { list, text } => set_text(alloc, list, text),
+        Asked::Topo { export, text } => topo_text(alloc, export, text),
     }
 }
 
-// Writes a text that was made, or hands on the status where there is none.
-fn print<K: Sink>(made: Result<Vec<u8>, Status>, out: &mut K) -> Status
-    requires { IfErr made (λ status. HasWritten status → ⊥) }
-    ensures refused { IfErr made (λ status. result ≡ status) }
-    ensures done { IfOk made (λ _. HasWritten result) }
-    ensures printed { result ≡ Status.Ok → IfOk made (λ text. Gains (K.held out.old) (K.held out.new) text.items) }
-    ensures write_fault { (written : ℕ) → result ≡ Status.WriteFault written →
-        Rose (K.faults out.old) (K.faults out.new) ⊎ Rose (K.stalls out.old) (K.stalls out.new) }
-    ensures write_full { (written : ℕ) → result ≡ Status.WriteFault written →
-        Rose (K.faults out.old) (K.faults out.new) ⊎ IfSome (K.room out.old) (λ room. room ≡ written) }
-    ensures cut_short { (written : ℕ) → result ≡ Status.WriteFault written →
-        IfOk made (λ text. (written < length text.items) × Gains (K.held out.old) (K.held out.new) (take written text.items)) }
-    ensures unwritten { (HasWritten result → ⊥) → out.new ≡ out.old }
-    ensures complete { (Rose (K.faults out.old) (K.faults out.new) → ⊥) → (Rose (K.stalls out.old) (K.stalls out.new) → ⊥) → IfOk made (λ _. result ≡ Status.Ok) }
+// All that the source has left, at most the limit of an input.
+fn read_input<S: Source>(alloc: Global, source: &mut S) -> Result<Vec<u8>, Status>
+    ensures read { IfOk result (λ input. WasRead (S.left source.old) (S.given source.old) (S.given source.new) input.items) }
+    ensures within { IfOk result (λ input. length input.items ≤ input_limit) }
+    ensures at_end { OnOk result (IsDrained (S.left source.old) (S.left source.new)) }
+    ensures refused { IfErr result (λ status.
+        (status ≡ Status.ReadFault) ⊎ (status ≡ Status.Limit InputOf) ⊎ (status ≡ Status.OutOfMemory)) }
+    ensures too_long { result ≡ Err (Status.Limit InputOf) → WasTooLong (S.left source.old) (S.given source.old) (S.given source.new) }
+    ensures read_fault { result ≡ Err Status.ReadFault → Rose (S.faults source.old) (S.faults source.new) }
+    ensures read_in_part { result ≡ Err Status.ReadFault →
+        HasGiven input_limit (S.left source.old) (S.left source.new) (S.given source.old) (S.given source.new) }
+    ensures read_calm { result ≢ Err Status.ReadFault → S.faults source.new ≡ S.faults source.old }
 {
-    match made {
-        Ok(text) => match write_all(out, &text) {
-            Ok(()) => Status::Ok,
-            Err(Stopped { written }) => Status::WriteFault { written },
-        },
-        Err(status) => status,
-    }
+    read_all(alloc, source, INPUT_LIMIT).map_err(|fault| match fault {
+        ReadAllFault::Fault => Status::ReadFault,
+        ReadAllFault::TooLong => Status::Limit(Fault::Input),
+        ReadAllFault::OutOfMemory => Status::OutOfMemory,
+    })
 }

@@ -2,7 +2,8 @@
 #![tactic(auto)]
 
 mod answer;
-mod made;
+mod line;
+mod process;
 mod report;
 mod running;
 mod set_text;
@@ -11,6 +12,7 @@ mod top_call;
 mod topo_text;
 mod words;
 
+pub use process::Process;
 pub use status::{Fault, Status};
 pub use top_call::top;
 

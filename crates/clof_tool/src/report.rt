@@ -1,87 +1,27 @@
-// The line on standard error.
-use crate::{Fault, Status};
-use cpu_set::SetFault;
-use edge_io::{Sink, Stopped, write_all};
-use itoa::Buffer;
-use placed_runner::SectionFault;
-use synth_text::SynthFault;
-use topo_tree::BuildFault;
+// What standard error is told.
+ghost use Rattle.std.specs.Prelude.{◌≡◌, ◌≢◌, ℕ, take};
+ghost use Rattle.edge_io.specs.Counts.{Rose};
+ghost use Rattle.edge_io.specs.Contents.{Gains};
+ghost use Rattle.clof_tool.specs.Line.{line_of};
 
-/// Writes the line that tells why a call of the program did not end well. A failure to write it changes nothing.
-pub(crate) fn report<E: Sink>(err: &mut E, status: &Status) {
-    let _ = report_status(err, status);
-}
+use crate::Status;
+use crate::line::line;
+use edge_io::{Sink, write_all};
 
-fn report_status<E: Sink>(err: &mut E, status: &Status) -> Result<(), Stopped> {
+/// Writes the line that tells of a status, all of it at once, and nothing where the status is Ok. A failure to write it
+/// changes nothing else.
+pub(crate) fn report<E: Sink>(err: &mut E, status: &Status)
+    ensures silent { status.now ≡ Status.Ok → err.new ≡ err.old }
+    ensures told { status.now ≢ Status.Ok →
+        (Rose (E.faults err.old) (E.faults err.new) → ⊥) → (Rose (E.stalls err.old) (E.stalls err.new) → ⊥) →
+        Gains (E.held err.old) (E.held err.new) (line_of status.now) }
+    ensures told_in_part { status.now ≢ Status.Ok →
+        (written : ℕ) × Gains (E.held err.old) (E.held err.new) (take written (line_of status.now)) }
+{
     match status {
-        Status::Ok => Ok(()),
-        Status::Usage => put_line(err, b"usage", &[]),
-        Status::Malformed(fault) | Status::Limit(fault) => report_fault(err, fault),
-        Status::ReadFault => put_line(err, b"read fault", &[]),
-        Status::WriteFault { written } => put_line(err, b"write fault", &[*written]),
-        Status::OutOfMemory => put_line(err, b"out of memory", &[]),
-    }
-}
-
-// The area, the variant's name and its fields.
-fn report_fault<E: Sink>(err: &mut E, fault: &Fault) -> Result<(), Stopped> {
-    match fault {
-        Fault::Set(fault) => report_set(err, fault),
-        Fault::Synth(fault) => report_synth(err, fault),
-        Fault::Build(fault) => report_build(err, fault),
-        Fault::Section(SectionFault::NotYet) => put_line(err, b"section NotYet", &[]),
-        Fault::Input => put_line(err, b"input", &[]),
-    }
-}
-
-fn report_set<E: Sink>(err: &mut E, fault: &SetFault) -> Result<(), Stopped> {
-    match fault {
-        SetFault::Form { at } => put_line(err, b"set Form", &[*at]),
-        SetFault::TooLarge { at } => put_line(err, b"set TooLarge", &[*at]),
-        SetFault::Infinite { at } => put_line(err, b"set Infinite", &[*at]),
-    }
-}
-
-fn report_synth<E: Sink>(err: &mut E, fault: &SynthFault) -> Result<(), Stopped> {
-    match fault {
-        SynthFault::Empty => put_line(err, b"synth Empty", &[]),
-        SynthFault::BadType { at } => put_line(err, b"synth BadType", &[*at]),
-        SynthFault::BadArity { at } => put_line(err, b"synth BadArity", &[*at]),
-        SynthFault::BadAttr { at } => put_line(err, b"synth BadAttr", &[*at]),
-        SynthFault::BadIndexes { at } => put_line(err, b"synth BadIndexes", &[*at]),
-        SynthFault::LastNotPu { at } => put_line(err, b"synth LastNotPu", &[*at]),
-        SynthFault::RepeatedType { at } => put_line(err, b"synth RepeatedType", &[*at]),
-        SynthFault::TooManyLevels => put_line(err, b"synth TooManyLevels", &[]),
-        SynthFault::TooManyObjects => put_line(err, b"synth TooManyObjects", &[]),
-        SynthFault::OutOfMemory => put_line(err, b"out of memory", &[]),
-    }
-}
-
-fn report_build<E: Sink>(err: &mut E, fault: &BuildFault) -> Result<(), Stopped> {
-    match fault {
-        BuildFault::IndexCount { found, wanted } => put_line(
-            err,
-            b"build IndexCount",
-            &[*found as usize, *wanted as usize],
-        ),
-        BuildFault::IndexRange { number } => {
-            put_line(err, b"build IndexRange", &[*number as usize])
+        Status::Ok => {}
+        _ => {
+            let _ = write_all(err, line(status).as_str().as_bytes());
         }
-        BuildFault::IndexTwice { number } => {
-            put_line(err, b"build IndexTwice", &[*number as usize])
-        }
-        BuildFault::OutOfMemory => put_line(err, b"out of memory", &[]),
     }
-}
-
-// Writes the line with this text and these numbers, with single spaces between them, up to the first write that fails.
-fn put_line<E: Sink>(err: &mut E, text: &[u8], numbers: &[usize]) -> Result<(), Stopped> {
-    write_all(err, b"clof: ")?;
-    write_all(err, text)?;
-    for number in numbers {
-        let mut buffer = Buffer::new();
-        write_all(err, b" ")?;
-        write_all(err, buffer.format(*number).as_bytes())?;
-    }
-    write_all(err, b"\n")
 }

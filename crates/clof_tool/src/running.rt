@@ -15,7 +15,8 @@ use std::alloc::Global;
 pub(crate) fn run_text(alloc: Global, input: &[u8]) -> Result<Vec<u8>, Status>
     requires { length input.now ≤ input_limit }
     ensures ok { IfOk result (λ text. Prints input.now text.items) }
-    ensures err { IfErr result (λ status. (status ≡ Status.OutOfMemory) ⊎ ((status ≡ Status.Malformed (SectionOf NotYet)) × IsNotYet input.now)) }
+    ensures err { IfErr result (λ status.
+        (status ≡ Status.OutOfMemory) ⊎ ((status ≡ Status.Malformed (SectionOf NotYet)) × IsNotYet input.now)) }
 {
     match read_first(input) {
         Ok(Some(section)) => section_text(alloc, &section),
@@ -27,7 +28,8 @@ pub(crate) fn run_text(alloc: Global, input: &[u8]) -> Result<Vec<u8>, Status>
 // The text of the run of a section.
 fn section_text(alloc: Global, section: &Section<'_>) -> Result<Vec<u8>, Status>
     requires { length section.now.bytes.now ≤ input_limit }
-    ensures ok { IfOk result (λ text. text.items ≡ section_text section.now.pu (commands_of section.now.bytes.now) (rest_of section.now.bytes.now)) }
+    ensures ok { IfOk result (λ text.
+        text.items ≡ section_text section.now.pu (commands_of section.now.bytes.now) (rest_of section.now.bytes.now)) }
     ensures err { IfErr result (λ status. status ≡ Status.OutOfMemory) }
 {
     let mut journal = Journal::reserve(alloc, &[section.bytes]).map_err(|_| Status::OutOfMemory)?;

@@ -2,7 +2,7 @@
 use crate::report::report;
 use crate::{Fault, Status, top};
 use cpu_set::SetFault;
-use edge_io::{MemSink, MemSource, SureSink, SureSource};
+use edge_io::{Failed, MemSink, MemSource, Source, SureSink, SureSource};
 use placed_runner::SectionFault;
 use std::alloc::Global;
 use std::process::Abort;
@@ -67,7 +67,9 @@ fn serves_one_section(rt: HostRuntime) -> Result<(), Fail> {
         (b"worker * 5\nget a\n", b"caller 0 pu 0 commands 0 rest 5\n"),
         (
             b"worker * 23\nset a 5 0 1\r\nx\r\nget a\r\n\n",
-            b"turn 0 caller 0 pu 0 climb 0 tests 0 left 0 \"set a 5 0 1\\r\\nx\\r\\n\" \"STORED\\r\\n\"\nturn 1 caller 0 pu 0 climb 0 tests 0 left 0 \"get a\\r\\n\" \"VALUE a 5 1\\r\\nx\\r\\nEND\\r\\n\"\ncaller 0 pu 0 commands 2 rest 0\n",
+            b"turn 0 caller 0 pu 0 climb 0 tests 0 left 0 \"set a 5 0 1\\r\\nx\\r\\n\" \"STORED\\r\\n\"\n\
+              turn 1 caller 0 pu 0 climb 0 tests 0 left 0 \"get a\\r\\n\" \"VALUE a 5 1\\r\\nx\\r\\nEND\\r\\n\"\n\
+              caller 0 pu 0 commands 2 rest 0\n",
         ),
     ];
     for (input, text) in cases {
@@ -77,24 +79,24 @@ fn serves_one_section(rt: HostRuntime) -> Result<(), Fail> {
 }
 
 #[test]
-fn refuses_what_is_not_built(rt: HostRuntime) -> Result<(), Fail> {
-    let cases: [&[u8]; 16] = [
-        b"worker * 26\nset a 0 2147483648 1\r\nx\r\n\n",
-        b"worker * 10\ndelete a\r\n\n",
-        b"worker pu:0 0\n\n",
-        b"worker * 0\n\nworker * 0\n\n",
-        b"worker * 9\nget a\r\n\n",
+fn refuses_inputs_that_are_not_one_section(rt: HostRuntime) -> Result<(), Fail> {
+    let good = b"worker * 7\nget a\r\n\n";
+    assert_eq!(rt;
+        call(&rt, rt.alloc(), &["run"], good.to_vec(rt.alloc())?)?.status,
+        Status::Ok
+    );
+    let cases: [&[u8]; 11] = [
+        b"worker pu:0 7\nget a\r\n\n",
+        b"worker * 7\nget a\r\n\nworker * 0\n\n",
+        b"worker * 8\nget a\r\n\n",
         b"worker * 7\nget a\r\n",
         b"worker * 7\nget a\r\n\nx",
         b"worker *  7\nget a\r\n\n",
         b"worker * 00000000007\nget a\r\n\n",
-        b"worker * \n\n",
-        b"walker * 0\n\n",
+        b"worker * \nget a\r\n\n",
+        b"walker * 7\nget a\r\n\n",
         b"worker * 0",
         b"\n",
-        b"worker * 17\nset a 0 0 1\r\nxy\r\n\n",
-        b"worker * 8\nget a\tb\n\n",
-        b"worker * 18\nset a\tb 0 0 1\r\nx\r\n\n",
     ];
     for input in cases {
         ends(
@@ -109,9 +111,54 @@ fn refuses_what_is_not_built(rt: HostRuntime) -> Result<(), Fail> {
     Ok(())
 }
 
+// Pairs of sections that differ in what is refused alone, the first of them served; each has the head of its length.
+#[test]
+fn refuses_commands_that_are_not_built(rt: HostRuntime) -> Result<(), Fail> {
+    let cases: [(&[u8], &[u8]); 10] = [
+        (b"get a\r\n", b"gets a\r\n"),
+        (b"get a\r\n", b"delete a\r\n"),
+        (b"get ab\n", b"get a\tb\n"),
+        (b"set ab 0 0 1\r\nx\r\n", b"set a\tb 0 0 1\r\nx\r\n"),
+        (b"set a 0 0 2\r\nxy\r\n", b"set a 0 0 1\r\nxy\r\n"),
+        (
+            b"set a 0 2147483647 1\r\nx\r\n",
+            b"set a 0 2147483648 1\r\nx\r\n",
+        ),
+        (
+            b"set a 0 -2147483648 1\r\nx\r\n",
+            b"set a 0 -2147483649 1\r\nx\r\n",
+        ),
+        (
+            b"set a 4294967295 0 1\r\nx\r\n",
+            b"set a 4294967296 0 1\r\nx\r\n",
+        ),
+        (
+            b"set a 0 0 4294967295\r\nx\r\n",
+            b"set a 0 0 4294967296\r\nx\r\n",
+        ),
+        (b"set a 0 0 1 noreply\r\nx\r\n", b"set a 0 0 1 no\r\nx\r\n"),
+    ];
+    for (served, refused) in cases {
+        let mut input = Vec::new(rt.alloc());
+        push_input(&mut input, served)?;
+        assert_eq!(rt; call(&rt, rt.alloc(), &["run"], input)?.status, Status::Ok);
+        let mut input = Vec::new(rt.alloc());
+        push_input(&mut input, refused)?;
+        ends(
+            &rt,
+            rt.alloc(),
+            &input,
+            NOT_YET,
+            b"",
+            b"clof: section NotYet\n",
+        )?;
+    }
+    Ok(())
+}
+
 #[test]
 fn refuses_other_words(rt: HostRuntime) -> Result<(), Fail> {
-    let cases: [&[&str]; 16] = [
+    let cases: [&[&str]; 18] = [
         &["topo"],
         &["topo", "--export"],
         &["topo", "--list", "PU:1"],
@@ -128,6 +175,10 @@ fn refuses_other_words(rt: HostRuntime) -> Result<(), Fail> {
         &["set", "0x1", "--list"],
         &["set", "--list", "1", "2"],
         &["set", "--", "0x1"],
+        &["set", "--list", "1", "2", "3"],
+        &[
+            "run", "run", "run", "run", "run", "run", "run", "run", "run", "run",
+        ],
     ];
     for words in cases {
         let ended = call(
@@ -272,6 +323,24 @@ fn tells_faults_of_the_source_and_the_output(rt: HostRuntime) -> Result<(), Fail
     Ok(())
 }
 
+// Nothing is read behind a fault: the source goes on with its next call, which is listed too, and then its next byte.
+#[test]
+fn reads_no_further_than_a_fault(rt: HostRuntime) -> Result<(), Fail> {
+    let alloc = rt.alloc();
+    let words = [String::from_str(alloc, "run")?];
+    let input = b"worker * 7\nget a\r\n\n".to_vec(alloc)?;
+    let mut source = MemSource::new(input, 8, [1, 2].to_vec(alloc)?);
+    let mut out = SureSink::new(alloc, 100)?;
+    let mut err = SureSink::new(alloc, 100)?;
+    let status = top(&rt, alloc, &words, &mut source, &mut out, &mut err);
+    assert_eq!(rt; status, Status::ReadFault);
+    let mut next = [0; 4];
+    assert_eq!(rt; source.read(&mut next), Err(Failed));
+    assert_eq!(rt; source.read(&mut next), Ok(4));
+    assert_eq!(rt; next, [b' ', b'7', b'\n', b'g']);
+    Ok(())
+}
+
 // So many bytes.
 fn filled(alloc: Global, byte: u8, count: usize) -> Result<Vec<u8>, Fail> {
     Ok(vec![in alloc; byte; count]?)
@@ -318,6 +387,39 @@ fn takes_values_and_keys_up_to_their_limits(rt: HostRuntime) -> Result<(), Fail>
         }
     }
     serves(&rt, alloc, b"set k 0 0 4294967295\r\nx\r\n", &[], 25)
+}
+
+// The section that stores 2,000 keys, asks for each by itself, and then for all in one line.
+fn many_commands(alloc: Global) -> Result<Vec<u8>, Fail> {
+    let (mut section, mut last) = (Vec::new(alloc), Vec::new(alloc));
+    last.extend_from_slice(b"get")?;
+    for number in 1_000..3_000_u64 {
+        let mut key = Vec::new(alloc);
+        key.extend_from_slice(b" k")?;
+        byte_text::push_decimal(&mut key, number)?;
+        last.extend_from_slice(&key)?;
+        section.extend_from_slice(b"set")?;
+        section.extend_from_slice(&key)?;
+        section.extend_from_slice(b" 0 0 1\r\nx\r\nget")?;
+        section.extend_from_slice(&key)?;
+        section.extend_from_slice(b"\r\n")?;
+    }
+    last.extend_from_slice(b"\r\n")?;
+    section.extend_from_slice(&last)?;
+    Ok(section)
+}
+
+// Many commands are no excuse, nor are many keys.
+#[test]
+fn serves_many_commands_and_keys(rt: HostRuntime) -> Result<(), Fail> {
+    let alloc = rt.alloc();
+    let mut input = Vec::new(alloc);
+    push_input(&mut input, &many_commands(alloc)?)?;
+    let ended = call(&rt, alloc, &["run"], input)?;
+    assert_eq!(rt; ended.status, Status::Ok);
+    let end = b"VALUE k2999 0 1\\r\\nx\\r\\nEND\\r\\n\"\ncaller 0 pu 0 commands 4001 rest 0\n";
+    assert!(rt; ended.out.ends_with(end));
+    Ok(())
 }
 
 #[test]
@@ -417,17 +519,24 @@ fn leaves_what_was_written_of_a_set(rt: HostRuntime) -> Result<(), Fail> {
     Ok(())
 }
 
+// The line goes out in one write: a sink that fails from its second call on has all of it, and one that fails at its
+// first has nothing. The call ends as it would.
 #[test]
 fn ends_as_well_where_the_line_fails(rt: HostRuntime) -> Result<(), Fail> {
     let alloc = rt.alloc();
-    let words = [String::from_str(alloc, "walk")?];
-    let mut source = SureSource::new(Vec::new(alloc));
-    let mut out = SureSink::new(alloc, 100)?;
-    let mut err = MemSink::new(alloc, 100, 100, [1].to_vec(alloc)?)?;
-    let status = top(&rt, alloc, &words, &mut source, &mut out, &mut err);
-    assert_eq!(rt; status, Status::Usage);
-    assert_eq!(rt; status.code(), 2);
-    assert_eq!(rt; err.bytes(), b"clof: ".as_slice());
+    let words = [
+        String::from_str(alloc, "topo")?,
+        String::from_str(alloc, "PU:2(indexes=0,1,2)")?,
+    ];
+    let cases: [(u32, &[u8]); 2] = [(0, b""), (1, b"clof: build IndexCount 3 2\n")];
+    for (failing, line) in cases {
+        let mut source = SureSource::new(Vec::new(alloc));
+        let mut out = SureSink::new(alloc, 100)?;
+        let mut err = MemSink::new(alloc, 100, 100, [failing].to_vec(alloc)?)?;
+        let status = top(&rt, alloc, &words, &mut source, &mut out, &mut err);
+        assert_eq!(rt; status.code(), 3);
+        assert_eq!(rt; err.bytes(), line);
+    }
     Ok(())
 }
 
@@ -452,6 +561,49 @@ fn prints_the_last_number(rt: HostRuntime) -> Result<(), Fail> {
     let ended = call(&rt, alloc, &["set", "--list", "4095"], Vec::new(alloc))?;
     assert_eq!(rt; ended.status, Status::Ok);
     assert_eq!(rt; ended.out.as_slice(), want.as_slice());
+    Ok(())
+}
+
+// The numbers below 4,096 from the last to the first, with commas between them.
+fn all_numbers(alloc: Global) -> Result<String, Fail> {
+    let mut numbers = String::new(alloc);
+    for number in (0..4096_u32).rev() {
+        if !numbers.is_empty() {
+            numbers.push(',')?;
+        }
+        numbers.push_str(itoa::Buffer::new().format(number))?;
+    }
+    Ok(numbers)
+}
+
+// Long texts are no excuse: the longest list of a set, and the longest list of indexes of a description.
+#[test]
+fn takes_lists_of_all_numbers(rt: HostRuntime) -> Result<(), Fail> {
+    let alloc = rt.alloc();
+    let numbers = all_numbers(alloc)?;
+    let set = call(
+        &rt,
+        alloc,
+        &["set", "--list", numbers.as_str()],
+        Vec::new(alloc),
+    )?;
+    assert_eq!(rt; set.status, Status::Ok);
+    assert!(rt; set.out.starts_with(b"0xffffffff,0xffffffff,"));
+    let mut description = String::from_str(alloc, "PU:4096(indexes=")?;
+    description.push_str(&numbers)?;
+    description.push(')')?;
+    let words = ["topo", "--export", description.as_str()];
+    let exported = call(&rt, alloc, &words, Vec::new(alloc))?;
+    assert_eq!(rt; exported.status, Status::Ok);
+    assert!(rt; exported.out.starts_with(description.as_bytes()));
+    assert_eq!(rt; exported.out.len(), description.len() + 1);
+    let tree = call(&rt, alloc, &["topo", description.as_str()], Vec::new(alloc))?;
+    assert_eq!(rt; tree.status, Status::Ok);
+    assert!(rt;
+        tree.out
+            .starts_with(b"Machine L#0\n  PU L#0 (P#4095)\n  PU L#1 (P#4094)\n")
+    );
+    assert!(rt; tree.out.ends_with(b"  PU L#4095 (P#0)\n"));
     Ok(())
 }
 
@@ -492,7 +644,8 @@ fn prints_a_tree_and_its_canonical_text(rt: HostRuntime) -> Result<(), Fail> {
         "",
     )?;
     let usual =
-        "Package:2 [NUMANode(memory=34359738368)] L3Cache:1(size=33554432) L2Cache:16(size=1048576) L1dCache:1(size=32768) L1iCache:1(size=32768) Core:1 PU:2(indexes=2*32:1*2)";
+        "Package:2 [NUMANode(memory=34359738368)] L3Cache:1(size=33554432) L2Cache:16(size=1048576) \
+         L1dCache:1(size=32768) L1iCache:1(size=32768) Core:1 PU:2(indexes=2*32:1*2)";
     let ended = call(&rt, alloc, &["topo", "--export", usual], Vec::new(alloc))?;
     assert_eq!(rt; ended.status, Status::Ok);
     assert!(rt; ended.out.starts_with(usual.as_bytes()));
@@ -544,8 +697,8 @@ fn refuses_texts_that_describe_nothing(rt: HostRuntime) -> Result<(), Fail> {
 
 #[test]
 fn refuses_descriptions_over_a_limit(rt: HostRuntime) -> Result<(), Fail> {
-    let levels =
-        "Group:1 Group:1 Group:1 Group:1 Group:1 Group:1 Group:1 Group:1 Group:1 Group:1 Group:1 Group:1 Group:1 Group:1 Group:1 Group:1 PU:1";
+    let levels = "Group:1 Group:1 Group:1 Group:1 Group:1 Group:1 Group:1 \
+         Group:1 Group:1 Group:1 Group:1 Group:1 Group:1 Group:1 Group:1 Group:1 PU:1";
     let cases: [(&str, SynthFault, &str); 2] = [
         (
             levels,

@@ -1,16 +1,20 @@
 // The top call.
-ghost use Rattle.std.specs.Prelude.{◌≡◌, ◌≢◌, ◌<◌, ◌+◌, ◌⊎◌, ◌↔◌, ℕ, List, length, take, IfSome};
-ghost use Rattle.edge_io.specs.Counts.{Rose, RisesBy};
+ghost use Rattle.std.specs.Prelude.{◌≡◌, ◌≢◌, ◌<◌, ◌⊎◌, ◌↔◌, ℕ, List, Some, length, take, IfErr, IfOk, IfSome};
+ghost use Rattle.edge_io.specs.Counts.{Rose};
 ghost use Rattle.edge_io.specs.Contents.{Gains, IsDrained};
+ghost use Rattle.edge_io.specs.Reading.{HasGiven};
 ghost use Rattle.clof_tool.specs.declared.status.Status.{Status as AnyStatus};
-ghost use Rattle.clof_tool.specs.declared.status.Fault.{Fault as AnyFault};
+ghost use Rattle.clof_tool.specs.Line.{line_of};
 ghost use Rattle.clof_tool.specs.Words.{Asked, Says, IsUsage};
 ghost use Rattle.clof_tool.specs.Run.{input_limit};
-ghost use Rattle.clof_tool.specs.Outcome.{ReadsInput, IsInput, IsAnswer, Refuses, IsRefusal, HasWritten};
+ghost use Rattle.clof_tool.specs.Outcome.{ReadsInput, IsInput, HasRead, IsAnswer, WordsRefused, InputRefused, HasCause, IsRefusal};
+ghost use Rattle.clof_tool.specs.Outcome.{HasWritten};
 
 use crate::Status;
 use crate::answer::answer;
-use edge_io::{Sink, Source};
+use crate::report::report;
+use crate::words::read_words;
+use edge_io::{Sink, Source, Stopped, write_all};
 use std::alloc::Global;
 use std::sync::Wait;
 use std::thread::Threads;
@@ -36,35 +40,90 @@ pub fn top<R: Threads + Wait + Sync, S: Source, K: Sink, E: Sink>(
     ensures unread { result ≡ Status.Usage → source.new ≡ source.old }
     ensures unread_else { (asked : Asked) → Says words.now asked → (ReadsInput asked → ⊥) → source.new ≡ source.old }
 
+    // What is refused by the words alone, whatever the input is.
+    ensures words_refused { (asked : Asked) (status : AnyStatus) → Says words.now asked → WordsRefused asked status →
+        (result ≡ status) ⊎ (result ≡ Status.OutOfMemory) }
+    ensures unread_refused { (asked : Asked) (status : AnyStatus) → Says words.now asked → WordsRefused asked status →
+        source.new ≡ source.old }
+
+    // What is refused by what was read, and the cause of each refusal.
+    ensures input_refused { (asked : Asked) (input : List ℕ) (status : AnyStatus) → Says words.now asked →
+        S.left source.old ≡ Some input → InputRefused asked input status → (Rose (S.faults source.old) (S.faults source.new) → ⊥) →
+        (result ≡ status) ⊎ (result ≡ Status.OutOfMemory) }
+    ensures cause { (asked : Asked) → Says words.now asked → IsRefusal result →
+        HasCause asked (S.left source.old) (S.given source.old) (S.given source.new) result }
+
     // What is printed, and that the input was read to its end.
-    ensures printed { (asked : Asked) (input : List ℕ) → Says words.now asked → IsInput asked (S.left source.old) input → result ≡ Status.Ok →
-        (text : List ℕ) × IsAnswer asked input text × Gains (K.held out.old) (K.held out.new) text }
-    ensures at_end { (asked : Asked) → Says words.now asked → ReadsInput asked → result ≡ Status.Ok → IsDrained (S.left source.old) (S.left source.new) }
+    ensures printed { (asked : Asked) → Says words.now asked → result ≡ Status.Ok →
+        (input : List ℕ) × (text : List ℕ) × HasRead asked (S.left source.old) (S.given source.old) (S.given source.new) input
+        × IsAnswer asked input text × Gains (K.held out.old) (K.held out.new) text }
+    ensures at_end { (asked : Asked) → Says words.now asked → ReadsInput asked → result ≡ Status.Ok →
+        IsDrained (S.left source.old) (S.left source.new) }
+    ensures complete { (asked : Asked) (input text : List ℕ) →
+        Says words.now asked → IsInput asked (S.left source.old) input → IsAnswer asked input text →
+        (ReadsInput asked → Rose (S.faults source.old) (S.faults source.new) → ⊥) →
+        (Rose (K.faults out.old) (K.faults out.new) → ⊥) → (Rose (K.stalls out.old) (K.stalls out.new) → ⊥) →
+        (result ≡ Status.Ok) ⊎ (result ≡ Status.OutOfMemory) }
 
-    // What is refused.
-    ensures refusal { (asked : Asked) (input : List ℕ) → Says words.now asked → IsInput asked (S.left source.old) input → IsRefusal result → Refuses asked input result }
-    ensures limit { (asked : Asked) (fault : AnyFault) → Says words.now asked → ReadsInput asked → result ≡ Status.Limit fault →
-        RisesBy (input_limit + 1) (S.given source.old) (S.given source.new) }
-    ensures refused { (asked : Asked) (input : List ℕ) (status : AnyStatus) → Says words.now asked → IsInput asked (S.left source.old) input → Refuses asked input status →
-        (ReadsInput asked → Rose (S.faults source.old) (S.faults source.new) → ⊥) → (result ≡ status) ⊎ (result ≡ Status.OutOfMemory) }
-
-    // Faults of the source and of the output.
+    // Faults of the source.
     ensures read_fault { result ≡ Status.ReadFault → Rose (S.faults source.old) (S.faults source.new) }
     ensures read_fault_input { (asked : Asked) → Says words.now asked → result ≡ Status.ReadFault → ReadsInput asked }
+    ensures read_in_part { result ≡ Status.ReadFault →
+        HasGiven input_limit (S.left source.old) (S.left source.new) (S.given source.old) (S.given source.new) }
     ensures read_calm { result ≢ Status.ReadFault → S.faults source.new ≡ S.faults source.old }
+
+    // The output: faults and stalls, what they leave, and calm where all goes well.
     ensures write_fault { (written : ℕ) → result ≡ Status.WriteFault written →
         Rose (K.faults out.old) (K.faults out.new) ⊎ Rose (K.stalls out.old) (K.stalls out.new) }
     ensures write_full { (written : ℕ) → result ≡ Status.WriteFault written →
         Rose (K.faults out.old) (K.faults out.new) ⊎ IfSome (K.room out.old) (λ room. room ≡ written) }
-    ensures cut_short { (asked : Asked) (input : List ℕ) (written : ℕ) → Says words.now asked → IsInput asked (S.left source.old) input → result ≡ Status.WriteFault written →
-        (text : List ℕ) × IsAnswer asked input text × (written < length text) × Gains (K.held out.old) (K.held out.new) (take written text) }
+    ensures cut_short { (asked : Asked) (written : ℕ) → Says words.now asked → result ≡ Status.WriteFault written →
+        (input : List ℕ) × (text : List ℕ) × HasRead asked (S.left source.old) (S.given source.old) (S.given source.new) input
+        × IsAnswer asked input text × (written < length text) × Gains (K.held out.old) (K.held out.new) (take written text) }
     ensures unwritten { (HasWritten result → ⊥) → out.new ≡ out.old }
+    ensures no_write_fault { result ≡ Status.Ok → K.faults out.new ≡ K.faults out.old }
+    ensures no_stall { result ≡ Status.Ok → K.stalls out.new ≡ K.stalls out.old }
 
-    // Where nothing goes wrong, the text is printed.
-    ensures complete { (asked : Asked) (input text : List ℕ) → Says words.now asked → IsInput asked (S.left source.old) input → IsAnswer asked input text →
-        (ReadsInput asked → Rose (S.faults source.old) (S.faults source.new) → ⊥) → (Rose (K.faults out.old) (K.faults out.new) → ⊥) → (Rose (K.stalls out.old) (K.stalls out.new) → ⊥) →
-        (result ≡ Status.Ok) ⊎ (result ≡ Status.OutOfMemory) }
+    // Standard error: nothing on Ok, else the line, or a part of it where it could not all be written.
+    ensures silent { result ≡ Status.Ok → err.new ≡ err.old }
+    ensures told { result ≢ Status.Ok →
+        (Rose (E.faults err.old) (E.faults err.new) → ⊥) → (Rose (E.stalls err.old) (E.stalls err.new) → ⊥) →
+        Gains (E.held err.old) (E.held err.new) (line_of result) }
+    ensures told_in_part { result ≢ Status.Ok → (written : ℕ) × Gains (E.held err.old) (E.held err.new) (take written (line_of result)) }
 {
     let _runtime = rt;
-    answer(alloc, words, source, out, err)
+    let Some(asked) = read_words(words) else {
+        report(err, &Status::Usage);
+        return Status::Usage;
+    };
+    let status = print(answer(alloc, asked, source), out);
+    report(err, &status);
+    status
+}
+
+// Writes the text of an answer, or hands on the status where there is none.
+fn print<K: Sink>(answer: Result<Vec<u8>, Status>, out: &mut K) -> Status
+    requires { IfErr answer (λ status. HasWritten status → ⊥) }
+    ensures refused { IfErr answer (λ status. result ≡ status) }
+    ensures done { IfOk answer (λ _. HasWritten result) }
+    ensures printed { result ≡ Status.Ok → IfOk answer (λ text. Gains (K.held out.old) (K.held out.new) text.items) }
+    ensures write_fault { (written : ℕ) → result ≡ Status.WriteFault written →
+        Rose (K.faults out.old) (K.faults out.new) ⊎ Rose (K.stalls out.old) (K.stalls out.new) }
+    ensures write_full { (written : ℕ) → result ≡ Status.WriteFault written →
+        Rose (K.faults out.old) (K.faults out.new) ⊎ IfSome (K.room out.old) (λ room. room ≡ written) }
+    ensures cut_short { (written : ℕ) → result ≡ Status.WriteFault written →
+        IfOk answer (λ text. (written < length text.items) × Gains (K.held out.old) (K.held out.new) (take written text.items)) }
+    ensures unwritten { (HasWritten result → ⊥) → out.new ≡ out.old }
+    ensures no_write_fault { result ≡ Status.Ok → K.faults out.new ≡ K.faults out.old }
+    ensures no_stall { result ≡ Status.Ok → K.stalls out.new ≡ K.stalls out.old }
+    ensures complete { (Rose (K.faults out.old) (K.faults out.new) → ⊥) → (Rose (K.stalls out.old) (K.stalls out.new) → ⊥) →
+        IfOk answer (λ _. result ≡ Status.Ok) }
+{
+    match answer {
+        Ok(text) => match write_all(out, &text) {
+            Ok(()) => Status::Ok,
+            Err(Stopped { written }) => Status::WriteFault { written },
+        },
+        Err(status) => status,
+    }
 }

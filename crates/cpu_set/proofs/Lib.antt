@@ -14,3 +14,4 @@ pub mod Searches
 pub mod SetSteps
 pub mod TasksetText
 pub mod Weights
+pub mod TestLaws

@@ -1,13 +1,17 @@
 -- The lowest number from a start on, and the highest number, found word by word.
 use Rattle.std.proofs.Common.{◌≡◌, ◌≢◌, ℕ, ◌+◌, ◌-◌, ◌*◌, ◌/◌, ◌%◌, ◌^◌, ◌<◌, ◌≤◌, Bool, true, false, not, ◌&&◌, ◌==◌, nat_le, List, [], ◌∷◌, get_or, refl, sym, ap, ◌∙◌, arith, inl, inr, bit_and, w32}
 use Rattle.std.specs.Int.{bit_at, trailing_zeros, leading_zeros}
-use Rattle.std.proofs.lemmas.Bool.{cases_lt, and_parts, not-true, le-leb, leb-true, false≢true}
+use Rattle.std.specs.Bool.{Decides}
+use Rattle.std.proofs.lemmas.Bool.{cases_lt, and_parts, not-true, le-leb, leb-true, false≢true, false_from_ne_true}
+use Rattle.std.proofs.lemmas.Bool.Decides.{Decides-and}
 use Rattle.std.specs.Int.{bit_not}
-use Rattle.std.specs.List.{All, Contains}
-use Rattle.std.proofs.lemmas.List.Elements.{All-get_or, All-from_get_or, All-contains, Contains-get_or}
+use Rattle.std.specs.List.{All, AllByRecursion as ByRecursion, Contains, list_any, list_all}
+use Rattle.std.proofs.lemmas.List.Elements.{All-get_or, All-from_get_or, All-contains, All-from_recursion, recursion_from_All, Contains-get_or, at_from_Contains}
+use Rattle.std.proofs.lemmas.List.Folds.{list_any_none, list_any_at}
 use Rattle.std.proofs.lemmas.Nat.{and_le_l}
 use Rattle.std.proofs.lemmas.Nat.Bits.{ones_shl, bit_at-zero}
 use Rattle.cpu_set.specs.Sets.{has, IsSet}
+use Rattle.cpu_set.specs.Tests.{meets, is_inside}
 use Rattle.cpu_set.specs.SetLaws.{has-past, Decides-has}
 use Rattle.cpu_set.specs.Bits.{is_bit_of, AreWords, set_of_words}
 use Rattle.cpu_set.specs.WordLaws.{is_bit_of-at, test_from_bit}
@@ -183,3 +187,63 @@ module _ (ones others one_set other_set : List ℕ) (one_view : set_of_words one
       let here : has one_set n ≡ true = has-view ones one_set one_view n limit ∙ is_bit_of-at ones place bit lowest.within ∙ parts.0 in
       let there : has other_set n ≡ false = has-view others other_set other_view n limit ∙ is_bit_of-at others place bit lowest.within ∙ not-true (bit_at (get_or others place 0) bit == 1) parts.1 in
       false≢true (sym there ∙ (Decides-has other_set n).1 (All-contains (Contains other_set) one_set n all ((Decides-has one_set n).0 here)))
+
+-- ---- a number in common
+
+-- the first so many words of the two sets have no bit in common
+pub record ApartUpTo (ones others : List ℕ) (place : ℕ) : Type 0 where
+  pub none : (k : ℕ) → k < place → bit_and (get_or ones k 0) (get_or others k 0) ≡ 0
+
+pub apart_none : (ones others : List ℕ) → ApartUpTo ones others 0
+apart_none ones others = record { none = λ k h. absurd (omega arith) }
+
+pub apart_more : (ones others : List ℕ) (place : ℕ) → ApartUpTo ones others place → bit_and (get_or ones place 0) (get_or others place 0) ≡ 0 → ApartUpTo ones others (place + 1)
+apart_more ones others place so_far here = record {
+  none = λ k h. elim (cases_lt k place) [
+    | inl before ↦ so_far.none k before
+    | inr last ↦ ap (λ p. bit_and (get_or ones p 0) (get_or others p 0)) (let same : k ≡ place = omega arith in same) ∙ here
+  ];
+}
+
+left_out : (a b : Bool) → (a && b) ≡ false → a ≡ true → b ≡ false
+left_out true b none yes_a = none
+left_out false b none yes_a = absurd (false≢true yes_a)
+
+module _ (ones others one_set other_set : List ℕ) (one_view : set_of_words ones ≡ one_set) (other_view : set_of_words others ≡ other_set) (are_ones : AreWords ones) where
+  pub apart_all : (place : ℕ) → 128 ≤ place → ApartUpTo ones others place → meets one_set other_set ≡ false
+  unfolding meets
+  apart_all place all apart = list_any_none (has other_set) one_set (All-from_get_or (λ n. has other_set n ≡ false) one_set 0 (λ i within.
+      let n = get_or one_set i 0 in
+      let ok = IsSet-view ones one_set one_view in
+      let limit : n < 4096 = All-get_or (λ m. m < 4096) one_set i 0 within ok.below in
+      let here : has one_set n ≡ true = (Decides-has one_set n).1 (Contains-get_or one_set i 0 within) in
+      let bits = sym (test-and (get_or ones (n / 32) 0) (get_or others (n / 32) 0) (n % 32))
+      ∙ ap (λ word. bit_at word (n % 32) == 1) (apart.none (n / 32) (omega arith)) ∙ ap (λ value. value == 1) (bit_at-zero (n % 32)) in
+      has-view others other_set other_view n limit ∙ left_out (is_bit_of ones n) (is_bit_of others n) bits (sym (has-view ones one_set one_view n limit) ∙ here)))
+
+  pub not_apart : (place : ℕ) → place < 128 → bit_and (get_or ones place 0) (get_or others place 0) ≢ 0 → meets one_set other_set ≡ true
+  unfolding meets
+  not_apart place below some =
+      let lowest = LowestBit-trailing_zeros (bit_and (get_or ones place 0) (get_or others place 0)) some (omega (arith, and_le_l (get_or ones place 0) (get_or others place 0), narrow_word ones place are_ones below)) in
+      let bit = trailing_zeros w32 (bit_and (get_or ones place 0) (get_or others place 0)) in
+      let n = 32 * place + bit in
+      let limit : n < 4096 = omega (arith, lowest.within) in
+      let parts = and_parts (bit_at (get_or ones place 0) bit == 1) (bit_at (get_or others place 0) bit == 1)
+      (sym (test-and (get_or ones place 0) (get_or others place 0) bit) ∙ lowest.is_set) in
+      let here : has one_set n ≡ true = has-view ones one_set one_view n limit ∙ is_bit_of-at ones place bit lowest.within ∙ parts.0 in
+      let there : has other_set n ≡ true = has-view others other_set other_view n limit ∙ is_bit_of-at others place bit lowest.within ∙ parts.1 in
+      let at = at_from_Contains one_set n ((Decides-has one_set n).0 here) in
+      list_any_at (has other_set) one_set at.0 n at.1 (ap (has other_set) (at.2 n) ∙ there)
+
+-- ---- the test for one set inside another
+
+Decides-inside : (one other : List ℕ) → Decides (is_inside one other) (ByRecursion (Contains other) one)
+unfolding is_inside
+Decides-inside [] other = (λ _. tt, λ _. refl)
+Decides-inside (number ∷ numbers) other = Decides-and (has other number) (list_all (has other) numbers) (Decides-has other number) (Decides-inside numbers other)
+
+pub is_inside-yes : (one other : List ℕ) → All (Contains other) one → is_inside one other ≡ true
+is_inside-yes one other all = (Decides-inside one other).1 (recursion_from_All (Contains other) one all)
+
+pub is_inside-no : (one other : List ℕ) → ¬ (All (Contains other) one) → is_inside one other ≡ false
+is_inside-no one other out = false_from_ne_true (is_inside one other) (λ yes. out (All-from_recursion (Contains other) one ((Decides-inside one other).0 yes)))

@@ -1,4 +1,5 @@
 pub mod Sets
+pub mod Tests
 pub mod SetLaws
 pub mod Bits
 pub mod WordLaws

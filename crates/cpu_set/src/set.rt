@@ -3,6 +3,7 @@
 ghost use Rattle.std.specs.Prelude.{◌≡◌, ℕ, ◌+◌, ◌*◌, ◌/◌, ◌%◌, ◌<◌, ◌≤◌, ◌↔◌, ◌||◌, ◌&&◌, ◌==◌, nat_le, [], ◌∷◌, length, All, Contains, IsTrue, IsNone, IfNone, IfSome, slice_get};
 ghost use Rattle.std.specs.Int.{bit_at};
 ghost use Rattle.cpu_set.specs.Sets.{IsSet, has, numbers_where, union, minus, meet, xor};
+ghost use Rattle.cpu_set.specs.Tests.{meets, is_inside};
 ghost use Rattle.cpu_set.specs.Bits.{word_of};
 ghost use Rattle.cpu_set.specs.Texts.{highest, numbers_from};
 
@@ -130,9 +131,22 @@ impl CpuSet {
         CpuSet { words }
     }
 
+    /// Whether some number of this set is in the other.
+    pub fn meets(&self, other: &CpuSet) -> bool
+        ensures { result ≡ meets self.now other.now }
+    {
+        'words: for place in 0..WORDS {
+            if self.words[place] & other.words[place] != 0 {
+                return true;
+            }
+        }
+        false
+    }
+
     /// Whether every number of this set is in the other.
     pub fn inside(&self, other: &CpuSet) -> bool
-        ensures { IsTrue result ↔ All (Contains other.now) self.now }
+        ensures all { IsTrue result ↔ All (Contains other.now) self.now }
+        ensures test { result ≡ is_inside self.now other.now }
     {
         'words: for place in 0..WORDS {
             if self.words[place] & !other.words[place] != 0 {

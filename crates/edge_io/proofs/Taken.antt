@@ -1,5 +1,28 @@
 -- What several reads take together.
-use Rattle.std.proofs.Common.{◌≡◌, ℕ, ◌+◌, ◌-◌, ◌≤◌, ◌<◌, List, [], ◌++◌, length, Some, None, refl, sym, ◌∙◌, ap, append_assoc, append-nil, arith, length-append, take, drop}
+use Rattle.std.proofs.Common.{
+  ◌≡◌,
+  ℕ,
+  ◌+◌,
+  ◌-◌,
+  ◌≤◌,
+  ◌<◌,
+  List,
+  [],
+  ◌++◌,
+  length,
+  Some,
+  None,
+  refl,
+  sym,
+  ◌∙◌,
+  ap,
+  append_assoc,
+  append-nil,
+  arith,
+  length-append,
+  take,
+  drop,
+}
 use Rattle.std.proofs.lemmas.List.{take-append-drop, drop-drop}
 use Rattle.std.proofs.Math.Seq.{take-append_seam}
 use Rattle.std.specs.Prelude.{IfSome}
@@ -32,12 +55,14 @@ took_all (Some bytes) now xs lost end =
     sym (lost.2 ∙ rw rest (simp append-nil))
 
 -- what was taken is no longer than what was left
-pub took_within : (left now : Option (List ℕ)) (xs : List ℕ) (limit : ℕ) → Loses left now xs → limit < length xs → IfSome left (λ all. limit < length all)
+pub took_within : (left now : Option (List ℕ)) (xs : List ℕ) (limit : ℕ) → Loses left now xs → limit < length xs
+    → IfSome left (λ all. limit < length all)
 took_within None now xs limit lost longer = tt
 took_within (Some bytes) now xs limit lost longer = rw lost.2 (simp length-append (omega arith))
 
 -- what was given before, and then some bytes more
-pub given_more : (left mid now : Option (List ℕ)) (given given_mid given_now limit size : ℕ) (xs : List ℕ) → size ≡ length xs → Loses left mid xs → RisesBy size given given_mid → size ≤ limit
+pub given_more : (left mid now : Option (List ℕ)) (given given_mid given_now limit size : ℕ) (xs : List ℕ) → size ≡ length xs
+    → Loses left mid xs → RisesBy size given given_mid → size ≤ limit
     → HasGiven (limit - size) mid now given_mid given_now → HasGiven limit left now given given_now
 given_more left mid now given given_mid given_now limit size xs sized lost rises within more = record {
   bytes = xs ++ more.bytes;
@@ -61,7 +86,8 @@ falls_both (Some room) mid now m n first second =
     (later.0, later.1, omega (arith, first.2, later.2))
 
 -- a text from a place on: what was copied from there to the front of a buffer, and what stands behind it
-pub front_copied : (bytes front tail : List ℕ) (at count : ℕ) → length front ≡ count → front ≡ take count (drop at bytes) → drop at bytes ≡ take count (front ++ tail) ++ drop (at + count) bytes
+pub front_copied : (bytes front tail : List ℕ) (at count : ℕ) → length front ≡ count → front ≡ take count (drop at bytes)
+    → drop at bytes ≡ take count (front ++ tail) ++ drop (at + count) bytes
 front_copied bytes front tail at count size copied =
     let seam : take count (front ++ tail) ≡ front = rw (← size) (take-append_seam front tail) in
     let parts : take count (drop at bytes) ++ drop count (drop at bytes) ≡ drop at bytes = take-append-drop count (drop at bytes) in

@@ -1,5 +1,6 @@
 // Sinks in memory.
-ghost use Rattle.std.specs.Prelude.{◌≡◌, ◌≤◌, ◌<◌, ◌+◌, ◌-◌, ◌++◌, length, take, min, vec_len, vec_capacity, Contains, IfOk, OnOk, OnErr, [], Some};
+ghost use Rattle.std.specs.Prelude.{◌≡◌, ◌≤◌, ◌<◌, ◌+◌, ◌-◌, ◌++◌, length, take, min, vec_len, vec_capacity, Contains, IfOk, OnOk, OnErr};
+ghost use Rattle.std.specs.Prelude.{[], Some};
 ghost use Rattle.edge_io.specs.Counts.{Rose};
 ghost use Rattle.edge_io.specs.Contents.{Gains, FallsBy, IsSpent};
 ghost use Rattle.edge_io.specs.InMemory.{Tray, SureTray, one_more};
@@ -47,7 +48,8 @@ impl MemSink {
         failing: Vec<u32>,
     ) -> Result<MemSink, OutOfMemory>
         requires { 1 ≤ piece }
-        ensures { IfOk result (λ sink. sink ≡ record { held = []; room = room; piece = piece; failing = failing.items; calls = 0; faults = 0; stalls = 0 }) }
+        ensures { IfOk result (λ sink.
+            sink ≡ record { held = []; room = room; piece = piece; failing = failing.items; calls = 0; faults = 0; stalls = 0 }) }
     {
         Ok(MemSink {
             bytes: Vec::with_capacity(alloc, room)?,

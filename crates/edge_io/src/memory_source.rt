@@ -1,5 +1,6 @@
 // Sources over bytes in memory.
-ghost use Rattle.std.specs.Prelude.{◌≡◌, ◌≤◌, ◌<◌, ◌↔◌, ◌+◌, ◌-◌, ◌++◌, IsTrue, length, take, drop, min, Contains, IfOk, OnOk, OnErr, [], Some};
+ghost use Rattle.std.specs.Prelude.{◌≡◌, ◌≤◌, ◌<◌, ◌↔◌, ◌+◌, ◌-◌, ◌++◌, IsTrue, length, take, drop, min, Contains, IfOk, OnOk, OnErr, []};
+ghost use Rattle.std.specs.Prelude.{Some};
 ghost use Rattle.edge_io.specs.Counts.{Rose, RisesBy};
 ghost use Rattle.edge_io.specs.Contents.{Loses, IsAtEnd};
 ghost use Rattle.edge_io.specs.InMemory.{Feed, SureFeed, one_more};

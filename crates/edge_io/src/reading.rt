@@ -67,7 +67,8 @@ fn read_piece<S: Source>(
     ensures fault { result ≡ Err ReadAllFault.Fault → Rose (S.faults source.old) (S.faults source.new) }
     ensures not_too_long { result ≢ Err ReadAllFault.TooLong }
     ensures calm { result ≢ Err ReadAllFault.Fault → S.faults source.new ≡ S.faults source.old }
-    ensures dropped { OnErr result (HasGiven (limit - vec_len bytes.old) (S.left source.old) (S.left source.new) (S.given source.old) (S.given source.new)) }
+    ensures dropped { OnErr result
+        (HasGiven (limit - vec_len bytes.old) (S.left source.old) (S.left source.new) (S.given source.old) (S.given source.new)) }
     ensures never_falls { S.faults source.old ≤ S.faults source.new }
 {
     let wanted = buffer.len().min(limit + 1 - bytes.len());

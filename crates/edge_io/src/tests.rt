@@ -92,6 +92,23 @@ fn a_source_gives_pieces_and_fails_as_listed(rt: HostRuntime) -> Result<(), Fail
     Ok(())
 }
 
+// Nothing is read behind a fault: the source goes on with its next call and its next byte.
+#[test]
+fn reads_no_further_than_a_fault(rt: HostRuntime) -> Result<(), Fail> {
+    let mut source = source(&rt, b"abcdefgh", 3, &[1, 2])?;
+    assert!(rt;
+        matches!(
+            &read_all(rt.alloc(), &mut source, 100),
+            Err(ReadAllFault::Fault)
+        )
+    );
+    let mut buf = [0; 4];
+    assert_eq!(rt; source.read(&mut buf), Err(Failed));
+    assert_eq!(rt; source.read(&mut buf), Ok(3));
+    assert_eq!(rt; buf[..3], b"def"[..]);
+    Ok(())
+}
+
 #[test]
 fn writes_all_or_stops_behind_a_prefix(rt: HostRuntime) -> Result<(), Fail> {
     let mut whole = MemSink::new(rt.alloc(), 5, 2, Vec::new(rt.alloc()))?;
@@ -179,7 +196,7 @@ impl<'a> Write for Halting<'a> {
 
 #[test]
 fn adapters_make_an_interrupted_call_again(rt: HostRuntime) {
-    let kinds = [ErrorKind::Interrupted, ErrorKind::Interrupted];
+    let kinds = [ErrorKind::Interrupted; 1_000];
     let mut buf = [0; 2];
     let mut source = StdSource::new(Halting {
         kinds: &kinds,

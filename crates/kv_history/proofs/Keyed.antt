@@ -11,7 +11,22 @@ use Rattle.std.specs.List as list
 use Rattle.std.specs.Str.{bytes_eq}
 use Rattle.std.specs.Ordering.{nat_cmp, eq_by_cmp}
 use Rattle.std.specs.Cmp.Lexicographic.{slice_cmp}
-use Rattle.std.specs.FinMap.{FinMap, find, get, insert, remove, from_entries, from_entries_push, get-from_entries, get-insert, get-remove, same_map, slice_cmp-IsAntisymmetric, nat_cmp-IsAntisymmetric, IsAntisymmetric}
+use Rattle.std.specs.FinMap.{
+  FinMap,
+  find,
+  get,
+  insert,
+  remove,
+  from_entries,
+  from_entries_push,
+  get-from_entries,
+  get-insert,
+  get-remove,
+  same_map,
+  slice_cmp-IsAntisymmetric,
+  nat_cmp-IsAntisymmetric,
+  IsAntisymmetric,
+}
 use Rattle.kv_history.specs.declared.item.Item.{Item}
 use Rattle.kv_history.specs.Contents as contents
 use Rattle.kv_history.specs.Views.{plain_item, keyed}
@@ -23,26 +38,33 @@ distinct : IsAntisymmetric order
 distinct = slice_cmp-IsAntisymmetric nat_cmp-IsAntisymmetric
 
 -- the first item with a key is what the map of the items has there
-found_first : {A B : Type 0} (f : A → B) (t : Bool) (x : A) (o : Option A) (p : Option B) → p ≡ option_map f o → cond t (Some (f x)) p ≡ option_map f (cond t (Some x) o)
+found_first : {A B : Type 0} (f : A → B) (t : Bool) (x : A) (o : Option A) (p : Option B) → p ≡ option_map f o
+    → cond t (Some (f x)) p ≡ option_map f (cond t (Some x) o)
 found_first f true x o p is = refl
 found_first f false x o p is = is
 
-find-keyed : (key : List ℕ) (items : List Item) → find order key (map keyed items) ≡ option_map plain_item (list.find (λ item. bytes_eq key item.key.items) items)
+find-keyed : (key : List ℕ) (items : List Item)
+    → find order key (map keyed items) ≡ option_map plain_item (list.find (λ item. bytes_eq key item.key.items) items)
 find-keyed key [] = refl
 find-keyed key (item ∷ items) =
     rw (is_eq-slice_cmp key item.key.items) (found_first plain_item (bytes_eq key item.key.items) item _ _ (find-keyed key items))
 
-pub get-keyed : (key : List ℕ) (items : List Item) → get (from_entries {R = order} (map keyed items)) key ≡ option_map plain_item (list.find (λ item. bytes_eq key item.key.items) items)
+pub get-keyed : (key : List ℕ) (items : List Item)
+    → get (from_entries {R = order} (map keyed items)) key ≡ option_map plain_item (list.find (λ item. bytes_eq key item.key.items) items)
 get-keyed key items = get-from_entries nat_list_cmp_total (map keyed items) key ∙ find-keyed key items
 
 -- without the items of a key, the map has nothing there and what it had at others
-found_step : {B : Type 0} (t u w : Bool) (x : Option B) (more kept : Option B) → (t ≡ true → w ≡ u) → (t ≡ false → u ≡ true → w ≡ false) → kept ≡ cond u None more → cond (not t) (cond w x kept) kept ≡ cond u None (cond w x more)
+found_step : {B : Type 0} (t u w : Bool) (x : Option B) (more kept : Option B) → (t ≡ true → w ≡ u) → (t ≡ false → u ≡ true → w ≡ false)
+    → kept ≡ cond u None more → cond (not t) (cond w x kept) kept ≡ cond u None (cond w x more)
 found_step true true w x more kept same apart is = is
 found_step true false w x more kept same apart is = rw (same refl) is
 found_step false true w x more kept same apart is = rw (apart refl refl) is
 found_step false false w x more kept same apart is = ap (cond w x) is
 
-find_in_cond : (q : List ℕ) (b : Bool) (item : Item) (items : List Item) → find order q (map keyed (cond b (item ∷ items) items)) ≡ cond b (cond (eq_by_cmp order q item.key.items) (Some (plain_item item)) (find order q (map keyed items))) (find order q (map keyed items))
+find_in_cond : (q : List ℕ) (b : Bool) (item : Item) (items : List Item)
+    → find order q (map keyed (cond b (item ∷ items) items))
+    ≡ cond b (cond (eq_by_cmp order q item.key.items) (Some (plain_item item)) (find order q (map keyed items)))
+    (find order q (map keyed items))
 find_in_cond q true item items = refl
 find_in_cond q false item items = refl
 
@@ -55,7 +77,9 @@ none_either : {B : Type 0} (b : Bool) → ◌≡◌ {A = Option B} None (cond b 
 none_either true = refl
 none_either false = refl
 
-find-others : (key q : List ℕ) (items : List Item) → find order q (map keyed (filter (λ item. not (bytes_eq key item.key.items)) items)) ≡ cond (eq_by_cmp order q key) None (find order q (map keyed items))
+find-others : (key q : List ℕ) (items : List Item)
+    → find order q (map keyed (filter (λ item. not (bytes_eq key item.key.items)) items))
+    ≡ cond (eq_by_cmp order q key) None (find order q (map keyed items))
 find-others key q [] = none_either (eq_by_cmp order q key)
 find-others key q (item ∷ items) =
     find_in_cond q (not (bytes_eq key item.key.items)) item (filter (λ item. not (bytes_eq key item.key.items)) items)
@@ -64,7 +88,9 @@ find-others key q (item ∷ items) =
     (λ differs. others_apart q key item.key.items differs)
     (find-others key q items)
 
-pub remove-keyed : (key : List ℕ) (items : List Item) → from_entries {R = order} (map keyed (filter (λ item. not (bytes_eq key item.key.items)) items)) ≡ remove (from_entries (map keyed items)) key
+pub remove-keyed : (key : List ℕ) (items : List Item)
+    → from_entries {R = order} (map keyed (filter (λ item. not (bytes_eq key item.key.items)) items))
+    ≡ remove (from_entries (map keyed items)) key
 remove-keyed key items =
     same_map nat_list_cmp_total distinct _ _
     (λ q. get-from_entries nat_list_cmp_total _ q
@@ -88,12 +114,14 @@ insert_over m key item =
     chosen true x y z = refl
     chosen false x y z = refl
 
-pub insert-keyed : (item : Item) (items : List Item) → from_entries {R = order} (map keyed (filter (λ other. not (bytes_eq item.key.items other.key.items)) items ++ item ∷ []))
+pub insert-keyed : (item : Item) (items : List Item)
+    → from_entries {R = order} (map keyed (filter (λ other. not (bytes_eq item.key.items other.key.items)) items ++ item ∷ []))
     ≡ insert (from_entries (map keyed items)) item.key.items (plain_item item)
 insert-keyed item items =
     let key = item.key.items in
     let kept = filter (λ (other : Item). not (bytes_eq key other.key.items)) items in
-    let absent : find order key (map keyed kept) ≡ None = find-others key key items ∙ ap (λ b. cond b None (find order key (map keyed items))) (itself key) in
+    let absent : find order key (map keyed kept) ≡ None =
+    find-others key key items ∙ ap (λ b. cond b None (find order key (map keyed items))) (itself key) in
     ap (from_entries {R = order}) (map-append keyed kept (item ∷ []))
     ∙ from_entries_push nat_list_cmp_total distinct (map keyed kept) key (plain_item item) absent
     ∙ ap (λ m. insert m key (plain_item item)) (remove-keyed key items)

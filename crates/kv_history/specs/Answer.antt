@@ -16,7 +16,8 @@ new_item storing unique = record { flags = storing.flags; block = storing.block;
 
 -- the items once one is stored: a negative expiry time lets it expire at once, so that its key is absent
 abbrev pub items_with : Items → Storing → ℕ → Items
-items_with items storing unique = if int_lt storing.exptime (pos 0) then map.remove items storing.key else map.insert items storing.key (new_item storing unique)
+items_with items storing unique = if int_lt storing.exptime (pos 0) then map.remove items storing.key
+    else map.insert items storing.key (new_item storing unique)
 
 -- to store an item gives it the next unique, and uses that up
 abbrev pub with_item : Contents → Storing → Contents
@@ -32,7 +33,8 @@ line_end uniques unique = if uniques then codes " " ++ decimal unique ++ codes "
 -- an item in a reply: a line with its key, its flags and the length of its value, and the value with a line end
 unfoldable pub written_item : Bool → List ℕ → Item → List ℕ
 written_item uniques key item =
-    codes "VALUE " ++ key ++ codes " " ++ decimal item.flags ++ codes " " ++ decimal (length item.block) ++ line_end uniques item.unique ++ item.block ++ codes "\r\n"
+    codes "VALUE " ++ key ++ codes " " ++ decimal item.flags ++ codes " " ++ decimal (length item.block) ++ line_end uniques item.unique
+    ++ item.block ++ codes "\r\n"
 
 -- what a reply says of a key: its item, or nothing where it is absent
 abbrev pub written_key : Items → Bool → List ℕ → List ℕ

@@ -71,7 +71,8 @@ EachHasSection log = All (λ entry. entry.caller < length log.sections) log.entr
 -- the commands of each caller's entries are the first ones of its section, in its order
 abbrev pub EachOwnFirst : Log → Type 0
 EachOwnFirst log =
-    (caller : ℕ) (section : List ℕ) → slice_get log.sections caller ≡ Some section → (rest : List WholeCommand) × (commands_of section ≡ own log.entries caller ++ rest)
+    (caller : ℕ) (section : List ℕ) → slice_get log.sections caller ≡ Some section
+    → (rest : List WholeCommand) × (commands_of section ≡ own log.entries caller ++ rest)
 
 -- what holds of every journal
 pub record IsSound (log : Log) : Type 0 where

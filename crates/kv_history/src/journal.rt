@@ -1,11 +1,13 @@
 // The journal.
-ghost use Rattle.std.specs.Prelude.{◌≡◌, ◌^◌, ◌<◌, ◌≤◌, ◌↔◌, ◌++◌, ◌∷◌, [], length, map, option_map, slice_get, sum_by, vec_capacity, vec_len, not, IfOk, IsTrue, OnErr, OnOk, Some};
+ghost use Rattle.std.specs.Prelude.{◌≡◌, ◌^◌, ◌<◌, ◌≤◌, ◌↔◌, ◌++◌, ◌∷◌, [], length, map, option_map, slice_get, sum_by, vec_capacity};
+ghost use Rattle.std.specs.Prelude.{vec_len, not, IfOk, IsTrue, OnErr, OnOk, Some};
 ghost use Rattle.std.specs.Bool.{OnTrue};
 ghost use Rattle.std.specs.List.{list_all};
 ghost use Rattle.mc_text.specs.Request.{request_of, view};
 ghost use Rattle.mc_text.specs.Reading.{commands_of};
 ghost use Rattle.kv_history.specs.Answer.{store_after};
-ghost use Rattle.kv_history.specs.Log.{IsNext, IsOneThread, NoneVoid, VoidIsSilent, EachHasSection, EachOwnFirst, applied, applied_entry, void_entry, store_now};
+ghost use Rattle.kv_history.specs.Log.{IsNext, IsOneThread, NoneVoid, VoidIsSilent, EachHasSection, EachOwnFirst, applied, applied_entry};
+ghost use Rattle.kv_history.specs.Log.{void_entry, store_now};
 
 use crate::Store;
 use crate::record::Record;
@@ -76,7 +78,8 @@ impl<'a> Journal<'a> {
     pub fn apply(&mut self, caller: u32, command: Command<'a>) -> Result<Receipt, OutOfMemory>
         requires { IsNext self.old caller (view command) }
         ensures sections { self.new.sections ≡ self.old.sections }
-        ensures applied { OnOk result (self.new.entries ≡ self.old.entries ++ applied_entry self.old.entries caller (view command.entry) ∷ []) }
+        ensures applied { OnOk result
+            (self.new.entries ≡ self.old.entries ++ applied_entry self.old.entries caller (view command.entry) ∷ []) }
         ensures store { OnOk result (store_now self.new.entries ≡ store_after (store_now self.old.entries) (request_of command.entry)) }
         ensures place { IfOk result (λ receipt. receipt.turn ≡ length self.old.entries) }
         ensures void { OnErr result (self.new.entries ≡ self.old.entries ++ void_entry caller (view command.entry) ∷ []) }

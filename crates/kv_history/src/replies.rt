@@ -30,7 +30,8 @@ pub(crate) fn append_item(
 // memory only a part of it is appended.
 #[tactic(auto, unfolding(crate::specs::Answer::written_item))]
 fn append_block(reply: &mut Vec<u8>, uniques: bool, item: &Item) -> Result<(), OutOfMemory>
-    ensures ok { OnOk result (reply.new.items ≡ reply.old.items ++ (line_end uniques item.now.unique ++ item.now.block.items ++ codes "\r\n")) }
+    ensures ok { OnOk result (reply.new.items
+        ≡ reply.old.items ++ (line_end uniques item.now.unique ++ item.now.block.items ++ codes "\r\n")) }
     ensures err { OnErr result ((part : List ℕ) × (reply.new.items ≡ reply.old.items ++ part)) }
 {
     if uniques {

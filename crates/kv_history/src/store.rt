@@ -109,7 +109,8 @@ impl Store {
 
     // Appends the reply to a retrieval command. Without memory the reply stays.
     fn give(&self, uniques: bool, keys: Keys<'_>, reply: &mut Vec<u8>) -> Result<(), OutOfMemory>
-        ensures ok { OnOk result (reply.new.items ≡ reply.old.items ++ (flat_map (written_key self.now.items uniques) (keys_left keys.entry) ++ codes "END\r\n")) }
+        ensures ok { OnOk result (reply.new.items
+            ≡ reply.old.items ++ (flat_map (written_key self.now.items uniques) (keys_left keys.entry) ++ codes "END\r\n")) }
         ensures err { OnErr result (reply.new.items ≡ reply.old.items) }
     {
         let size = reply.len();
@@ -128,7 +129,8 @@ impl Store {
         mut keys: Keys<'_>,
         reply: &mut Vec<u8>,
     ) -> Result<(), OutOfMemory>
-        ensures ok { OnOk result (reply.new.items ≡ reply.old.items ++ (flat_map (written_key self.now.items uniques) (keys_left keys.entry) ++ codes "END\r\n")) }
+        ensures ok { OnOk result (reply.new.items
+            ≡ reply.old.items ++ (flat_map (written_key self.now.items uniques) (keys_left keys.entry) ++ codes "END\r\n")) }
         ensures err { OnErr result ((part : List ℕ) × (reply.new.items ≡ reply.old.items ++ part)) }
     {
         while let Some(key) = keys.next() {

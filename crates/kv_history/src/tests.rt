@@ -95,6 +95,23 @@ fn keeps_a_journal(rt: HostRuntime) -> Result<(), Fail> {
     Ok(())
 }
 
+// Long blocks are no excuse: the longest is stored and given back whole.
+#[test]
+fn keeps_the_longest_block(rt: HostRuntime) -> Result<(), Fail> {
+    let alloc = rt.alloc();
+    let mut section = Vec::from_slice(alloc, b"set a 5 0 1048576\r\n")?;
+    section.extend_from_slice(&vec![in alloc; b'x'; 1_048_576]?)?;
+    section.extend_from_slice(b"\r\nget a\r\n")?;
+    assert!(rt; section.len() < 2_000_000);
+    let journal = applied(alloc, &section)?;
+    assert_eq!(rt; journal.entries(), 2);
+    let reply = journal.reply(1);
+    assert!(rt; reply.starts_with(b"VALUE a 5 1048576\r\nxxxx"));
+    assert!(rt; reply.ends_with(b"xxxx\r\nEND\r\n"));
+    assert_eq!(rt; reply.len(), 1_048_602);
+    Ok(())
+}
+
 // A journal of two callers, each of which has applied the first command of its section, with what was seen on the way.
 #[derive(Drop)]
 struct Both<'a> {

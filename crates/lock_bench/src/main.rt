@@ -1,15 +1,14 @@
-//! Holds of the Ticket lock by one, two or four threads, and atomic additions beside them. It prints its counts alone, so its time is taken from outside.
+//! Holds of a lock by one, two or four threads, each of which adds one to a number. It prints counts alone; a script under bench/ takes the time.
 //!
-//! The words are what to do (`adds`, `alone`, `two` or `four`) and how often each thread does it.
+//! The words are the lock (`ticket`, or `adds` for atomic additions without a lock), the number of threads, and how often each holds.
 #![tactic(auto)]
 
 use anyhow::{Context, bail};
-use lock_trials::{Parcel, hold_alone, hold_by_four, hold_by_two};
+use lock_rules::Plain;
+use lock_trials::{count_alone, count_by_four, count_by_two};
 use std::env;
 use std::sync::atomic::{AtomicU64, Ordering};
 use ticket_lock::Ticket;
-
-const NO_MEMORY: &str = "there was no memory";
 
 /// Adds one to a word as often as asked, and gives the word.
 fn add_often(times: u32) -> u64 {
@@ -23,25 +22,20 @@ fn add_often(times: u32) -> u64 {
 fn main(rt: HostRuntime) -> anyhow::Result<()> {
     let mut words = env::args(&rt)?;
     words.next();
-    let what = words.next().context("say what to do")?;
-    let times: u32 = words.next().context("say how often")?.parse()?;
+    let lock = words.next().context("name a lock")?;
+    let threads: u32 = words.next().context("say how many threads")?.parse()?;
+    let holds: u32 = words.next().context("say how many holds")?.parse()?;
     let alloc = rt.alloc();
-    let count = match what.as_str() {
-        "adds" => add_often(times),
-        "alone" => {
-            let parcel = hold_alone::<Ticket<Parcel>, _>(&rt, alloc, (), times);
-            parcel.context(NO_MEMORY)?.count
-        }
-        "two" => {
-            let parcel = hold_by_two::<Ticket<Parcel>, _>(&rt, alloc, (), times);
-            parcel.context(NO_MEMORY)?.count
-        }
-        "four" => {
-            let parcel = hold_by_four::<Ticket<Parcel>, _>(&rt, alloc, (), times, false);
-            parcel.context(NO_MEMORY)?.count
-        }
-        _ => bail!("the first word is {what}, and must be adds, alone, two or four"),
+    let count = match (lock.as_str(), threads) {
+        ("adds", 1) => Some(add_often(holds)),
+        ("ticket", 1) => count_alone::<Ticket<Plain<u64>>, _>(&rt, alloc, (), holds),
+        ("ticket", 2) => count_by_two::<Ticket<Plain<u64>>, _>(&rt, alloc, (), holds),
+        ("ticket", 4) => count_by_four::<Ticket<Plain<u64>>, _>(&rt, alloc, (), holds),
+        _ => bail!(
+            "there is no {lock} with {threads} threads: ticket with 1, 2 or 4, or adds with 1"
+        ),
     };
-    println!(rt; "{what} {count}")?;
+    let count = count.context("there was no memory")?;
+    println!(rt; "{lock} {threads} {count}")?;
     Ok(())
 }

@@ -4,10 +4,12 @@
 //! turn. What these answer is compared by the tests of the locks; no clause says how threads take turns.
 #![tactic(auto)]
 
+mod counts;
 mod parcel;
 mod script;
 mod threads;
 
+pub use counts::{count_alone, count_by_four, count_by_two};
 pub use parcel::Parcel;
 pub use script::{Call, Holder, Move, Outcome, START, Token, Told, Who, carry_out};
 pub use threads::{HOLDS, hold_alone, hold_by_four, hold_by_two};

@@ -6,7 +6,7 @@ ghost use Rattle.lock_rules.specs.Passes.{IsOf, AreAll};
 ghost use Rattle.lock_trials.specs.Tokens.{AreFour};
 
 use crate::parcel::Parcel;
-use lock_rules::{Basic, Placed};
+use lock_rules::{Basic, Cargo, Placed};
 use std::alloc::Global;
 use std::sync::Wait;
 use std::thread::{Threads, join};
@@ -51,7 +51,7 @@ fn hold_often<B: Basic<Parcel>, R: Wait>(
 
 /// What a thread does with its pass. The checker doesn't yet send a closure to a thread whose body rests on a trait like `Basic`, where an associated
 /// type has a bound with a type argument, so the closures rest on this trait.
-trait Works<P: Placed> {
+pub(crate) trait Works<P: Placed> {
     ghost allows: { Self → P → Type 0 };
 
     fn work(&self, pass: P) -> P
@@ -76,7 +76,7 @@ impl<'a, B: Basic<Parcel>, R: Wait> Works<B::Pass> for Shift<'a, B, R> {
     }
 }
 
-fn by_two<P: Placed + Send, W: Works<P> + Sync, R: Threads + Sync>(
+pub(crate) fn by_two<P: Placed + Send, W: Works<P> + Sync, R: Threads + Sync>(
     rt: &R,
     shift: &W,
     first: P,
@@ -101,7 +101,7 @@ fn by_two<P: Placed + Send, W: Works<P> + Sync, R: Threads + Sync>(
 }
 
 /// Each pass works in a thread of its own.
-fn by_four<P: Placed + Send, W: Works<P> + Sync, R: Threads + Sync>(
+pub(crate) fn by_four<P: Placed + Send, W: Works<P> + Sync, R: Threads + Sync>(
     rt: &R,
     shift: &W,
     front: (P, P),
@@ -138,7 +138,7 @@ fn by_four<P: Placed + Send, W: Works<P> + Sync, R: Threads + Sync>(
 }
 
 /// Takes the four passes of a lock out of their list, which is then empty.
-fn apart<B: Basic<Parcel>>(
+pub(crate) fn apart<V: Cargo, B: Basic<V>>(
     _lock: &B,
     passes: &mut Vec<B::Pass>,
 ) -> Option<((B::Pass, B::Pass), (B::Pass, B::Pass))>

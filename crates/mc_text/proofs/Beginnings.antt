@@ -1,5 +1,27 @@
 -- The whole command that a text begins with: the relation and the reading of it agree.
-use Rattle.std.proofs.Common.{◌≡◌, ℕ, ◌+◌, ◌<◌, ◌≤◌, List, ◌∷◌, ◌++◌, length, take, drop, Option, Some, None, option_and_then, refl, sym, ap, ◌∙◌, subst, arith}
+use Rattle.std.proofs.Common.{
+  ◌≡◌,
+  ℕ,
+  ◌+◌,
+  ◌<◌,
+  ◌≤◌,
+  List,
+  ◌∷◌,
+  ◌++◌,
+  length,
+  take,
+  drop,
+  Option,
+  Some,
+  None,
+  option_and_then,
+  refl,
+  sym,
+  ap,
+  ◌∙◌,
+  subst,
+  arith,
+}
 use Rattle.std.proofs.lemmas.List.{length-append, length-take-le, take-append-drop}
 use Rattle.byte_text.specs.Cuts.{IsCutAt}
 use Rattle.mc_text.specs.Request.{Request, Store, Get, WholeCommand}
@@ -14,7 +36,8 @@ use Rattle.mc_text.proofs.Lines.{says_said, said_says}
 use Rattle.mc_text.proofs.Steps.{something_asked}
 
 -- what a line asks for is what is read
-pub asks_asked : (line : Line) (behind : List ℕ) (request : Request) (more : ℕ) → Asks line behind request more → asked_by line behind ≡ Some (request, more)
+pub asks_asked : (line : Line) (behind : List ℕ) (request : Request) (more : ℕ) → Asks line behind request more
+    → asked_by line behind ≡ Some (request, more)
 unfolding asked_by
 asks_asked (Storage header) behind request more asks =
     let block = asks.0 in
@@ -50,7 +73,8 @@ begins_count text command count begins =
     ap length begins.spelling_is ∙ length-take-le count text (begins_within text command count begins).1
 
 -- the text is the spelling, and what stands behind it
-pub begins_parts : (text : List ℕ) (command : WholeCommand) (count : ℕ) → Begins text command count → text ≡ command.spelling ++ drop (length command.spelling) text
+pub begins_parts : (text : List ℕ) (command : WholeCommand) (count : ℕ) → Begins text command count
+    → text ≡ command.spelling ++ drop (length command.spelling) text
 begins_parts text command count begins =
     sym (take-append-drop count text)
     ∙ ap (λ front. front ++ drop count text) (sym begins.spelling_is)
@@ -66,7 +90,10 @@ begins_first text command count begins =
     ∙ ap (λ spelling. Some (record { request = command.request; spelling = spelling })) (sym begins.spelling_is)
 
 -- what is read is what a line asks for
-storage_asked : (header : Header) (behind : List ℕ) (request : Request) (more : ℕ) (block : Option (List ℕ)) → block_of header.bytes behind ≡ block → option_and_then {U = Request × ℕ} (λ (b : List ℕ). Some (Store (storing header b), header.bytes + 2)) block ≡ Some (request, more) → Asks (Storage header) behind request more
+storage_asked : (header : Header) (behind : List ℕ) (request : Request) (more : ℕ) (block : Option (List ℕ))
+    → block_of header.bytes behind ≡ block
+    → option_and_then {U = Request × ℕ} (λ (b : List ℕ). Some (Store (storing header b), header.bytes + 2)) block ≡ Some (request, more)
+    → Asks (Storage header) behind request more
 storage_asked header behind request more None block_is is = cc
 storage_asked header behind request more (Some block) block_is is =
     let has = block_of_has header.bytes behind block block_is in
@@ -74,7 +101,8 @@ storage_asked header behind request more (Some block) block_is is =
     (block, has.0, has.1, sym same.0, sym same.1)
 
 -- what is read of a line is what it asks for
-pub asked_asks : (line : Line) (behind : List ℕ) (request : Request) (more : ℕ) → asked_by line behind ≡ Some (request, more) → Asks line behind request more
+pub asked_asks : (line : Line) (behind : List ℕ) (request : Request) (more : ℕ) → asked_by line behind ≡ Some (request, more)
+    → Asks line behind request more
 unfolding asked_by
 asked_asks (Storage header) behind request more is = storage_asked header behind request more (block_of header.bytes behind) refl is
 asked_asks (Retrieval uniques keys) behind request more is =
@@ -82,7 +110,11 @@ asked_asks (Retrieval uniques keys) behind request more is =
     (sym same.0, sym same.1)
 
 -- a command that is read begins the text: once its line is known
-read_asked : (text content behind : List ℕ) (line : Line) (command : WholeCommand) (asked : Option (Request × ℕ)) → IsCutAt 10 text content behind → Says (words_of_line content) line → asked_by line behind ≡ asked → option_and_then {U = WholeCommand} (λ (a : Request × ℕ). Some (record { request = a.0; spelling = take (length content + 1 + a.1) text })) asked ≡ Some command → (count : ℕ) × Begins text command count
+read_asked : (text content behind : List ℕ) (line : Line) (command : WholeCommand) (asked : Option (Request × ℕ))
+    → IsCutAt 10 text content behind → Says (words_of_line content) line → asked_by line behind ≡ asked
+    → option_and_then {U = WholeCommand}
+    (λ (a : Request × ℕ). Some (record { request = a.0; spelling = take (length content + 1 + a.1) text })) asked ≡ Some command
+    → (count : ℕ) × Begins text command count
 read_asked text content behind line command None cut says asked_is is = cc
 read_asked text content behind line command (Some asked) cut says asked_is is =
     let read : WholeCommand = record { request = asked.0; spelling = take (length content + 1 + asked.1) text } in
@@ -103,19 +135,28 @@ read_asked text content behind line command (Some asked) cut says asked_is is =
     )
 
 -- once the content of the line is known
-read_said : (text content behind : List ℕ) (command : WholeCommand) (line : Option Line) → IsCutAt 10 text content behind → said_by (words_of_line content) ≡ line → option_and_then (λ (l : Line). option_and_then {U = WholeCommand} (λ (a : Request × ℕ). Some (record { request = a.0; spelling = take (length content + 1 + a.1) text })) (asked_by l behind)) line ≡ Some command → (count : ℕ) × Begins text command count
+read_said : (text content behind : List ℕ) (command : WholeCommand) (line : Option Line) → IsCutAt 10 text content behind
+    → said_by (words_of_line content) ≡ line
+    → option_and_then (λ (l : Line). option_and_then {U = WholeCommand}
+    (λ (a : Request × ℕ). Some (record { request = a.0; spelling = take (length content + 1 + a.1) text })) (asked_by l behind)) line
+    ≡ Some command → (count : ℕ) × Begins text command count
 read_said text content behind command None cut said is = cc
 read_said text content behind command (Some line) cut said is =
     read_asked text content behind line command (asked_by line behind) cut (said_says (words_of_line content) line said) refl is
 
 -- from the whole text
-read_cut : (text : List ℕ) (command : WholeCommand) (cut : Option (List ℕ × List ℕ)) → cut_first 10 text ≡ cut → option_and_then (λ (p : List ℕ × List ℕ). option_and_then (λ (l : Line). option_and_then {U = WholeCommand} (λ (a : Request × ℕ). Some (record { request = a.0; spelling = take (length p.0 + 1 + a.1) text })) (asked_by l p.1)) (said_by (words_of_line p.0))) cut ≡ Some command → (count : ℕ) × Begins text command count
+read_cut : (text : List ℕ) (command : WholeCommand) (cut : Option (List ℕ × List ℕ)) → cut_first 10 text ≡ cut
+    → option_and_then (λ (p : List ℕ × List ℕ). option_and_then
+    (λ (l : Line). option_and_then {U = WholeCommand}
+    (λ (a : Request × ℕ). Some (record { request = a.0; spelling = take (length p.0 + 1 + a.1) text })) (asked_by l p.1))
+    (said_by (words_of_line p.0))) cut ≡ Some command → (count : ℕ) × Begins text command count
 read_cut text command None cut is = cc
 read_cut text command (Some parts) cut is =
     read_said text parts.0 parts.1 command (said_by (words_of_line parts.0)) (cut_first_cuts 10 text parts.0 parts.1 cut) refl is
 
 -- the command that is read begins the text
-pub first_begins : (text : List ℕ) (command : WholeCommand) → first_command text ≡ Some command → Begins text command (length command.spelling)
+pub first_begins : (text : List ℕ) (command : WholeCommand) → first_command text ≡ Some command
+    → Begins text command (length command.spelling)
 unfolding first_command
 first_begins text command is =
     let read = read_cut text command (cut_first 10 text) refl is in

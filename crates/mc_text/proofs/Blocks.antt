@@ -1,5 +1,27 @@
 -- The block behind a storage line.
-use Rattle.std.proofs.Common.{◌≡◌, ℕ, ◌≤◌, List, [], ◌∷◌, ◌++◌, length, take, drop, nat_eq, leb, true, ◌&&◌, Some, refl, sym, ap, ◌∙◌, subst, arith}
+use Rattle.std.proofs.Common.{
+  ◌≡◌,
+  ℕ,
+  ◌≤◌,
+  List,
+  [],
+  ◌∷◌,
+  ◌++◌,
+  length,
+  take,
+  drop,
+  nat_eq,
+  leb,
+  true,
+  ◌&&◌,
+  Some,
+  refl,
+  sym,
+  ap,
+  ◌∙◌,
+  subst,
+  arith,
+}
 use Rattle.std.specs.List.{starts_with}
 use Rattle.std.proofs.lemmas.List.{take_at, drop_at, length-take-le, length-drop, take-append-drop}
 use Rattle.std.proofs.lemmas.Option.{cond_some}
@@ -10,7 +32,8 @@ use Rattle.mc_text.specs.Begins.{HasBlock, value_limit}
 use Rattle.mc_text.specs.Reading.{block_of}
 
 -- a block that stands behind a line and isn't too long is the one that is found
-pub block_of_is : (bytes : ℕ) (behind block : List ℕ) → HasBlock behind bytes block → bytes ≤ value_limit → block_of bytes behind ≡ Some block
+pub block_of_is : (bytes : ℕ) (behind block : List ℕ) → HasBlock behind bytes block → bytes ≤ value_limit
+    → block_of bytes behind ≡ Some block
 unfolding block_of
 block_of_is bytes behind block has short =
     let behind_is = has.behind_is in
@@ -21,14 +44,16 @@ block_of_is bytes behind block has short =
     rw (rest, low, front) refl
 
 -- the block that is found stands behind the line, and isn't too long
-pub block_of_has : (bytes : ℕ) (behind block : List ℕ) → block_of bytes behind ≡ Some block → HasBlock behind bytes block × (bytes ≤ value_limit)
+pub block_of_has : (bytes : ℕ) (behind block : List ℕ) → block_of bytes behind ≡ Some block
+    → HasBlock behind bytes block × (bytes ≤ value_limit)
 unfolding block_of
 block_of_has bytes behind block is =
     let test = starts_with nat_eq (drop bytes behind) (13 ∷ 10 ∷ []) in
     let chosen = cond_some (test && leb bytes value_limit) (take bytes behind) block is in
     let both = and_parts test (leb bytes value_limit) chosen.0 in
     let ends = (starts_is Decides-eqb (drop bytes behind) (13 ∷ 10 ∷ []) test refl).0 both.0 in
-    let behind_is : behind ≡ take bytes behind ++ (13 ∷ 10 ∷ drop 2 (drop bytes behind)) = sym (take-append-drop bytes behind) ∙ ap (λ rest. take bytes behind ++ rest) ends in
+    let behind_is : behind ≡ take bytes behind ++ (13 ∷ 10 ∷ drop 2 (drop bytes behind)) =
+    sym (take-append-drop bytes behind) ∙ ap (λ rest. take bytes behind ++ rest) ends in
     let within : bytes ≤ length behind = omega (arith, length-drop bytes behind, ap length ends) in (
       record {
         after = drop 2 (drop bytes behind);

@@ -43,7 +43,8 @@ pub no_form : (text : List ℕ) → ¬ (Contains text 10) → IsUnbuiltForm text
 no_form text lacks form = lacks (cut_contains 10 text form.content form.behind form.cut)
 
 -- a line that says nothing is one
-pub form_unsaid : (text content behind : List ℕ) → IsCutAt 10 text content behind → said_by (words_of_line content) ≡ None → IsUnbuiltForm text
+pub form_unsaid : (text content behind : List ℕ) → IsCutAt 10 text content behind → said_by (words_of_line content) ≡ None
+    → IsUnbuiltForm text
 form_unsaid text content behind cut said =
     record {
       content = content;
@@ -53,7 +54,8 @@ form_unsaid text content behind cut said =
     }
 
 -- a storage line whose block can't be served is one
-pub form_bad : (text content behind : List ℕ) (header : Header) → IsCutAt 10 text content behind → said_by (words_of_line content) ≡ Some (Storage header) → IsBadBlock behind header.bytes → IsUnbuiltForm text
+pub form_bad : (text content behind : List ℕ) (header : Header) → IsCutAt 10 text content behind
+    → said_by (words_of_line content) ≡ Some (Storage header) → IsBadBlock behind header.bytes → IsUnbuiltForm text
 form_bad text content behind header cut said bad =
     record {
       content = content;
@@ -63,7 +65,8 @@ form_bad text content behind header cut said bad =
     }
 
 -- the line of the form is the first line
-form_line : (text content behind : List ℕ) → IsCutAt 10 text content behind → (form : IsUnbuiltForm text) → (form.content ≡ content) × (form.behind ≡ behind)
+form_line : (text content behind : List ℕ) → IsCutAt 10 text content behind → (form : IsUnbuiltForm text)
+    → (form.content ≡ content) × (form.behind ≡ behind)
 form_line text content behind cut form =
     some_pair form.content content form.behind behind
     (sym (cut_first_is 10 text form.content form.behind form.cut) ∙ cut_first_is 10 text content behind cut)
@@ -80,7 +83,9 @@ cause_by behind words line said (inr bad) =
     (header, same, bad.2)
 
 -- a line that says something causes the form by its block alone
-pub form_cause : (text content behind : List ℕ) (line : Line) → IsCutAt 10 text content behind → said_by (words_of_line content) ≡ Some line → IsUnbuiltForm text → (header : Header) × (line ≡ Storage header) × IsBadBlock behind header.bytes
+pub form_cause : (text content behind : List ℕ) (line : Line) → IsCutAt 10 text content behind
+    → said_by (words_of_line content) ≡ Some line → IsUnbuiltForm text
+    → (header : Header) × (line ≡ Storage header) × IsBadBlock behind header.bytes
 form_cause text content behind line cut said form =
     let same = form_line text content behind cut form in
     let said_there = ap said_by (ap words_of_line same.0) ∙ said in

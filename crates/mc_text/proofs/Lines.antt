@@ -1,5 +1,30 @@
 -- What the words of a line say: the relation and the reading of them agree.
-use Rattle.std.proofs.Common.{◌≡◌, ℕ, ℤ, ◌^◌, Bool, true, false, ◌&&◌, ltb, List, [], ◌∷◌, length, cond, Option, Some, None, option_and_then, codes, refl, sym, ap, ◌∙◌, subst}
+use Rattle.std.proofs.Common.{
+  ◌≡◌,
+  ℕ,
+  ℤ,
+  ◌^◌,
+  Bool,
+  true,
+  false,
+  ◌&&◌,
+  ltb,
+  List,
+  [],
+  ◌∷◌,
+  length,
+  cond,
+  Option,
+  Some,
+  None,
+  option_and_then,
+  codes,
+  refl,
+  sym,
+  ap,
+  ◌∙◌,
+  subst,
+}
 use Rattle.std.specs.List.{list_all, AllByRecursion}
 use Rattle.std.specs.Str.{bytes_eq}
 use Rattle.mc_text.specs.declared.command.How.{How}
@@ -24,7 +49,10 @@ all_keys [] are = refl
 all_keys (key ∷ keys) are = and_from (is_key key) (list_all is_key keys) are.0 (all_keys keys are.1)
 
 -- the words of a storage line are read
-storage_said : (how : How) (key flags exptime bytes : List ℕ) (f : ℕ) (e : ℤ) (n : ℕ) (quiet : Bool) → is_key key ≡ true → number_below (2 ^ 32) flags ≡ Some f → exptime_of exptime ≡ Some e → number_below (2 ^ 32) bytes ≡ Some n → said_by (storage_name how ∷ key ∷ flags ∷ exptime ∷ bytes ∷ noreply quiet) ≡ Some (Storage (record { how = how; key = key; flags = f; exptime = e; bytes = n; unique = 0; quiet = quiet }))
+storage_said : (how : How) (key flags exptime bytes : List ℕ) (f : ℕ) (e : ℤ) (n : ℕ) (quiet : Bool) → is_key key ≡ true
+    → number_below (2 ^ 32) flags ≡ Some f → exptime_of exptime ≡ Some e → number_below (2 ^ 32) bytes ≡ Some n
+    → said_by (storage_name how ∷ key ∷ flags ∷ exptime ∷ bytes ∷ noreply quiet)
+    ≡ Some (Storage (record { how = how; key = key; flags = f; exptime = e; bytes = n; unique = 0; quiet = quiet }))
 unfolding said_by storage_of fields_of header_of
 storage_said Set key flags exptime bytes f e n quiet key_is flags_are exptime_is bytes_are =
     rw (quiet_noreply quiet, key_is, flags_are, exptime_is, bytes_are) refl
@@ -34,11 +62,22 @@ says_storage : (words : List (List ℕ)) (header : Header) (storage : IsStorage 
 says_storage words header storage =
     let words_are = storage.words_are in
     let unique_is = storage.unique_is in
-    rw words_are (storage_said header.how header.key storage.flags storage.exptime storage.bytes header.flags header.exptime header.bytes header.quiet storage.key_is storage.flags_are storage.exptime_is storage.bytes_are
-    ∙ ap (λ u. Some (Storage (record { how = header.how; key = header.key; flags = header.flags; exptime = header.exptime; bytes = header.bytes; unique = u; quiet = header.quiet }))) (sym unique_is))
+    rw words_are (storage_said header.how header.key storage.flags storage.exptime storage.bytes header.flags header.exptime header.bytes
+    header.quiet storage.key_is storage.flags_are storage.exptime_is storage.bytes_are
+    ∙ ap (λ u. Some (Storage
+    (record {
+      how = header.how;
+      key = header.key;
+      flags = header.flags;
+      exptime = header.exptime;
+      bytes = header.bytes;
+      unique = u;
+      quiet = header.quiet;
+    }))) (sym unique_is))
 
 -- the words of a retrieval line are read
-says_retrieval : (words : List (List ℕ)) (uniques : Bool) (keys : List (List ℕ)) → IsRetrieval words uniques keys → said_by words ≡ Some (Retrieval uniques keys)
+says_retrieval : (words : List (List ℕ)) (uniques : Bool) (keys : List (List ℕ)) → IsRetrieval words uniques keys
+    → said_by words ≡ Some (Retrieval uniques keys)
 unfolding said_by retrieval_of
 says_retrieval words uniques keys retrieval =
     let words_are = retrieval.words_are in
@@ -80,7 +119,10 @@ said_retrieval keys line is =
     (record { words_are = refl; some = ltb-true 0 (length keys) parts.0; keys_are = keys_all keys parts.1; uniques_are = refl })
 
 -- the words of a storage line whose last words are read
-fields_with : (key flags exptime bytes : List ℕ) (more : List (List ℕ)) (fields : Fields) (quiet : Option Bool) → quiet_of more ≡ quiet → option_and_then (λ (quiet : Bool). Some (record { key = key; flags = flags; exptime = exptime; bytes = bytes; quiet = quiet })) quiet ≡ Some fields → key ∷ flags ∷ exptime ∷ bytes ∷ more ≡ fields.key ∷ fields.flags ∷ fields.exptime ∷ fields.bytes ∷ noreply fields.quiet
+fields_with : (key flags exptime bytes : List ℕ) (more : List (List ℕ)) (fields : Fields) (quiet : Option Bool) → quiet_of more ≡ quiet
+    → option_and_then (λ (quiet : Bool). Some (record { key = key; flags = flags; exptime = exptime; bytes = bytes; quiet = quiet }))
+    quiet ≡ Some fields → key ∷ flags ∷ exptime ∷ bytes ∷ more
+    ≡ fields.key ∷ fields.flags ∷ fields.exptime ∷ fields.bytes ∷ noreply fields.quiet
 fields_with key flags exptime bytes more fields None quiet_is is = cc
 fields_with key flags exptime bytes more fields (Some quiet) quiet_is is =
     let read : Fields = record { key = key; flags = flags; exptime = exptime; bytes = bytes; quiet = quiet } in
@@ -89,7 +131,8 @@ fields_with key flags exptime bytes more fields (Some quiet) quiet_is is =
     (ap (λ rest. key ∷ flags ∷ exptime ∷ bytes ∷ rest) (noreply_quiet more quiet quiet_is))
 
 -- the words of a storage line whose fields are read
-said_fields : (words : List (List ℕ)) (fields : Fields) → fields_of words ≡ Some fields → words ≡ fields.key ∷ fields.flags ∷ fields.exptime ∷ fields.bytes ∷ noreply fields.quiet
+said_fields : (words : List (List ℕ)) (fields : Fields) → fields_of words ≡ Some fields
+    → words ≡ fields.key ∷ fields.flags ∷ fields.exptime ∷ fields.bytes ∷ noreply fields.quiet
 unfolding fields_of
 said_fields [] fields is = cc
 said_fields (key ∷ []) fields is = cc
@@ -98,8 +141,14 @@ said_fields (key ∷ flags ∷ exptime ∷ []) fields is = cc
 said_fields (key ∷ flags ∷ exptime ∷ bytes ∷ more) fields is = fields_with key flags exptime bytes more fields (quiet_of more) refl is
 
 -- what a storage line says whose fields are read
-header_with : (how : How) (fields : Fields) (header : Header) (key : Bool) (flags : Option ℕ) (exptime : Option ℤ) (bytes : Option ℕ) → is_key fields.key ≡ key → number_below (2 ^ 32) fields.flags ≡ flags → exptime_of fields.exptime ≡ exptime → number_below (2 ^ 32) fields.bytes ≡ bytes
-    → option_and_then (λ _. option_and_then (λ (f : ℕ). option_and_then (λ (e : ℤ). option_and_then (λ (n : ℕ). Some (record { how = how; key = fields.key; flags = f; exptime = e; bytes = n; unique = 0; quiet = fields.quiet })) bytes) exptime) flags) (only_if key) ≡ Some header
+header_with : (how : How) (fields : Fields) (header : Header) (key : Bool) (flags : Option ℕ) (exptime : Option ℤ) (bytes : Option ℕ)
+    → is_key fields.key ≡ key → number_below (2 ^ 32) fields.flags ≡ flags → exptime_of fields.exptime ≡ exptime
+    → number_below (2 ^ 32) fields.bytes ≡ bytes
+    → option_and_then (λ _. option_and_then
+    (λ (f : ℕ). option_and_then
+    (λ (e : ℤ). option_and_then
+    (λ (n : ℕ). Some (record { how = how; key = fields.key; flags = f; exptime = e; bytes = n; unique = 0; quiet = fields.quiet }))
+    bytes) exptime) flags) (only_if key) ≡ Some header
     → IsStorage (storage_name how ∷ fields.key ∷ fields.flags ∷ fields.exptime ∷ fields.bytes ∷ noreply fields.quiet) header
 header_with how fields header false flags exptime bytes key_is flags_are exptime_is bytes_are is = cc
 header_with how fields header true None exptime bytes key_is flags_are exptime_is bytes_are is = cc
@@ -108,7 +157,8 @@ header_with how fields header true (Some f) (Some e) None key_is flags_are expti
 header_with how fields header true (Some f) (Some e) (Some n) key_is flags_are exptime_is bytes_are is =
     let read : Header = record { how = how; key = fields.key; flags = f; exptime = e; bytes = n; unique = 0; quiet = fields.quiet } in
     let same : read ≡ header = cc in
-    subst (λ header. IsStorage (storage_name how ∷ fields.key ∷ fields.flags ∷ fields.exptime ∷ fields.bytes ∷ noreply fields.quiet) header) same
+    subst (λ header. IsStorage (storage_name how ∷ fields.key ∷ fields.flags ∷ fields.exptime ∷ fields.bytes ∷ noreply fields.quiet)
+    header) same
     (record {
       flags = fields.flags;
       exptime = fields.exptime;
@@ -122,21 +172,28 @@ header_with how fields header true (Some f) (Some e) (Some n) key_is flags_are e
     })
 
 -- the same of the reading
-said_header : (how : How) (fields : Fields) (header : Header) → header_of how fields ≡ Some header → IsStorage (storage_name how ∷ fields.key ∷ fields.flags ∷ fields.exptime ∷ fields.bytes ∷ noreply fields.quiet) header
+said_header : (how : How) (fields : Fields) (header : Header) → header_of how fields ≡ Some header
+    → IsStorage (storage_name how ∷ fields.key ∷ fields.flags ∷ fields.exptime ∷ fields.bytes ∷ noreply fields.quiet) header
 unfolding header_of
 said_header how fields header is =
-    header_with how fields header (is_key fields.key) (number_below (2 ^ 32) fields.flags) (exptime_of fields.exptime) (number_below (2 ^ 32) fields.bytes) refl refl refl refl is
+    header_with how fields header (is_key fields.key) (number_below (2 ^ 32) fields.flags) (exptime_of fields.exptime)
+    (number_below (2 ^ 32) fields.bytes) refl refl refl refl is
 
 -- what is read of a storage line is what it says: once its fields are known
-storage_from : (how : How) (words : List (List ℕ)) (line : Line) (fields : Fields) (header : Option Header) → fields_of words ≡ Some fields → header_of how fields ≡ header → option_and_then (λ (h : Header). Some (Storage h)) header ≡ Some line → Says (storage_name how ∷ words) line
+storage_from : (how : How) (words : List (List ℕ)) (line : Line) (fields : Fields) (header : Option Header)
+    → fields_of words ≡ Some fields → header_of how fields ≡ header
+    → option_and_then (λ (h : Header). Some (Storage h)) header ≡ Some line → Says (storage_name how ∷ words) line
 storage_from how words line fields None fields_are header_is is = cc
 storage_from how words line fields (Some header) fields_are header_is is =
     let same : Storage header ≡ line = cc in
     subst (λ line. Says (storage_name how ∷ words) line) same
-    (subst (λ ws. IsStorage (storage_name how ∷ ws) header) (sym (said_fields words fields fields_are)) (said_header how fields header header_is))
+    (subst (λ ws. IsStorage (storage_name how ∷ ws) header) (sym (said_fields words fields fields_are))
+    (said_header how fields header header_is))
 
 -- once its words are known
-storage_with : (how : How) (words : List (List ℕ)) (line : Line) (fields : Option Fields) → fields_of words ≡ fields → option_and_then (λ (f : Fields). option_and_then (λ (h : Header). Some (Storage h)) (header_of how f)) fields ≡ Some line → Says (storage_name how ∷ words) line
+storage_with : (how : How) (words : List (List ℕ)) (line : Line) (fields : Option Fields) → fields_of words ≡ fields
+    → option_and_then (λ (f : Fields). option_and_then (λ (h : Header). Some (Storage h)) (header_of how f)) fields ≡ Some line
+    → Says (storage_name how ∷ words) line
 storage_with how words line None fields_are is = cc
 storage_with how words line (Some fields) fields_are is = storage_from how words line fields (header_of how fields) fields_are refl is
 
@@ -146,7 +203,9 @@ unfolding storage_of
 said_storage how words line is = storage_with how words line (fields_of words) refl is
 
 -- what is read of a line with a known name is what it says
-named : (name : List ℕ) (words : List (List ℕ)) (line : Line) (set get : Bool) → bytes_eq name (codes "set") ≡ set → bytes_eq name (codes "get") ≡ get → cond set (storage_of Set words) (cond get (retrieval_of words) None) ≡ Some line → Says (name ∷ words) line
+named : (name : List ℕ) (words : List (List ℕ)) (line : Line) (set get : Bool) → bytes_eq name (codes "set") ≡ set
+    → bytes_eq name (codes "get") ≡ get → cond set (storage_of Set words) (cond get (retrieval_of words) None) ≡ Some line
+    → Says (name ∷ words) line
 named name words line true get set_is get_is is =
     subst (λ name. Says (name ∷ words) line) (sym ((bytes_eq-Decides name (codes "set")).0 set_is)) (said_storage Set words line is)
 named name words line false true set_is get_is is =

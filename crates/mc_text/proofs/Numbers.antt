@@ -8,7 +8,8 @@ use Rattle.byte_text.specs.declared.numerals.Numeral.{Numeral}
 use Rattle.byte_text.specs.declared.numerals.Numeral.TheVariants.{Number, TooLarge, NotNumeral}
 
 -- a numeral of a number below the limit
-pub number_below_is : (limit : ℕ) (word : List ℕ) (n : ℕ) → IsNumeral 10 word → digits_value 10 word ≡ n → n < limit → number_below limit word ≡ Some n
+pub number_below_is : (limit : ℕ) (word : List ℕ) (n : ℕ) → IsNumeral 10 word → digits_value 10 word ≡ n → n < limit
+    → number_below limit word ≡ Some n
 unfolding number_below
 number_below_is limit word n numeral value below = number_passes (λ m. nat_lt m limit) n word numeral value (lt-ltb n limit below)
 

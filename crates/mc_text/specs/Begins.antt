@@ -31,7 +31,8 @@ pub record HasBlock (behind : List ℕ) (bytes : ℕ) (block : List ℕ) : Type 
 -- a line, with what stands behind it, asks for this, and `more` bytes behind it belong to the command
 abbrev pub Asks : Line → List ℕ → Request → ℕ → Type 0
 Asks (Storage header) behind request more =
-    (block : List ℕ) × HasBlock behind header.bytes block × (header.bytes ≤ value_limit) × (request ≡ Store (storing header block)) × (more ≡ header.bytes + 2)
+    (block : List ℕ) × HasBlock behind header.bytes block × (header.bytes ≤ value_limit) × (request ≡ Store (storing header block))
+    × (more ≡ header.bytes + 2)
 Asks (Retrieval uniques keys) behind request more = (request ≡ Get uniques keys) × (more ≡ 0)
 
 -- a text begins with a whole command, spelled by its first `count` bytes: a line, and what it asks for behind it

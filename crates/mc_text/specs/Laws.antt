@@ -17,4 +17,5 @@ EachSectionIsRead = (section : List ℕ) → Spelled section (commands_of sectio
 -- no others do
 abbrev pub OneReading : Type 0
 OneReading =
-    (section : List ℕ) (commands others : List WholeCommand) (rest other_rest : List ℕ) → Spelled section commands rest → Spelled section others other_rest → (commands ≡ others) × (rest ≡ other_rest)
+    (section : List ℕ) (commands others : List WholeCommand) (rest other_rest : List ℕ) → Spelled section commands rest
+    → Spelled section others other_rest → (commands ≡ others) × (rest ≡ other_rest)

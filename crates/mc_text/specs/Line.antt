@@ -1,5 +1,24 @@
 -- What the words of a line say. By memcached's protocol.txt and this project's profile.
-use Rattle.std.specs.Prelude.{◌≡◌, ℕ, ◌-◌, ◌<◌, ◌^◌, ℤ, Bool, true, false, List, ◌∷◌, length, take, Some, codes, ◌==◌, if◌then◌else◌, slice_index}
+use Rattle.std.specs.Prelude.{
+  ◌≡◌,
+  ℕ,
+  ◌-◌,
+  ◌<◌,
+  ◌^◌,
+  ℤ,
+  Bool,
+  true,
+  false,
+  List,
+  ◌∷◌,
+  length,
+  take,
+  Some,
+  codes,
+  ◌==◌,
+  if◌then◌else◌,
+  slice_index,
+}
 use Rattle.std.specs.List.{AllByRecursion}
 use Rattle.byte_text.specs.Words.{words}
 use Rattle.mc_text.specs.declared.command.How.{How}

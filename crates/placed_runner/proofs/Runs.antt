@@ -17,26 +17,34 @@ pub record HasDone (section left : List ℕ) (sections_before sections : List (L
   pub same_sections : sections ≡ sections_before
 
 -- before the first command
-pub none_done : (section : List ℕ) (sections : List (List ℕ)) (entries : List Logged) → entries ≡ [] → HasDone section section sections sections entries
+pub none_done : (section : List ℕ) (sections : List (List ℕ)) (entries : List Logged) → entries ≡ []
+    → HasDone section section sections sections entries
 none_done section sections entries empty = record { done = []; entries_are = empty; whole = refl; same_sections = refl }
 
 -- the next command is the caller's next, and its entry makes the history longer
-pub next_is_next : (section left left_now : List ℕ) (sections_before : List (List ℕ)) (log : Log) (command : WholeCommand) → HasDone section left sections_before log.sections log.entries → sections_before ≡ section ∷ []
+pub next_is_next : (section left left_now : List ℕ) (sections_before : List (List ℕ)) (log : Log) (command : WholeCommand)
+    → HasDone section left sections_before log.sections log.entries → sections_before ≡ section ∷ []
     → commands_of left ≡ command ∷ commands_of left_now → IsNext log 0 command
 next_is_next section left left_now sections_before log command before alone next = record {
   section = section;
   rest = commands_of left_now;
   place = ap (λ (all : List (List ℕ)). slice_get all 0) (before.same_sections ∙ alone);
   next = before.whole ∙ ap (λ (rest : List WholeCommand). before.done ++ rest) next
-      ∙ ap (λ (own_part : List WholeCommand). own_part ++ (command ∷ commands_of left_now)) (sym (ap (λ (entries : List Logged). own entries 0) before.entries_are ∙ history_own empty_store before.done));
+      ∙ ap (λ (own_part : List WholeCommand). own_part ++ (command ∷ commands_of left_now))
+      (sym (ap (λ (entries : List Logged). own entries 0) before.entries_are ∙ history_own empty_store before.done));
 }
 
-pub one_more_done : (section left left_now : List ℕ) (sections_before sections sections_now : List (List ℕ)) (entries entries_now : List Logged) (command : WholeCommand) → HasDone section left sections_before sections entries
-    → commands_of left ≡ command ∷ commands_of left_now → sections_now ≡ sections → entries_now ≡ entries ++ (applied_entry entries 0 command ∷ []) → HasDone section left_now sections_before sections_now entries_now
+pub one_more_done : (section left left_now : List ℕ) (sections_before sections sections_now : List (List ℕ))
+    (entries entries_now : List Logged) (command : WholeCommand) → HasDone section left sections_before sections entries
+    → commands_of left ≡ command ∷ commands_of left_now → sections_now ≡ sections
+    → entries_now ≡ entries ++ (applied_entry entries 0 command ∷ [])
+    → HasDone section left_now sections_before sections_now entries_now
 one_more_done section left left_now sections_before sections sections_now entries entries_now command before next same longer = record {
   done = before.done ++ (command ∷ []);
-  entries_are = longer ∙ ap (λ (all : List Logged). all ++ (applied_entry all 0 command ∷ [])) before.entries_are ∙ history_next before.done command;
-  whole = before.whole ∙ ap (λ (rest : List WholeCommand). before.done ++ rest) next ∙ sym (append_assoc before.done (command ∷ []) (commands_of left_now));
+  entries_are = longer ∙ ap (λ (all : List Logged). all ++ (applied_entry all 0 command ∷ [])) before.entries_are
+      ∙ history_next before.done command;
+  whole = before.whole ∙ ap (λ (rest : List WholeCommand). before.done ++ rest) next
+      ∙ sym (append_assoc before.done (command ∷ []) (commands_of left_now));
   same_sections = same ∙ before.same_sections;
 }
 

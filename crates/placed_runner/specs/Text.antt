@@ -73,8 +73,8 @@ turn_lines pu number [] = []
 turn_lines pu number (entry ∷ entries) = turn_line (shown_entry pu number entry) ++ turn_lines pu (number + 1) entries
 
 -- the text of the run of one section: a line for each entry and then the line of its caller
-abbrev pub run_text : ℕ → List ℕ → List Logged → List ℕ
-run_text pu section entries = turn_lines pu 0 entries ++ caller_line 0 pu (length (commands_of section)) (length (rest_of section))
+abbrev pub entries_text : ℕ → List ℕ → List Logged → List ℕ
+entries_text pu section entries = turn_lines pu 0 entries ++ caller_line 0 pu (length (commands_of section)) (length (rest_of section))
 
 -- the text of a section that is these commands and this rest, whose caller stands on a PU: that of their history
 abbrev pub section_text : ℕ → List WholeCommand → List ℕ → List ℕ

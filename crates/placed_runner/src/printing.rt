@@ -1,6 +1,6 @@
 // The printed text of a run.
 ghost use Rattle.std.specs.Prelude.{◌≡◌, ◌<◌, ◌++◌, ◌^◌, IfOk, OnOk, Some, length, slice_get};
-ghost use Rattle.placed_runner.specs.Text.{turn_line, shown_entry, run_text};
+ghost use Rattle.placed_runner.specs.Text.{turn_line, shown_entry, entries_text};
 
 use crate::Section;
 use crate::lines::{TurnLine, push_caller, push_turn};
@@ -17,7 +17,7 @@ pub fn text(
     journal: &Journal<'_>,
 ) -> Result<Vec<u8>, OutOfMemory>
     requires { length section.now.bytes.now < 2 ^ 32 }
-    ensures { IfOk result (λ text. text.items ≡ run_text section.now.pu section.now.bytes.now journal.now.entries) }
+    ensures { IfOk result (λ text. text.items ≡ entries_text section.now.pu section.now.bytes.now journal.now.entries) }
 {
     let mut out = Vec::new(alloc);
     for number in 0..journal.entries() {
@@ -36,7 +36,8 @@ fn push_entry(
     number: u32,
 ) -> Result<(), OutOfMemory>
     requires { number < length journal.now.entries }
-    ensures { OnOk result ((entry : _) × (slice_get journal.now.entries number ≡ Some entry) × (out.new.items ≡ out.old.items ++ turn_line (shown_entry pu number entry))) }
+    ensures { OnOk result ((entry : _) × (slice_get journal.now.entries number ≡ Some entry)
+        × (out.new.items ≡ out.old.items ++ turn_line (shown_entry pu number entry))) }
 {
     let entry = journal.entry(number);
     push_turn(

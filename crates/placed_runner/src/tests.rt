@@ -36,7 +36,9 @@ fn printed(alloc: Global, pu: u32, bytes: &[u8]) -> Result<Vec<u8>, Fail>
 fn prints_a_run(rt: HostRuntime) -> Result<(), Fail> {
     let text = printed(rt.alloc(), 3, b"set a 5 0 2\r\n\x01\"\r\nget a\r\nge")?;
     let want =
-        b"turn 0 caller 0 pu 3 climb 0 tests 0 left 0 \"set a 5 0 2\\r\\n\\x01\\\"\\r\\n\" \"STORED\\r\\n\"\nturn 1 caller 0 pu 3 climb 0 tests 0 left 0 \"get a\\r\\n\" \"VALUE a 5 2\\r\\n\\x01\\\"\\r\\nEND\\r\\n\"\ncaller 0 pu 3 commands 2 rest 2\n";
+        b"turn 0 caller 0 pu 3 climb 0 tests 0 left 0 \"set a 5 0 2\\r\\n\\x01\\\"\\r\\n\" \"STORED\\r\\n\"\n\
+          turn 1 caller 0 pu 3 climb 0 tests 0 left 0 \"get a\\r\\n\" \"VALUE a 5 2\\r\\n\\x01\\\"\\r\\nEND\\r\\n\"\n\
+          caller 0 pu 3 commands 2 rest 2\n";
     assert_eq!(rt; text.as_slice(), want.as_slice());
     Ok(())
 }

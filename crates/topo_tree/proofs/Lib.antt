@@ -4,6 +4,8 @@ pub mod Faults
 pub mod Coverings
 pub mod Positions
 pub mod Lookups
+pub mod CoverLaws
+pub mod PlaceLaws
 pub mod Depths
 pub mod Trees
 pub mod Shown

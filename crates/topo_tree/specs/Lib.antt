@@ -3,10 +3,12 @@ pub mod Numbers
 pub mod Building
 pub mod CountLaws
 pub mod Coverage
+pub mod Covered
 pub mod Naming
 pub mod Sizes
-pub mod Lines
+pub mod Order
 pub mod Beginnings
+pub mod Lines
 pub mod Laws
 pub mod TableLists
 pub mod Tables

@@ -7,8 +7,9 @@ use Rattle.synth_text.specs.declared.kind.Kind.TheVariants.{Group, Pu, NumaNode}
 use Rattle.synth_text.specs.declared.description.Memory.{Memory}
 use Rattle.synth_text.specs.declared.description.Description.{Description}
 use Rattle.synth_text.specs.Kinds.{same_kind, short_name_of}
-use Rattle.synth_text.specs.Rules.{arities}
+use Rattle.topo_tree.specs.declared.layer.Layer.{Layer}
 use Rattle.topo_tree.specs.declared.layer.Layer.TheVariants as layers
+use Rattle.topo_tree.specs.Order.{tree_order}
 use Rattle.topo_tree.specs.Objects.{depth_count, kinds, kind_at}
 use Rattle.topo_tree.specs.Coverage.{physical_of}
 use Rattle.topo_tree.specs.Sizes.{size_text}
@@ -61,12 +62,11 @@ node_lines (Some memory) physical depth index =
 unfoldable pub own_lines : Description → ℕ → ℕ → List ℕ
 own_lines described depth index = object_line described depth index ++ node_lines described.memory (physical_of described layers.Memory index) depth index
 
--- the lines of an object and, in their order, of all objects under it; the arities are those of the levels below it
-abbrev pub tree_lines : Description → List ℕ → ℕ → ℕ → List ℕ
-tree_lines described [] depth index = own_lines described depth index
-tree_lines described (arity ∷ below) depth index =
-    own_lines described depth index ++ flat_map (λ child. tree_lines described below (depth + 1) child) (range_with_len (index * arity) arity)
+-- the lines of an object of a layer; a NUMANode has its line under its carrier's
+abbrev pub lines_of : Description → Layer → ℕ → List ℕ
+lines_of described (layers.Depth depth) index = own_lines described depth index
+lines_of described layers.Memory index = []
 
--- the lines of Machine and of all objects under it
+-- the lines of all objects in tree order
 unfoldable pub topology_text : Description → List ℕ
-topology_text described = tree_lines described (arities described.levels) 0 0
+topology_text described = flat_map (λ object. lines_of described object.layer object.index) (tree_order described)

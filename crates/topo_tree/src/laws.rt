@@ -1,5 +1,5 @@
 // Laws of the objects of a topology. Each function does nothing: its contract is the law.
-ghost use Rattle.topo_tree.specs.Laws.{ChildrenHaveTheirParent, NumbersNameTheirPus};
+ghost use Rattle.topo_tree.specs.Laws.{ChildrenHaveTheirParent, NumbersNameTheirPus, ObjectsHaveTheirShare, ObjectsOfADepthAreDisjoint, InsideIsByPositions, ChildrenMakeUpTheirParent};
 
 /// Each child of an object is an object of the next depth, and has that object as its parent.
 pub fn children_have_their_parent()
@@ -9,4 +9,24 @@ pub fn children_have_their_parent()
 /// No two PUs have one physical number: each is the one with its number.
 pub fn numbers_name_their_pus()
     ensures { NumbersNameTheirPus }
+{}
+
+/// Each object of a depth has as many PUs as each other, and at least one.
+pub fn objects_have_their_share()
+    ensures { ObjectsHaveTheirShare }
+{}
+
+/// No two objects of a depth have a PU in common.
+pub fn objects_of_a_depth_are_disjoint()
+    ensures { ObjectsOfADepthAreDisjoint }
+{}
+
+/// The set of an object is inside that of another exactly where the positions of its PUs are.
+pub fn inside_is_by_positions()
+    ensures { InsideIsByPositions }
+{}
+
+/// The sets of an object's children make up its own.
+pub fn children_make_up_their_parent()
+    ensures { ChildrenMakeUpTheirParent }
 {}

@@ -11,13 +11,17 @@ mod leaves;
 mod lines;
 mod naming;
 mod numbers;
+mod order;
 mod sets;
 mod show;
 mod sizes;
 mod topology;
 
 pub use fault::BuildFault;
-pub use laws::{children_have_their_parent, numbers_name_their_pus};
+pub use laws::{
+    children_have_their_parent, children_make_up_their_parent, inside_is_by_positions,
+    numbers_name_their_pus, objects_have_their_share, objects_of_a_depth_are_disjoint,
+};
 pub use layer::{Layer, Object};
 pub use topology::Topology;
 

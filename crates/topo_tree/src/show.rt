@@ -2,14 +2,11 @@
 ghost use Rattle.std.specs.Prelude.{◌≡◌, ◌<◌, ◌+◌, ◌++◌, ◌∷◌, [], None, length, slice_index_or, IfOk, OnOk};
 ghost use Rattle.synth_text.specs.Canonical.{canonical};
 ghost use Rattle.synth_text.specs.Kinds.{short_name_of};
-ghost use Rattle.synth_text.specs.Rules.{pu_count};
 ghost use Rattle.synth_text.specs.declared.kind.Kind.TheVariants as kinds;
 ghost use Rattle.topo_tree.specs.declared.layer.Layer.TheVariants as layers;
-ghost use Rattle.topo_tree.specs.Objects.{depth_count, count_at, count_of};
-ghost use Rattle.topo_tree.specs.Building.{IsBuilt};
+ghost use Rattle.topo_tree.specs.Objects.{depth_count, count_at, count_of, IsObject};
 ghost use Rattle.topo_tree.specs.Coverage.{physical_of};
-ghost use Rattle.topo_tree.specs.Lines.{sizes, group_numbers, node_detail, line, object_line, own_lines, topology_text};
-ghost use Rattle.topo_tree.specs.Beginnings.{lines_at};
+ghost use Rattle.topo_tree.specs.Lines.{sizes, group_numbers, node_detail, line, object_line, own_lines, lines_of, topology_text};
 
 use crate::layer::{Layer, Object};
 use crate::lines::{push_detail, push_indent, push_index, push_node_detail, push_short_name};
@@ -33,40 +30,29 @@ impl Topology {
         ensures { IfOk result (λ text. text.items ≡ topology_text self.now) }
     {
         let groups = self.group_numbers(alloc)?;
+        let objects = self.tree_order(alloc)?;
         let mut out = Vec::new(alloc);
-        for position in 0..self.count(self.pu_layer()) {
-            self.push_lines_at(&mut out, &groups, position)?;
+        for object in &objects {
+            self.push_lines(&mut out, &groups, *object)?;
         }
         Ok(out)
     }
 
-    // The layer of the PUs.
-    fn pu_layer(&self) -> Layer
-        ensures layer { result ≡ layers.Depth (length self.now.levels) }
-        ensures built { IsBuilt self.now }
-    {
-        Layer::Depth(self.depths() - 1)
-    }
-
-    // Appends the lines of all objects that have their first PU at a position, from the outermost in.
-    fn push_lines_at(
+    // Appends the lines of an object of the tree.
+    fn push_lines(
         &self,
         out: &mut Vec<u8>,
         groups: &[u32],
-        position: u32,
+        object: Object,
     ) -> Result<(), AllocError>
         requires groups { groups.now ≡ group_numbers self.now }
-        requires position { position < pu_count self.now }
-        ensures { OnOk result (out.new.items ≡ out.old.items ++ lines_at self.now position) }
+        requires object { IsObject self.now object }
+        ensures { OnOk result (out.new.items ≡ out.old.items ++ lines_of self.now object.layer object.index) }
     {
-        let pus = self.count(self.pu_layer());
-        for depth in 0..self.depths() {
-            let width = pus / self.count(Layer::Depth(depth));
-            if position % width == 0 {
-                self.push_own_lines(out, groups, depth, position / width)?;
-            }
+        match object.layer {
+            Layer::Depth(depth) => self.push_own_lines(out, groups, depth, object.index),
+            Layer::Memory => Ok(()),
         }
-        Ok(())
     }
 
     // Appends the line of an object, and of the NUMANode that it carries.

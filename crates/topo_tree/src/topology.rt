@@ -1,5 +1,5 @@
 // A topology and its look-ups.
-ghost use Rattle.std.specs.Prelude.{◌≡◌, ◌<◌, ◌≤◌, None, IfOk, OnOk, IfErr};
+ghost use Rattle.std.specs.Prelude.{◌≡◌, ◌<◌, ◌≤◌, None, IfOk, OnOk, IfErr, IfSome};
 ghost use Rattle.synth_text.specs.Canonical.{canonical};
 ghost use Rattle.synth_text.specs.Sound.{IsSound};
 ghost use Rattle.topo_tree.specs.Objects.{depth_count, kind_at, arity_at, count_of, carrier_of, IsLayer, IsObject, parent_of, children_of};
@@ -84,7 +84,8 @@ impl Topology {
 
     /// The depth of the objects that carry the nodes of memory; `None` where the description has no memory.
     pub fn carrier(&self) -> Option<u32>
-        ensures { result ≡ carrier_of self.now }
+        ensures depth { result ≡ carrier_of self.now }
+        ensures fit { IfSome result (λ depth. depth < depth_count self.now) }
     {
         match &self.description.memory {
             None => None,
@@ -130,7 +131,8 @@ impl Topology {
     /// The object above, which for a NUMANode is its carrier; `None` for Machine.
     pub fn parent(&self, object: Object) -> Option<Object>
         requires { IsObject self.now object }
-        ensures { result ≡ parent_of self.now object.layer object.index }
+        ensures parent { result ≡ parent_of self.now object.layer object.index }
+        ensures fit { IfSome result (IsObject self.now) }
     {
         match object.layer {
             Layer::Depth(depth) => {
@@ -186,7 +188,8 @@ impl Topology {
 
     // The depth of a layer's objects, or of those that carry the nodes of memory; 0 where there are none.
     fn depth_of(&self, layer: Layer) -> u32
-        ensures { result ≡ layer_depth self.now layer }
+        ensures depth { result ≡ layer_depth self.now layer }
+        ensures built { IsBuilt self.now }
     {
         match (layer, &self.description.memory) {
             (Layer::Depth(depth), _) => depth,

@@ -12,4 +12,5 @@ returns-in_err-count-clause-dropped g c =
     let bytes = c.loop-source.bytes in
     let sized : vec_len bytes ≡ length bytes.items = omega arith in
     let within : vec_len bytes ≤ c.args.limit = omega arith in
-    rw p.1 (given_more _ _ _ _ _ _ _ (vec_len bytes) bytes.items sized c.loop-source.invariant.lost c.loop-source.invariant.given within c.in_err-count.ensures.dropped)
+    rw p.1 (given_more _ _ _ _ _ _ _ (vec_len bytes) bytes.items sized c.loop-source.invariant.lost c.loop-source.invariant.given within
+    c.in_err-count.ensures.dropped)

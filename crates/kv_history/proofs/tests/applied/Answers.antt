@@ -14,11 +14,14 @@ loop-command-preserved c =
     let command = view c.in-Some.command in
     let entry = applied_entry entries 0 command in
     let entries_are : c.apply.new.self.entries ≡ entries ++ entry ∷ [] = c.in_ok-apply.ensures.applied in
-    let more : commands entries ++ command ∷ [] ≡ commands c.apply.new.self.entries = sym (map-append (λ entry. entry.command) entries (entry ∷ [])) ∙ ap commands (sym entries_are) in
-    let none : NoneVoid (entries ++ entry ∷ []) = All-push (λ (entry : Logged). entry.void ≡ false) entries entry c.loop-command.invariant.done refl in
+    let more : commands entries ++ command ∷ [] ≡ commands c.apply.new.self.entries =
+    sym (map-append (λ entry. entry.command) entries (entry ∷ [])) ∙ ap commands (sym entries_are) in
+    let none : NoneVoid (entries ++ entry ∷ []) =
+    All-push (λ (entry : Logged). entry.void ≡ false) entries entry c.loop-command.invariant.done refl in
     record {
       section = c.in_ok-apply.ensures.sections ∙ c.loop-command.invariant.section;
-      alone = ap (λ entries. own entries 0) entries_are ∙ own-push entries entry 0 ∙ ap (λ known. known ++ command ∷ []) c.loop-command.invariant.alone ∙ more;
+      alone = ap (λ entries. own entries 0) entries_are ∙ own-push entries entry 0
+          ∙ ap (λ known. known ++ command ∷ []) c.loop-command.invariant.alone ∙ more;
       next = c.loop-command.invariant.next
           ∙ ap (λ later. commands entries ++ later) c.in-Some.ensures.commands
           ∙ sym (append_assoc (commands entries) (command ∷ []) (commands_of (left c.next.new.self)))

@@ -33,6 +33,7 @@ returns-in-Some-Retrieval c =
     let said = sym c.in-Some-Retrieval.ensures ∙ ap (λ line. Some (line_view line)) c.in-Some-Retrieval.field-0-is in (
       λ yes. absurd (false≢true yes),
       λ form.
-          let cause = form_cause c.args.text.now c.in-Some.content.now c.in-Some.behind.now (plain.Retrieval c.in-Some-Retrieval.field-0-0 (keys_left c.in-Some-Retrieval.field-0-1)) c.in-Some.ensures said form in
+          let cause = form_cause c.args.text.now c.in-Some.content.now c.in-Some.behind.now
+          (plain.Retrieval c.in-Some-Retrieval.field-0-0 (keys_left c.in-Some-Retrieval.field-0-1)) c.in-Some.ensures said form in
           absurd cc,
     )

@@ -8,22 +8,26 @@ use Rattle.mc_text.proofs.Sections.{length-commands_of, spelled_only}
 use Rattle.mc_text.proofs.section.count.Goals as goal
 
 -- a command that is given is one of those that were left
-one_fewer : (old new : List WholeCommand) (given : Option Command) → MatchOption given (old ≡ []) (λ command. old ≡ view command ∷ new) → is_some given ≡ true → length old ≡ length new + 1
+one_fewer : (old new : List WholeCommand) (given : Option Command) → MatchOption given (old ≡ []) (λ command. old ≡ view command ∷ new)
+    → is_some given ≡ true → length old ≡ length new + 1
 one_fewer old new None gives some = cc
 one_fewer old new (Some command) gives some = omega (arith, ap length gives)
 
-none_left : (old new : List WholeCommand) (given : Option Command) → MatchOption given (old ≡ []) (λ command. old ≡ view command ∷ new) → is_some given ≡ false → old ≡ []
+none_left : (old new : List WholeCommand) (given : Option Command) → MatchOption given (old ≡ []) (λ command. old ≡ view command ∷ new)
+    → is_some given ≡ false → old ≡ []
 none_left old new None gives none = gives
 none_left old new (Some command) gives none = cc
 
 pub overflow_add-number : goal.overflow_add-number
 overflow_add-number c =
-    let fewer = one_fewer (commands_of (left c.loop-commands.commands)) (commands_of (left c.next.new.self)) c.next.result c.next.ensures.commands (sym c.is_some.ensures ∙ c.loop-commands-test.true) in
+    let fewer = one_fewer (commands_of (left c.loop-commands.commands))
+    (commands_of (left c.next.new.self)) c.next.result c.next.ensures.commands (sym c.is_some.ensures ∙ c.loop-commands-test.true) in
     omega (arith, fewer, c.loop-commands.invariant, length-commands_of c.args.section.now)
 
 pub returns-clause-spelled : goal.returns-clause-spelled
 returns-clause-spelled c = λ commands rest spelled.
-    let none = none_left (commands_of (left c.loop-commands.commands)) (commands_of (left c.next.new.self)) c.next.result c.next.ensures.commands (sym c.is_some.ensures ∙ c.loop-commands-test.false) in
+    let none = none_left (commands_of (left c.loop-commands.commands))
+    (commands_of (left c.next.new.self)) c.next.result c.next.ensures.commands (sym c.is_some.ensures ∙ c.loop-commands-test.false) in
     let read = spelled_only c.args.section.now commands rest spelled in
     omega (arith, c.loop-commands.invariant, ap length none, ap length read.0)
 

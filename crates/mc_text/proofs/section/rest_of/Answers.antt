@@ -6,7 +6,8 @@ use Rattle.mc_text.specs.Reading.{rest_of}
 use Rattle.mc_text.proofs.section.rest_of.Goals as goal
 
 -- where no command is given, what is left is the rest
-rest_left : (old new : List ℕ) (given : Option Command) → MatchOption given (new ≡ rest_of old) (λ _. rest_of new ≡ rest_of old) → is_some given ≡ false → new ≡ rest_of old
+rest_left : (old new : List ℕ) (given : Option Command) → MatchOption given (new ≡ rest_of old) (λ _. rest_of new ≡ rest_of old)
+    → is_some given ≡ false → new ≡ rest_of old
 rest_left old new None is none = is
 rest_left old new (Some command) is none = cc
 

@@ -8,4 +8,5 @@ returns-in_default-clause-refused c bytes served = c.in_default.ensures bytes se
 
 pub returns-then-unbuilt-clause-refused : goal.returns-then-unbuilt-clause-refused
 returns-then-unbuilt-clause-refused c bytes served =
-    served.built (subst IsUnbuilt (one_lone c.args.input.now c.in-Some.bytes.now bytes c.in-Some.ensures served.lone) (c.unbuilt.ensures.0 c.if-unbuilt.true))
+    served.built (subst IsUnbuilt (one_lone c.args.input.now c.in-Some.bytes.now bytes c.in-Some.ensures served.lone)
+    (c.unbuilt.ensures.0 c.if-unbuilt.true))

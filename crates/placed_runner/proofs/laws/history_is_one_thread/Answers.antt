@@ -5,5 +5,9 @@ use Rattle.placed_runner.proofs.Histories.{history_commands, history_whole, hist
 use Rattle.placed_runner.proofs.laws.history_is_one_thread.Goals as goal
 
 pub returns : goal.returns
-returns c all =
-    (history_commands empty_store all, history_whole empty_store all, history_replies empty_store all ∙ ap replies_of (sym (history_commands empty_store all)))
+returns c all = (
+  history_commands empty_store all,
+  history_whole empty_store all,
+  history_replies empty_store all
+      ∙ ap replies_of (sym (history_commands empty_store all)),
+)

@@ -31,18 +31,24 @@ invariant_of-self c =
     let store = rw c.in_err-answered.was at c.answer-answered.ensures.store_stays in
     let void = rw c.in_err-answered.was at c.is_err.ensures.value in
     let reply_is : c.answer-answered.new.reply.items ≡ [] = reply ∙ c.new-reply.ensures.items in
-    let entry_is : ◌≡◌ {A = Logged} (record { caller = c.args.caller; command = command; reply = c.answer-answered.new.reply.items; void = c.is_err.result }) (void_entry c.args.caller command) =
+    let entry_is : ◌≡◌ {A = Logged}
+    (record { caller = c.args.caller; command = command; reply = c.answer-answered.new.reply.items; void = c.is_err.result })
+    (void_entry c.args.caller command) =
     λ i. record { caller = c.args.caller; command = command; reply = reply_is i; void = void i } in
-    let entries_are : map logged c.put.new.records.items ≡ log.entries ++ void_entry c.args.caller command ∷ [] = logged-push _ _ _ _ c.put.ensures.items entry_is in
+    let entries_are : map logged c.put.new.records.items ≡ log.entries ++ void_entry c.args.caller command ∷ [] =
+    logged-push _ _ _ _ c.put.ensures.items entry_is in
     record {
-      sound = subst (λ (entries : List Logged). IsSound (record { sections = log.sections; entries = entries })) (sym entries_are) (sound-void log c.args.caller command next c.self.invariant.sound);
+      sound = subst (λ (entries : List Logged). IsSound (record { sections = log.sections; entries = entries })) (sym entries_are)
+          (sound-void log c.args.caller command next c.self.invariant.sound);
       store = store ∙ c.self.invariant.store ∙ sym (store_now-void log.entries c.args.caller command) ∙ ap store_now (sym entries_are);
       small = c.self.invariant.small;
       room = omega (arith, c.self.invariant.room, c.put.ensures.capacity);
     }
 
 -- the entries once the command is applied
-applied_entries : (c : goal.In_ok-answered) → map logged c.put.new.records.items ≡ (log_of c.self.inside).entries ++ applied_entry (log_of c.self.inside).entries c.args.caller (view c.args.command) ∷ []
+applied_entries : (c : goal.In_ok-answered)
+    → map logged c.put.new.records.items ≡ (log_of c.self.inside).entries ++ applied_entry (log_of c.self.inside).entries c.args.caller
+    (view c.args.command) ∷ []
 applied_entries c =
     let log = log_of c.self.inside in
     let command = view c.args.command in
@@ -52,7 +58,9 @@ applied_entries c =
     reply
     ∙ ap (λ text. text ++ reply_of c.self.inside.store command.request) c.new-reply.ensures.items
     ∙ ap (λ store. reply_of store command.request) c.self.invariant.store in
-    let entry_is : ◌≡◌ {A = Logged} (record { caller = c.args.caller; command = command; reply = c.answer-answered.new.reply.items; void = c.is_err.result }) (applied_entry log.entries c.args.caller command) =
+    let entry_is : ◌≡◌ {A = Logged}
+    (record { caller = c.args.caller; command = command; reply = c.answer-answered.new.reply.items; void = c.is_err.result })
+    (applied_entry log.entries c.args.caller command) =
     λ i. record { caller = c.args.caller; command = command; reply = reply_is i; void = void i } in
     logged-push _ _ _ _ c.put.ensures.items entry_is
 
@@ -64,7 +72,8 @@ invariant_of-self-2 c =
     let store = rw c.in_ok-answered.was at c.answer-answered.ensures.store in
     let sound = sound-applied log c.args.caller command next c.self.invariant.sound in
     record {
-      sound = subst (λ (entries : List Logged). IsSound (record { sections = log.sections; entries = entries })) (sym (applied_entries c)) sound;
+      sound = subst (λ (entries : List Logged). IsSound (record { sections = log.sections; entries = entries }))
+          (sym (applied_entries c)) sound;
       store = store
           ∙ ap (λ store. store_after store command.request) c.self.invariant.store
           ∙ sym (store_now-applied log.entries c.args.caller command)

@@ -16,6 +16,8 @@ loop-key-preserved-in-Continue-1 c =
     ∙ ap (λ items. written_key items c.args.uniques key) (ap (λ store. store.items) c.self.view_is) in
     record {
       part = part ++ more;
-      appended = c.in_ok-append_item.ensures.ok ∙ ap (λ text. text ++ more) c.loop-key.invariant.appended ∙ append_assoc c.args.reply.now.items part more;
-      whole = given_more (written_key c.args.self.now.items c.args.uniques) part more _ key _ _ c.in-Some.ensures found c.loop-key.invariant.whole;
+      appended = c.in_ok-append_item.ensures.ok ∙ ap (λ text. text ++ more) c.loop-key.invariant.appended
+          ∙ append_assoc c.args.reply.now.items part more;
+      whole = given_more (written_key c.args.self.now.items c.args.uniques) part more _ key _ _ c.in-Some.ensures found
+          c.loop-key.invariant.whole;
     }

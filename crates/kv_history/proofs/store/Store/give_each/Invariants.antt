@@ -8,7 +8,8 @@ abbrev pub invariant-loop-key : goal.invariant-loop-key
 invariant-loop-key l = record {
   part : List ℕ;
   appended : l.reply.items ≡ l.initial.reply.items ++ part;
-  whole : part ++ flat_map (written_key l.self.items l.uniques) (keys_left l.keys) ≡ flat_map (written_key l.self.items l.uniques) (keys_left l.initial.keys);
+  whole : part ++ flat_map (written_key l.self.items l.uniques) (keys_left l.keys) ≡ flat_map (written_key l.self.items l.uniques)
+      (keys_left l.initial.keys);
 }
 
 abbrev pub decreases-loop-key : goal.decreases-loop-key

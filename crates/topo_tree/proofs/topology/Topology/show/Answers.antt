@@ -1,25 +1,13 @@
-use Rattle.std.proofs.Common.{◌≡◌, ◌++◌, sym, ap, ◌∙◌, arith}
-use Rattle.std.specs.List.{range_with_len, flat_map}
-use Rattle.synth_text.specs.Rules.{arities, product}
-use Rattle.topo_tree.specs.Objects.{count_of}
-use Rattle.topo_tree.specs.Beginnings.{lines_at}
-use Rattle.topo_tree.specs.CountLaws.{have_arities, last_count}
-use Rattle.topo_tree.proofs.Trees.{flat_map-range_more, text-by_position}
+use Rattle.std.proofs.Common.{◌≡◌, length, take, ap, ◌∙◌, arith}
+use Rattle.std.specs.List.{flat_map}
+use Rattle.std.proofs.lemmas.List.{take_all}
+use Rattle.topo_tree.specs.Lines.{lines_of, topology_text}
 use Rattle.topo_tree.proofs.topology.Topology.show.Goals as goal
 
-pub push_lines_at-requires-clause-groups : goal.push_lines_at-requires-clause-groups
-push_lines_at-requires-clause-groups c = c.deref.ensures.value ∙ c.in_ok-groups.ensures
-
-pub loop-position-preserved : goal.loop-position-preserved
-loop-position-preserved c =
-    let now = c.args.self.now in
-    c.in_ok-push_lines_at.ensures ∙ ap (λ out. out ++ lines_at now c.loop-position.position) c.loop-position.invariant
-    ∙ sym (flat_map-range_more (lines_at now) c.loop-position.position)
-
 pub returns : goal.returns
+unfolding topology_text
 returns c =
     let now = c.args.self.now in
-    let pus : c.count-position-end.result ≡ product (arities now.levels) = c.count-position-end.ensures.count ∙ ap (count_of now) c.pu_layer.ensures.layer ∙ last_count now.levels in
-    let all : c.loop-position.position ≡ product (arities now.levels) = omega (arith, pus) in
-    c.loop-position.invariant ∙ ap (λ count. flat_map (lines_at now) (range_with_len 0 count)) all
-    ∙ sym (text-by_position now (have_arities now c.pu_layer.ensures.built.sound))
+    let objects = c.in_ok-objects.objects.items in
+    c.loop-object.invariant
+    ∙ ap (flat_map (λ object. lines_of now object.layer object.index)) (ap (take c.loop-object.object-index) c.deref-object-items.ensures.value ∙ take_all c.loop-object.object-index objects (omega (arith, c.loop-object-test.false, ap length c.deref-object-items.ensures.value)) ∙ c.in_ok-objects.ensures.order)

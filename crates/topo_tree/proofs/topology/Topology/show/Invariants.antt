@@ -1,7 +1,7 @@
-use Rattle.std.proofs.Common.{◌≡◌}
-use Rattle.std.specs.List.{range_with_len, flat_map}
-use Rattle.topo_tree.specs.Beginnings.{lines_at}
+use Rattle.std.proofs.Common.{◌≡◌, take}
+use Rattle.std.specs.List.{flat_map}
+use Rattle.topo_tree.specs.Lines.{lines_of}
 use Rattle.topo_tree.proofs.topology.Topology.show.Given as goal
 
-abbrev pub invariant-loop-position : goal.invariant-loop-position
-invariant-loop-position l = l.out.items ≡ flat_map (lines_at l.self) (range_with_len 0 l.position)
+abbrev pub invariant-loop-object : goal.invariant-loop-object
+invariant-loop-object l = l.out.items ≡ flat_map (λ object. lines_of l.self object.layer object.index) (take l.object-index l.object-items)

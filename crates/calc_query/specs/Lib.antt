@@ -1,0 +1,5 @@
+pub mod Picks
+pub mod Candidates
+pub mod Selection
+pub mod Readings
+pub mod Answers

@@ -1,0 +1,43 @@
+// The objects of a layer inside an object.
+ghost use Rattle.std.specs.Prelude.{◌≡◌, ◌+◌, ◌≤◌};
+ghost use Rattle.std.specs.List.{range_with_len};
+ghost use Rattle.topo_tree.specs.Objects.{count_of, IsLayer, IsObject};
+ghost use Rattle.topo_tree.specs.Coverage.{set_of};
+ghost use Rattle.topo_tree.specs.Building.{IsBuilt};
+ghost use Rattle.calc_query.specs.Candidates.{candidates};
+
+use topo_tree::{Layer, Object, Topology};
+
+/// Objects of one layer that stand side by side.
+#[derive(Clone, Copy)]
+pub struct Run {
+    /// The first one's index.
+    pub first: u32,
+    /// How many there are.
+    pub count: u32,
+}
+
+/// The objects of a layer whose sets lie inside that of an object.
+pub fn inside(topology: &Topology, outer: Object, layer: Layer) -> Run
+    requires outer { IsObject topology.now outer }
+    requires layer { IsLayer topology.now layer }
+    ensures run { candidates topology.now layer (set_of topology.now outer.layer outer.index) ≡ range_with_len result.first result.count }
+    ensures within { result.first + result.count ≤ count_of topology.now layer }
+    ensures few { result.first + result.count ≤ 4096 }
+    ensures built { IsBuilt topology.now }
+{
+    let pus = topology.count(Layer::Depth(topology.depths() - 1));
+    let count = topology.count(layer);
+    if count == 0 {
+        return Run { first: 0, count: 0 };
+    }
+    let width = pus / count;
+    let outer_width = pus / topology.count(outer.layer);
+    let start = outer.index * outer_width;
+    let first = (start + width - 1) / width;
+    let end = (start + outer_width) / width;
+    Run {
+        first,
+        count: end.saturating_sub(first),
+    }
+}

@@ -1,0 +1,21 @@
+//! What an operator asks of a topology: the set of PUs that locations select, and the objects that a set meets, as
+//! hwloc-calc answers them, in this project's profile.
+#![tactic(auto)]
+
+mod answers;
+mod candidates;
+mod fault;
+mod indexes;
+mod picks;
+mod query;
+mod reading;
+mod selecting;
+
+pub use answers::{hierarchical, intersecting, largest};
+pub use fault::CalcFault;
+pub use query::{Location, Numbering, Op, Part, Path, Pick, Step2, Term};
+pub use reading::{read_location, read_term};
+pub use selecting::select;
+
+#[cfg(test)]
+mod tests;

@@ -1,0 +1,11 @@
+use Rattle.clof_tool.proofs.Codes.{usage_ends}
+use Rattle.clof_tool.proofs.process.Process.serve.Goals as goal
+use Rattle.clof_tool.proofs.process.Process.serve.Goals.{in-Ok, in-Err}
+
+pub returns-clause-usage : goal.returns-clause-usage
+returns-clause-usage g c =
+    elim c.match-words.branch [
+      | in-Ok w ↦ rw w.in-Ok.is
+          (usage_ends _ _ _ _ c.code.ensures c.from.ensures (rw w.status-is (rw (← w.deref.ensures.value) w.top-status.ensures.usage)))
+      | in-Err w ↦ rw w.in-Err.is tt
+    ]

@@ -1,0 +1,69 @@
+-- The line on standard error that tells of a status.
+use Rattle.std.specs.Prelude.{ℕ, List, [], ◌∷◌, ◌++◌, codes, decimal}
+use Rattle.cpu_set.specs.declared.fault.SetFault.{SetFault}
+use Rattle.cpu_set.specs.declared.fault.SetFault.TheVariants as set
+use Rattle.placed_runner.specs.declared.fault.SectionFault.{SectionFault}
+use Rattle.placed_runner.specs.declared.fault.SectionFault.TheVariants as section
+use Rattle.synth_text.specs.declared.fault.SynthFault.{SynthFault}
+use Rattle.synth_text.specs.declared.fault.SynthFault.TheVariants as synth
+use Rattle.topo_tree.specs.declared.fault.BuildFault.{BuildFault}
+use Rattle.topo_tree.specs.declared.fault.BuildFault.TheVariants as build
+use Rattle.clof_tool.specs.declared.status.Fault.{Fault}
+use Rattle.clof_tool.specs.declared.status.Fault.TheVariants as faults
+use Rattle.clof_tool.specs.declared.status.Status.{Status}
+use Rattle.clof_tool.specs.declared.status.Status.TheVariants as statuses
+
+-- a text, a space and a number
+abbrev pub with_number : List ℕ → ℕ → List ℕ
+with_number text number = text ++ 32 ∷ decimal number
+
+abbrev pub set_message : SetFault → List ℕ
+set_message (set.Form at) = with_number (codes "set Form") at
+set_message (set.TooLarge at) = with_number (codes "set TooLarge") at
+set_message (set.Infinite at) = with_number (codes "set Infinite") at
+
+abbrev pub synth_message : SynthFault → List ℕ
+synth_message synth.Empty = codes "synth Empty"
+synth_message (synth.BadType at) = with_number (codes "synth BadType") at
+synth_message (synth.BadArity at) = with_number (codes "synth BadArity") at
+synth_message (synth.BadAttr at) = with_number (codes "synth BadAttr") at
+synth_message (synth.BadIndexes at) = with_number (codes "synth BadIndexes") at
+synth_message (synth.LastNotPu at) = with_number (codes "synth LastNotPu") at
+synth_message (synth.RepeatedType at) = with_number (codes "synth RepeatedType") at
+synth_message synth.TooManyLevels = codes "synth TooManyLevels"
+synth_message synth.TooManyObjects = codes "synth TooManyObjects"
+synth_message synth.OutOfMemory = codes "out of memory"
+
+abbrev pub build_message : BuildFault → List ℕ
+build_message (build.IndexCount found wanted) = with_number (with_number (codes "build IndexCount") found) wanted
+build_message (build.IndexRange number) = with_number (codes "build IndexRange") number
+build_message (build.IndexTwice number) = with_number (codes "build IndexTwice") number
+build_message build.OutOfMemory = codes "out of memory"
+
+abbrev pub section_message : SectionFault → List ℕ
+section_message section.NotYet = codes "section NotYet"
+
+-- the area, the name of the fault and its numbers
+abbrev pub fault_message : Fault → List ℕ
+fault_message (faults.Set fault) = set_message fault
+fault_message (faults.Synth fault) = synth_message fault
+fault_message (faults.Build fault) = build_message fault
+fault_message (faults.Section fault) = section_message fault
+fault_message faults.Input = codes "input"
+
+-- what the line says; of Ok there is no line
+abbrev pub message : Status → List ℕ
+message statuses.Ok = []
+message statuses.Usage = codes "usage"
+message (statuses.Malformed fault) = fault_message fault
+message (statuses.Limit fault) = fault_message fault
+message statuses.ReadFault = codes "read fault"
+message (statuses.WriteFault written) = with_number (codes "write fault") written
+message statuses.OutOfMemory = codes "out of memory"
+
+-- what is said, as a line of the program
+abbrev pub line_with : List ℕ → List ℕ
+line_with said = codes "clof: " ++ said ++ 10 ∷ []
+
+unfoldable pub line_of : Status → List ℕ
+line_of status = line_with (message status)

@@ -1,0 +1,86 @@
+// The process that the program runs in: its words, its streams and its exit status.
+ghost use Rattle.std.specs.Prelude.{◌≡◌, ◌≢◌, ◌↔◌, IfErr, IfOk};
+ghost use Rattle.std.specs.IoError.{error_kind};
+ghost use Rattle.std.specs.Process.{exit_status};
+ghost use Rattle.clof_tool.specs.declared.status.Status.{Status as AnyStatus};
+ghost use Rattle.clof_tool.specs.Process.{words_of_process, IsUnused};
+ghost use Rattle.clof_tool.specs.Status.{code_of};
+ghost use Rattle.clof_tool.specs.Words.{IsUsage};
+
+use crate::report::report;
+use crate::{Status, top};
+use edge_io::{StdSink, StdSource};
+use std::alloc::Global;
+use std::io::{ErrorKind, Stderr, Stdin, Stdout};
+use std::process::ExitCode;
+use std::sync::Wait;
+use std::thread::Threads;
+use std::{env, io};
+
+/// The process that the program runs in: the words behind its name, and its standard streams.
+#[derive(Drop)]
+pub struct Process {
+    words: io::Result<Vec<String>>,
+    input: StdSource<Stdin>,
+    output: StdSink<Stdout>,
+    errors: StdSink<Stderr>,
+}
+
+impl Process {
+    /// The process of the runtime, whose streams haven't been read or written yet.
+    pub fn new(rt: &HostRuntime) -> Process
+        ensures { IsUnused result }
+    {
+        Process {
+            words: words(rt),
+            input: StdSource::new(rt.stdin()),
+            output: StdSink::new(rt.stdout()),
+            errors: StdSink::new(rt.stderr()),
+        }
+    }
+
+    /// Makes the top call, and answers the exit status of its code. Words that aren't text are taken as none, which is
+    /// Usage.
+    pub fn serve<R: Threads + Wait + Sync>(self, rt: &R, alloc: Global) -> ExitCode
+        ensures code { (status : AnyStatus) × (exit_status result ≡ code_of status) }
+        ensures usage { IfOk (words_of_process self) (λ words. (exit_status result ≡ 2) ↔ IsUsage words.items) }
+        ensures no_words { IfErr (words_of_process self) (λ error. error_kind error ≢ ErrorKind.OutOfMemory → exit_status result ≡ 2) }
+        ensures no_memory { IfErr (words_of_process self) (λ error. error_kind error ≡ ErrorKind.OutOfMemory → exit_status result ≡ 7) }
+    {
+        let Process {
+            words,
+            mut input,
+            mut output,
+            mut errors,
+        } = self;
+        let status = match words {
+            Ok(words) => top(rt, alloc, &words, &mut input, &mut output, &mut errors),
+            Err(error) => {
+                let status = status_of(error.kind());
+                report(&mut errors, &status);
+                status
+            }
+        };
+        ExitCode::from(status.code())
+    }
+}
+
+// How the program ends where its words can't be had.
+fn status_of(kind: ErrorKind) -> Status
+    ensures memory { kind ≡ ErrorKind.OutOfMemory → result ≡ Status.OutOfMemory }
+    ensures other { kind ≢ ErrorKind.OutOfMemory → result ≡ Status.Usage }
+{
+    match kind {
+        ErrorKind::OutOfMemory => Status::OutOfMemory,
+        _ => Status::Usage,
+    }
+}
+
+// The words behind the program's name.
+fn words(rt: &HostRuntime) -> io::Result<Vec<String>> {
+    let mut words = Vec::new(rt.alloc());
+    for word in env::args(rt)?.skip(1) {
+        words.push(word)?;
+    }
+    Ok(words)
+}

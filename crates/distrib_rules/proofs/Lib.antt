@@ -1,0 +1,5 @@
+pub mod Rounding
+pub mod SharedLaws
+pub mod ExpansionLaws
+pub mod AsMany
+pub mod Covering

@@ -1,0 +1,5 @@
+pub mod Shares
+pub mod Expansion
+pub mod Masks
+pub mod Faults
+pub mod Laws

@@ -1,0 +1,118 @@
+// Sharing masks out over the objects of a topology.
+ghost use Rattle.std.specs.Prelude.{◌≡◌, ◌+◌, ◌<◌, ◌≤◌, ℕ, length, None, vec_len, IfOk, OnOk, IfErr};
+ghost use Rattle.std.specs.List.{range_with_len};
+ghost use Rattle.topo_tree.specs.Building.{IsBuilt};
+ghost use Rattle.topo_tree.specs.Objects.{depth_count, count_at};
+ghost use Rattle.distrib_rules.specs.Shares.{shared, in_order};
+ghost use Rattle.distrib_rules.specs.Expansion.{is_final, expansion};
+ghost use Rattle.distrib_rules.specs.Masks.{with_pairs, distribution};
+ghost use Rattle.distrib_rules.specs.Faults.{fault_of, IsFaultUnlessMemory};
+
+use crate::fault::DistribFault;
+use crate::masks::push_share;
+use crate::shares::Siblings;
+use cpu_set::CpuSet;
+use std::alloc::{AllocError, Global};
+use topo_tree::{Layer, Object, Topology};
+
+// How many masks one distribution may have.
+const MASK_LIMIT: u32 = 4096;
+
+/// Shares n masks out over the objects of the depth `from`. Each object gets masks by its number of PUs. One with more
+/// than one mask hands them on to its children, down to the depth `to`; one without a mask joins its set to the mask
+/// before. With `reverse` every list of objects is taken from its last to its first.
+///
+/// It is refused for the first of these: no mask, more than 4,096, a start below the end.
+pub fn distrib(
+    alloc: Global,
+    topology: &Topology,
+    n: u32,
+    from: u32,
+    to: u32,
+    reverse: bool,
+) -> Result<Vec<CpuSet>, DistribFault>
+    requires from { from < depth_count topology.now }
+    requires to { to < depth_count topology.now }
+    ensures masks { IfOk result (λ masks. masks.items ≡ distribution topology.now (record { to = to; backwards = reverse }) n from) }
+    ensures count { IfOk result (λ masks. vec_len masks ≡ n) }
+    ensures accepted { OnOk result (fault_of n from to ≡ None) }
+    ensures refused { IfErr result (IsFaultUnlessMemory (fault_of n from to)) }
+{
+    if n == 0 {
+        return Err(DistribFault::ZeroMasks);
+    }
+    if n > MASK_LIMIT {
+        return Err(DistribFault::TooManyMasks);
+    }
+    if from > to {
+        return Err(DistribFault::Reversed);
+    }
+    let all = Siblings {
+        first: 0,
+        count: topology.count(Layer::Depth(from)),
+    };
+    let distribution = Distribution {
+        topology,
+        last: topology.depths() - 1,
+        to,
+        reverse,
+    };
+    let mut masks = Vec::new(alloc);
+    distribution.share_out(&mut masks, n, from, all)?;
+    Ok(masks)
+}
+
+// How masks are shared out.
+#[derive(Drop)]
+struct Distribution<'a> {
+    topology: &'a Topology,
+    // The depth of the PUs.
+    last: u32,
+    to: u32,
+    reverse: bool,
+}
+
+impl Distribution<'_> {
+    // Appends the n masks that objects of a depth share.
+    fn share_out(
+        &self,
+        masks: &mut Vec<CpuSet>,
+        n: u32,
+        depth: u32,
+        objects: Siblings,
+    ) -> Result<(), AllocError>
+        requires built { IsBuilt self.now.topology.now }
+        requires last { self.now.last ≡ length self.now.topology.now.levels }
+        requires depth { depth < depth_count self.now.topology.now }
+        requires some { 0 < objects.count }
+        requires objects { objects.first + objects.count ≤ count_at self.now.topology.now depth }
+        requires masks { n ≤ 4096 }
+        ensures { OnOk result (masks.new.items ≡ with_pairs self.now.topology.now masks.old.items
+            (expansion self.now.topology.now (record { to = self.now.to; backwards = self.now.reverse })
+            (shared self.now.topology.now n depth (in_order self.now.reverse (range_with_len objects.first objects.count))))) }
+    {
+        for place in 0..objects.count {
+            let object = Object {
+                layer: Layer::Depth(depth),
+                index: objects.index_at(place, self.reverse),
+            };
+            let share = objects.share_at(n, place);
+            if self.is_final(depth, share) {
+                push_share(masks, self.topology.set(object), share)?;
+            } else {
+                let (first, count) = self.topology.children(object);
+                self.share_out(masks, share, depth + 1, Siblings { first, count })?;
+            }
+        }
+        Ok(())
+    }
+
+    // Whether an object of a depth hands none of its share of masks on.
+    fn is_final(&self, depth: u32, share: u32) -> bool
+        requires last { self.now.last ≡ length self.now.topology.now.levels }
+        ensures { (index : ℕ) → result ≡ is_final self.now.topology.now (record { to = self.now.to; backwards = self.now.reverse })
+            (record { depth = depth; index = index; share = share }) }
+    {
+        depth >= self.last || share <= 1 || depth >= self.to
+    }
+}

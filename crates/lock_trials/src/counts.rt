@@ -1,0 +1,118 @@
+//! Holds that add to a plain number, by one, two or four threads.
+ghost use Rattle.std.specs.Prelude.{◌≡◌};
+ghost use Rattle.lock_rules.specs.Passes.{IsOf};
+ghost use Rattle.lock_rules.specs.Tag.{leaf};
+
+use crate::threads::{Works, apart, by_four, by_two};
+use lock_rules::{Basic, Plain};
+use std::alloc::Global;
+use std::sync::Wait;
+use std::thread::Threads;
+
+/// Holds the lock as often as asked, and adds one to the number each time.
+fn count_often<B: Basic<Plain<u64>>, R: Wait>(
+    rt: &R,
+    lock: &B,
+    pass: B::Pass,
+    holds: u32,
+) -> B::Pass
+    requires own { IsOf (B.name lock.now) (B.tag lock.now) (B.Pass.place pass) }
+    requires tag { B.tag lock.now ≡ leaf 0 }
+    ensures { B.Pass.place result ≡ B.Pass.place pass }
+{
+    let mut pass = pass;
+    for _ in 0..holds {
+        let mut held = lock.acquire(rt, pass);
+        let number = B::value_mut(&mut held);
+        number.value = number.value.wrapping_add(1);
+        pass = lock.release(rt, held);
+    }
+    pass
+}
+
+/// The holds of one thread.
+#[derive(Drop)]
+struct Count<'a, B, R> {
+    rt: &'a R,
+    lock: &'a B,
+    holds: u32,
+}
+
+impl<'a, B: Basic<Plain<u64>>, R: Wait> Works<B::Pass> for Count<'a, B, R> {
+    ghost allows = { λ s p. IsOf (B.name s.lock.now) (B.tag s.lock.now) (B.Pass.place p) × (B.tag s.lock.now ≡ leaf 0) };
+
+    fn work(&self, pass: B::Pass) -> B::Pass {
+        count_often(self.rt, self.lock, pass, self.holds)
+    }
+}
+
+/// One pass holds the lock as often as asked. The answer is the number at the end, or `None` for want of memory.
+pub fn count_alone<B: Basic<Plain<u64>> + Drop, R: Wait>(
+    rt: &R,
+    alloc: Global,
+    recipe: B::Recipe,
+    holds: u32,
+) -> Option<u64> {
+    let (lock, mut passes) = B::make(alloc, recipe, 1, Plain { value: 0 }).ok()?;
+    let pass = passes.pop()?;
+    let pass = count_often(rt, &lock, pass, holds);
+    passes.push(pass).ok()?;
+    Some(lock.close(passes).value)
+}
+
+/// Two threads each hold the lock as often as asked.
+pub fn count_by_two<B: Basic<Plain<u64>> + Sync + Drop, R: Threads + Wait + Sync>(
+    rt: &R,
+    alloc: Global,
+    recipe: B::Recipe,
+    holds: u32,
+) -> Option<u64>
+where
+    B::Recipe: Send,
+    B::Pass: Send,
+    B::Queue: Send,
+    B::Held: Send,
+    B::Leave: Send,
+{
+    let (lock, mut passes) = B::make(alloc, recipe, 2, Plain { value: 0 }).ok()?;
+    let second = passes.pop()?;
+    let first = passes.pop()?;
+    let count = Count {
+        rt,
+        lock: &lock,
+        holds,
+    };
+    let (first, second) = by_two(rt, &count, first, second);
+    passes.push(first).ok()?;
+    passes.push(second).ok()?;
+    Some(lock.close(passes).value)
+}
+
+/// Four threads each hold the lock as often as asked.
+pub fn count_by_four<B: Basic<Plain<u64>> + Sync + Drop, R: Threads + Wait + Sync>(
+    rt: &R,
+    alloc: Global,
+    recipe: B::Recipe,
+    holds: u32,
+) -> Option<u64>
+where
+    B::Recipe: Send,
+    B::Pass: Send,
+    B::Queue: Send,
+    B::Held: Send,
+    B::Leave: Send,
+{
+    let (lock, mut passes) = B::make(alloc, recipe, 4, Plain { value: 0 }).ok()?;
+    let (front, back) = apart(&lock, &mut passes)?;
+    let count = Count {
+        rt,
+        lock: &lock,
+        holds,
+    };
+    let (front, back) = by_four(rt, &count, front, back);
+    passes.push(front.0).ok()?;
+    passes.push(front.1).ok()?;
+    passes.push(back.0).ok()?;
+    passes.push(back.1).ok()?;
+    Some(lock.close(passes).value)
+}
