@@ -1,3 +1,4 @@
+pub mod Sums
 pub mod Counts
 pub mod Tied
 pub mod Seated

@@ -16,7 +16,7 @@ use lib.ListN.{get_elem?}
 use lib.Seq.{set-get_or}
 use Rattle.atomic_table.specs.Table.{State, step, keeps, stepped, Allows, Splits, Joins, opening}
 use Rattle.atomic_table.proofs.Lists.{at_set, set_else, set_again, at_longer, at_snoc}
-use Rattle.lock_rules.proofs.Sums.{sum_set, part_le, parts_le}
+use Rattle.keep_local.proofs.Sums.{sum_set, part_le, parts_le}
 use Rattle.keep_local.specs.declared.view.Tally.{Tally}
 use Rattle.keep_local.specs.declared.view.View.{View}
 use Rattle.keep_local.specs.Views.{times, stands_in, new_tally, first_view, first_alone, behind_first, without_first, first_split}
@@ -208,7 +208,7 @@ module _ (quotas : List ℕ) where
       let none_behind : tallied t.caller ts ≡ 0 = let p = part_le (stands_in t.caller) s.views id v at in let q = alone t.caller in
       omega (arith, p, q, mine, all) in
       let none_else : (j : ℕ) (u : View) → j ≢ id → get_elem? s.views j ≡ some u
-      → tallied t.caller u.tallies ≡ 0 = λ j u ne e. let p = parts_le (stands_in t.caller) s.views id j v u (λ q. ne (sym q)) at e in
+      → tallied t.caller u.tallies ≡ 0 = λ j u ne e. let p = parts_le (stands_in t.caller) s.views id j v u spent_view refl ne at e in
       let q = alone t.caller in omega (arith, p, q, mine, all) in
       let rule : Rule (stepped s 0 ((slice_index s.words 0 + 1) % 2 ^ 64) id me.1 w keeps) = record {
         callers = callers;
