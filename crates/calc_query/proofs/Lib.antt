@@ -6,3 +6,4 @@ pub mod PickLaws
 pub mod PartReadings
 pub mod LocationReadings
 pub mod ChainLaws
+pub mod PathLaws

@@ -3,3 +3,4 @@ pub mod Candidates
 pub mod Selection
 pub mod Readings
 pub mod Answers
+pub mod Laws

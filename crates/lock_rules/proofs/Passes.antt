@@ -24,16 +24,19 @@ module _ {P : Type 0} where
     pub no_passes : AreAll place lock tag 0 []
     no_passes = record { all = refl; each = λ k p e. absurd (cc) }
 
-    pub one_more : (count total : ℕ) (passes : List P) (p : P) → count + 1 ≡ total → AreAll place lock tag count passes → place p ≡ record { lock = lock; tag = tag; number = count } → AreAll place lock tag total (passes ++ p ∷ [])
+    pub one_more : (count total : ℕ) (passes : List P) (p : P) → count + 1 ≡ total → AreAll place lock tag count passes
+        → place p ≡ record { lock = lock; tag = tag; number = count } → AreAll place lock tag total (passes ++ p ∷ [])
     one_more count total passes p e are is = record {
       all = omega (arith, length-append passes (p ∷ []), are.all);
       each = λ k q at. ⊎_elim (λ (t : slice_get passes k ≡ Some q). are.each k q t)
-          (λ (t : (k ≡ length passes) × (p ≡ q)). ap place (sym t.1) ∙ is ∙ (λ i. record { lock = lock; tag = tag; number = sym (t.0 ∙ are.all) i })) (get_end passes p q k at);
+          (λ (t : (k ≡ length passes) × (p ≡ q)). ap place (sym t.1) ∙ is
+          ∙ (λ i. record { lock = lock; tag = tag; number = sym (t.0 ∙ are.all) i })) (get_end passes p q k at);
     }
 
     -- the last one leaves
     pub one_less : (count : ℕ) (passes rest : List P) (p : P) → passes ≡ rest ++ p ∷ [] → AreAll place lock tag count passes
-        → AreAll place lock tag (length rest) rest × (place p ≡ record { lock = lock; tag = tag; number = length rest }) × (count ≡ length rest + 1)
+        → AreAll place lock tag (length rest) rest × (place p ≡ record { lock = lock; tag = tag; number = length rest })
+        × (count ≡ length rest + 1)
     one_less count passes rest p cut are = (
       record { all = refl; each = λ k q e. are.each k q (ap (λ (l : List P). slice_get l k) cut ∙ get_longer rest (p ∷ []) q k e) },
       are.each (length rest) p (ap (λ (l : List P). slice_get l (length rest)) cut ∙ get_last rest p),

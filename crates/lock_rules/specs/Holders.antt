@@ -10,7 +10,12 @@ module _ {V : Type 0} where
   held_view h = h.seat.seat.me.0
 
   abbrev pub holder_of : Held V → Holder V
-  holder_of h = record { place = place_of h.seat.seat.table_id (held_view h); loads = (held_view h).loads; tested = (held_view h).tested; value = h.value }
+  holder_of h = record {
+    place = place_of h.seat.seat.table_id (held_view h);
+    loads = (held_view h).loads;
+    tested = (held_view h).tested;
+    value = h.value;
+  }
 
   -- the token with this value in the place of its own
   abbrev pub with_value : Held V → V → Held V

@@ -5,7 +5,8 @@ use Rattle.lock_rules.specs.declared.view.Algorithm.{Algorithm}
 use Rattle.lock_rules.specs.declared.view.Algorithm.TheVariants.{Ticket, Mcs, Clh, Hemlock}
 use Rattle.lock_rules.specs.declared.view.View.{View}
 
--- Words of one line may be close. Words of two lines stand at least 15 words apart, and a line's first words of two lines 16, which is 128 bytes.
+-- Words of one line may be close. Words of two lines stand at least 15 words apart, and a line's first words of two lines 16, which is
+-- 128 bytes.
 -- The first word of the line k; 16 words stand before the first line
 abbrev pub line : ℕ → ℕ
 line k = 16 * (k + 1)

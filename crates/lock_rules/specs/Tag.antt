@@ -19,7 +19,8 @@ written-begins (leaf n) (fork c d) r s e = absurd (cc)
 written-begins (fork a b) (leaf m) r s e = absurd (cc)
 written-begins (fork a b) (fork c d) r s e =
     let e' : (written a ++ written b) ++ r ≡ (written c ++ written d) ++ s = cc in
-    let e'' : written a ++ (written b ++ r) ≡ written c ++ (written d ++ s) = sym (append_assoc (written a) (written b) r) ∙ e' ∙ append_assoc (written c) (written d) s in
+    let e'' : written a ++ (written b ++ r) ≡ written c ++ (written d ++ s) = sym (append_assoc (written a) (written b) r) ∙ e'
+    ∙ append_assoc (written c) (written d) s in
     let left = written-begins a c (written b ++ r) (written d ++ s) e'' in
     let right = written-begins b d r s left.1 in
     (λ i. fork (left.0 i) (right.0 i), right.1)

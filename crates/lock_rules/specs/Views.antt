@@ -55,7 +55,14 @@ place_of z v = record { lock = lock_name v.algorithm z; tag = v.tag.tag; number 
 
 -- `preceded` is for MCS and Hemlock, whose predecessors are never 0: a predecessor of CLH may be the node 0, and a Ticket lock has none
 abbrev pub waiting_of : TableId → View → Waiting
-waiting_of z v = record { place = place_of z v; entries = v.entries; loads = v.loads; ready = v.ready; preceded = not (v.predecessor == 0); followed = v.followed }
+waiting_of z v = record {
+  place = place_of z v;
+  entries = v.entries;
+  loads = v.loads;
+  ready = v.ready;
+  preceded = not (v.predecessor == 0);
+  followed = v.followed;
+}
 
 -- a seat whose pass is idle and whose view is as at the start
 abbrev pub fresh_view : Algorithm → ℕ → Tag → ℕ → ℕ → ℕ → Bool → View

@@ -23,7 +23,8 @@ busy_either lingers Queued = refl
 busy_either lingers Holding = refl
 busy_either lingers Leaving = refl
 
-module _ {V : Type 0} (fit : V → Type 0) (tag_of : V → Tag) (parked : V → Bool) (d : Discipline) (laws : IsDisciplined d) (n : ℕ) (tag : Tag)
+module _ {V : Type 0} (fit : V → Type 0) (tag_of : V → Tag) (parked : V → Bool) (d : Discipline) (laws : IsDisciplined d) (n : ℕ)
+    (tag : Tag)
     (s : State (Option V) View) (r : IsLock d fit tag_of parked n tag s) where
   abbrev queue : List ℕ
   queue = d.queue s.words s.views
@@ -39,7 +40,8 @@ module _ {V : Type 0} (fit : V → Type 0) (tag_of : V → Tag) (parked : V → 
   seat_in p i e = mapped (number_at s.views) r.seats i p (ap (λ (q : List ℕ). slice_get q i) (sym queue_is) ∙ e)
 
   in_seat : (i j : ℕ) (v : View) → get_elem? r.seats i ≡ some j → get_elem? s.views j ≡ some v → slice_get queue i ≡ Some v.number
-  in_seat i j v e at = ap (λ (q : List ℕ). slice_get q i) queue_is ∙ mapped_at (number_at s.views) r.seats i j e ∙ ap Some (number_is s.views j v at)
+  in_seat i j v e at = ap (λ (q : List ℕ). slice_get q i) queue_is ∙ mapped_at (number_at s.views) r.seats i j e
+      ∙ ap Some (number_is s.views j v at)
 
   no_repeats : (i j p : ℕ) → slice_get queue i ≡ Some p → slice_get queue j ≡ Some p → i ≡ j
   no_repeats i j p e e' =
@@ -49,7 +51,8 @@ module _ {V : Type 0} (fit : V → Type 0) (tag_of : V → Tag) (parked : V → 
       let w = r.queued.each_place j b.0 b.1 in
       let live = queues.lives d n tag s.words r.seats s.views r.queued a.0 u.view u.at u.is in
       let live' = queues.lives d n tag s.words r.seats s.views r.queued b.0 w.view w.at w.is in
-      let num : w.view.number ≡ u.view.number = sym (number_is s.views b.0 w.view w.at) ∙ b.2 ∙ sym a.2 ∙ number_is s.views a.0 u.view u.at in
+      let num : w.view.number ≡ u.view.number = sym (number_is s.views b.0 w.view w.at) ∙ b.2 ∙ sym a.2
+      ∙ number_is s.views a.0 u.view u.at in
       let same : b.0 ≡ a.0 = queues.one_seat_of d n tag s.words r.seats s.views r.queued a.0 b.0 u.view w.view u.at w.at live live' num in
       r.queued.once i j a.0 a.1 (b.1 ∙ ap some same)
 
@@ -80,8 +83,10 @@ module _ {V : Type 0} (fit : V → Type 0) (tag_of : V → Tag) (parked : V → 
 
   at_home : (x : V) → IsHomeValue s.homes x → (home : IsHome d fit tag_of parked tag r.seats s.views s.homes) × (home.value ≡ x)
   at_home x e = ⊎_elim
-      (λ (home : IsHome d fit tag_of parked tag r.seats s.views s.homes). let same = some-injective (some (Some home.value)) (some (Some x)) (sym (ap (λ hs. get_elem? hs 0) home.slot) ∙ e) in (home, cc))
-      (λ (away : IsAway d s.views s.homes). let no = some-injective none (some (Some x)) (sym (ap (λ hs. get_elem? hs 0) away.slot) ∙ e) in absurd (some-ne-none (Some x) (sym no)))
+      (λ (home : IsHome d fit tag_of parked tag r.seats s.views s.homes). let same = some-injective (some (Some home.value))
+      (some (Some x)) (sym (ap (λ hs. get_elem? hs 0) home.slot) ∙ e) in (home, cc))
+      (λ (away : IsAway d s.views s.homes). let no = some-injective none (some (Some x)) (sym (ap (λ hs. get_elem? hs 0) away.slot)
+      ∙ e) in absurd (some-ne-none (Some x) (sym no)))
       r.slot
 
   -- a seat at a place has a pass in the queue
@@ -94,7 +99,8 @@ module _ {V : Type 0} (fit : V → Type 0) (tag_of : V → Tag) (parked : V → 
     members = members;
     all_members = all_members;
     holder_first = heads;
-    kept = ⊎_elim (λ (home : IsHome d fit tag_of parked tag r.seats s.views s.homes). inl (home.value, ap (λ hs. get_elem? hs 0) home.slot)) (λ (away : IsAway d s.views s.homes). inr (holds_in away)) r.slot;
+    kept = ⊎_elim (λ (home : IsHome d fit tag_of parked tag r.seats s.views s.homes). inl
+        (home.value, ap (λ hs. get_elem? hs 0) home.slot)) (λ (away : IsAway d s.views s.homes). inr (holds_in away)) r.slot;
     relied_on = λ x e _ p. let h = at_home x e in pass_at 0 (h.0.relied_on (ap parked h.1 ∙ p));
     behind = λ j v at h noted. pass_at 1 ((r.queued.each_seat j v at.at).tested h noted);
     one_tag = λ j v at. (r.queued.each_seat j v at.at).tagged at.unspent;

@@ -63,7 +63,8 @@ pub number_is : (views : List View) (j : ℕ) (v : View) → get_elem? views j �
 number_is views j v e = ap number_in e
 
 -- a step that leaves its seat's number leaves all
-pub numbers_stay : (views : List View) (id : ℕ) (v w : View) → get_elem? views id ≡ some v → w.number ≡ v.number → (j : ℕ) → number_at (set views id w) j ≡ number_at views j
+pub numbers_stay : (views : List View) (id : ℕ) (v w : View) → get_elem? views id ≡ some v → w.number ≡ v.number → (j : ℕ)
+    → number_at (set views id w) j ≡ number_at views j
 numbers_stay [] id v w e n j = refl
 numbers_stay (u ∷ us) zero v w e n zero = n ∙ sym (ap (λ (x : View). x.number) (some-injective u v e))
 numbers_stay (u ∷ us) zero v w e n (suc j) = refl

@@ -10,7 +10,7 @@ use Rattle.lock_rules.specs.Views.{IsPlain, first_view, without_next, next_split
 use Rattle.lock_rules.specs.declared.view.Algorithm.{Algorithm}
 use Rattle.lock_rules.specs.declared.view.View.{View}
 use Rattle.lock_tables.specs.Numbers.{Numbering, by_pass, by_node, passes_of, stands_in, HasNumbers}
-use Rattle.lock_tables.proofs.Sums.{sum_set, part_le, parts_le}
+use Rattle.lock_rules.proofs.Sums.{sum_set, part_le, parts_le}
 
 abbrev pub span : ℕ → ℕ → ℕ → ℕ
 span from to k = cond (nat_le from k && nat_lt k to) 1 0
@@ -34,7 +34,8 @@ span_none from to k h = grind (arith, nat_tests)
 first_hit : (n k : ℕ) → 0 < n → hits (n - 1) k + span 0 (n - 1) k ≡ cond (nat_lt k n) 1 0
 first_hit n k h = grind (arith, nat_tests)
 
--- A numbering that passes are dealt by: the first seat has the last pass's number and none taken over, each seat that is split off its pass's number, and a seat
+-- A numbering that passes are dealt by: the first seat has the last pass's number and none taken over, each seat that is split off its
+-- pass's number, and a seat
 -- that takes over another takes its numbers
 pub record IsDealt (m : Numbering) : Type 0 where
   pub first_own : (a : Algorithm) (n : ℕ) (tag : Tag) → m.own (first_view a n tag) ≡ n - 1
@@ -90,10 +91,12 @@ module _ (m : Numbering) where
 
   module _ (d : IsDealt m) where
     -- the first seat alone
-    pub stands_first : (a : Algorithm) (n : ℕ) (tag : Tag) (k : ℕ) → 0 < n → sum_by (stands_in m k) (first_view a n tag ∷ []) ≡ cond (nat_lt k n) 1 0
+    pub stands_first : (a : Algorithm) (n : ℕ) (tag : Tag) (k : ℕ) → 0 < n
+        → sum_by (stands_in m k) (first_view a n tag ∷ []) ≡ cond (nat_lt k n) 1 0
     stands_first a n tag k h =
         let s = sum_by-cons (stands_in m k) (first_view a n tag) [] in
-        let f : stands_in m k (first_view a n tag) ≡ hits (n - 1) k + span 0 (n - 1) k + 0 = stands_unspent k (first_view a n tag) refl ∙ (λ i. hits (d.first_own a n tag i) k + span 0 (n - 1) k + times k (d.first_taken a n tag i)) in
+        let f : stands_in m k (first_view a n tag) ≡ hits (n - 1) k + span 0 (n - 1) k + 0 = stands_unspent k (first_view a n tag) refl
+        ∙ (λ i. hits (d.first_own a n tag i) k + span 0 (n - 1) k + times k (d.first_taken a n tag i)) in
         let c : ℕ = cond (nat_lt k n) 1 0 in
         let g : hits (n - 1) k + span 0 (n - 1) k ≡ c = first_hit n k h in
         let goal : sum_by (stands_in m k) (first_view a n tag ∷ []) ≡ c = omega (arith, s, f, g) in goal
@@ -114,8 +117,10 @@ module _ (m : Numbering) where
         omega (arith, s, p, a, b, c, f, z)
 
     -- a seat takes over the numbers of another
-    pub stands_join : (views : List View) (id : ℕ) (v : View) (other : ℕ) (w : View) (k : ℕ) → get_elem? views id ≡ some v → get_elem? (set views id (joined_view v w)) other ≡ some w
-        → v.spent ≡ false → IsPlain w → sum_by (stands_in m k) (set (set views id (joined_view v w)) other spent_view) ≡ sum_by (stands_in m k) views
+    pub stands_join : (views : List View) (id : ℕ) (v : View) (other : ℕ) (w : View) (k : ℕ) → get_elem? views id ≡ some v
+        → get_elem? (set views id (joined_view v w)) other ≡ some w
+        → v.spent ≡ false → IsPlain w → sum_by (stands_in m k) (set (set views id (joined_view v w)) other spent_view) ≡ sum_by
+        (stands_in m k) views
     stands_join views id v other w k at at' live plain =
         let s = sum_set (stands_in m k) views id v (joined_view v w) at in
         let t = sum_set (stands_in m k) (set views id (joined_view v w)) other w spent_view at' in
@@ -130,7 +135,8 @@ module _ (m : Numbering) where
         omega (arith, s, t, gone, a, b, c, l, q, z)
 
 -- a step that leaves how often a number stands in its seat
-pub stands_step : (m : Numbering) (views : List View) (id : ℕ) (v w : View) (k : ℕ) → get_elem? views id ≡ some v → stands_in m k w ≡ stands_in m k v
+pub stands_step : (m : Numbering) (views : List View) (id : ℕ) (v w : View) (k : ℕ) → get_elem? views id ≡ some v
+    → stands_in m k w ≡ stands_in m k v
     → sum_by (stands_in m k) (set views id w) ≡ sum_by (stands_in m k) views
 stands_step m views id v w k at e = let s = sum_set (stands_in m k) views id v w at in omega (arith, s, e)
 
@@ -138,7 +144,8 @@ pub numbers_first : (a : Algorithm) (n : ℕ) (tag : Tag) → 0 < n → HasNumbe
 numbers_first a n tag h = record { in_all = omega arith; once = λ k. stands_first by_pass pass_dealt a n tag k h }
 
 -- a step that leaves the passes of its seat
-pub numbers_step : (n : ℕ) (views : List View) (id : ℕ) (v w : View) → get_elem? views id ≡ some v → passes_of w ≡ passes_of v → ((k : ℕ) → stands_in by_pass k w ≡ stands_in by_pass k v)
+pub numbers_step : (n : ℕ) (views : List View) (id : ℕ) (v w : View) → get_elem? views id ≡ some v → passes_of w ≡ passes_of v
+    → ((k : ℕ) → stands_in by_pass k w ≡ stands_in by_pass k v)
     → HasNumbers n views → HasNumbers n (set views id w)
 numbers_step n views id v w at size stand had = record {
   in_all = let s = sum_set passes_of views id v w at in let a = had.in_all in omega (arith, s, a, size);
@@ -158,7 +165,8 @@ numbers_split n views id v at live more had = record {
   once = λ k. stands_split by_pass pass_dealt views id v k at live more ∙ had.once k;
 }
 
-pub numbers_join : (n : ℕ) (views : List View) (id : ℕ) (v : View) (other : ℕ) (w : View) → get_elem? views id ≡ some v → get_elem? (set views id (joined_view v w)) other ≡ some w
+pub numbers_join : (n : ℕ) (views : List View) (id : ℕ) (v : View) (other : ℕ) (w : View) → get_elem? views id ≡ some v
+    → get_elem? (set views id (joined_view v w)) other ≡ some w
     → v.spent ≡ false → IsPlain w → HasNumbers n views → HasNumbers n (set (set views id (joined_view v w)) other spent_view)
 numbers_join n views id v other w at at' live plain had = record {
   in_all =
@@ -175,7 +183,8 @@ numbers_join n views id v other w at at' live plain had = record {
 }
 
 -- the number of a seat is one of the lock's passes
-pub number_below : (n : ℕ) (views : List View) (j : ℕ) (v : View) (k : ℕ) → HasNumbers n views → get_elem? views j ≡ some v → 0 < stands_in by_pass k v → k < n
+pub number_below : (n : ℕ) (views : List View) (j : ℕ) (v : View) (k : ℕ) → HasNumbers n views → get_elem? views j ≡ some v
+    → 0 < stands_in by_pass k v → k < n
 number_below n views j v k had at h =
     let p = part_le (stands_in by_pass k) views j v at in
     let c : ℕ = cond (nat_lt k n) 1 0 in
@@ -188,7 +197,8 @@ module _ (m : Numbering) where
   own_stands v live = let s = stands_unspent m (m.own v) v live in let a = hits_self (m.own v) in omega (arith, s, a)
 
   -- where a number stands once at most, it is not the own one of two seats that are not spent
-  pub own_apart : (views : List View) (id j : ℕ) (v u : View) → sum_by (stands_in m (m.own v)) views ≤ 1 → get_elem? views id ≡ some v → get_elem? views j ≡ some u
+  pub own_apart : (views : List View) (id j : ℕ) (v u : View) → sum_by (stands_in m (m.own v)) views ≤ 1 → get_elem? views id ≡ some v
+      → get_elem? views j ≡ some u
       → v.spent ≡ false → u.spent ≡ false → j ≢ id → ¬ (m.own u ≡ m.own v)
   own_apart views id j v u once at at' live live' ne e =
       let p = parts_le (stands_in m (m.own v)) views id j v u (λ q. ne (sym q)) at at' in
@@ -197,14 +207,17 @@ module _ (m : Numbering) where
       omega (arith, p, x, y, once)
 
 -- two seats that are not spent do not have one number
-pub one_number : (n : ℕ) (views : List View) → HasNumbers n views → (id j : ℕ) (v u : View) → get_elem? views id ≡ some v → get_elem? views j ≡ some u → v.spent ≡ false → u.spent ≡ false → j ≢ id → ¬ (u.number ≡ v.number)
+pub one_number : (n : ℕ) (views : List View) → HasNumbers n views → (id j : ℕ) (v u : View) → get_elem? views id ≡ some v
+    → get_elem? views j ≡ some u → v.spent ≡ false → u.spent ≡ false → j ≢ id → ¬ (u.number ≡ v.number)
 one_number n views had id j v u at at' live live' ne e =
     let c = had.once v.number in
-    let d : cond (nat_lt v.number n) 1 0 ≤ 1 = elim (nat_lt v.number n) as (λ b. cond b 1 0 ≤ 1) [ true ↦ omega arith | false ↦ omega arith ] in
+    let d : cond (nat_lt v.number n) 1 0 ≤ 1 =
+    elim (nat_lt v.number n) as (λ b. cond b 1 0 ≤ 1) [ true ↦ omega arith | false ↦ omega arith ] in
     own_apart by_pass views id j v u (omega (arith, c, d)) at at' live live' ne e
 
 -- beside a seat that has all numbers each other one is spent
-pub others_spent : (n : ℕ) (views : List View) (id : ℕ) (v : View) (j : ℕ) (u : View) → HasNumbers n views → get_elem? views id ≡ some v → passes_of v ≡ n → j ≢ id → get_elem? views j ≡ some u → u.spent ≡ true
+pub others_spent : (n : ℕ) (views : List View) (id : ℕ) (v : View) (j : ℕ) (u : View) → HasNumbers n views → get_elem? views id ≡ some v
+    → passes_of v ≡ n → j ≢ id → get_elem? views j ≡ some u → u.spent ≡ true
 others_spent n views id v j u had at all other at' = elim (u.spent) as (λ b. u.spent ≡ b → u.spent ≡ true) [
   | true ↦ λ e. e
   | false ↦ λ e. absurd (

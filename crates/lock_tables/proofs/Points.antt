@@ -9,18 +9,20 @@ use Rattle.lock_tables.specs.Queue.{IsIn}
 use Rattle.lock_tables.specs.Numbers.{by_pass, stands_in, HasNumbers}
 use Rattle.lock_tables.specs.Points.{IsAt, HasNumber, HasOneSeat}
 use Rattle.lock_rules.specs.declared.view.View.{View}
-use Rattle.lock_tables.proofs.Sums.{parts_le, some_part}
+use Rattle.lock_rules.proofs.Sums.{parts_le, some_part}
 use Rattle.lock_tables.proofs.Numbers.{span, hits, stands_unspent, number_below}
 
 counted : (k : ℕ) (l : List ℕ) → 0 < count_by (λ x. x == k) l → IsIn k l
 counted k [] h = absurd (omega arith)
 counted k (x ∷ xs) h = dite (ℕ_discrete x k)
     (λ e. (0, ap Some e))
-    (λ ne. let c = sum_by-cons (λ (y : ℕ). cond (y == k) 1 0) x xs in let z : hits x k ≡ 0 = grind (arith, nat_tests) in let r = counted k xs (omega (arith, c, z)) in (suc r.0, r.1))
+    (λ ne. let c = sum_by-cons (λ (y : ℕ). cond (y == k) 1 0) x xs in let z : hits x k ≡ 0 = grind (arith, nat_tests) in
+    let r = counted k xs (omega (arith, c, z)) in (suc r.0, r.1))
 
 counts : (k : ℕ) (l : List ℕ) (i : ℕ) → slice_get l i ≡ Some k → 0 < count_by (λ x. x == k) l
 counts k [] i e = absurd (cc)
-counts k (x ∷ xs) zero e = let s : x ≡ k = cc in let c = sum_by-cons (λ (y : ℕ). cond (y == k) 1 0) x xs in let z : hits x k ≡ 1 = grind (arith, nat_tests) in omega (arith, c, z)
+counts k (x ∷ xs) zero e = let s : x ≡ k = cc in let c = sum_by-cons (λ (y : ℕ). cond (y == k) 1 0) x xs in
+    let z : hits x k ≡ 1 = grind (arith, nat_tests) in omega (arith, c, z)
 counts k (x ∷ xs) (suc i) e = let c = sum_by-cons (λ (y : ℕ). cond (y == k) 1 0) x xs in let r = counts k xs i e in omega (arith, c, r)
 
 hit : (a k : ℕ) → 0 < hits a k → a ≡ k
@@ -50,7 +52,8 @@ pub has_stands : (k : ℕ) (v : View) → v.spent ≡ false → HasNumber k v �
 has_stands k v live h =
     let s = stands_unspent by_pass k v live in
     ⊎_elim (λ (e : v.number ≡ k). let a : hits v.number k ≡ 1 = grind (arith, nat_tests) in omega (arith, s, a))
-    (λ t. ⊎_elim (λ (r : (v.from ≤ k) × (k < v.to)). let a = r.0 in let b = r.1 in let c : span v.from v.to k ≡ 1 = grind (arith, nat_tests) in omega (arith, s, c))
+    (λ t. ⊎_elim (λ (r : (v.from ≤ k) × (k < v.to)). let a = r.0 in let b = r.1 in
+    let c : span v.from v.to k ≡ 1 = grind (arith, nat_tests) in omega (arith, s, c))
     (λ (r : IsIn k v.joined). let a = counts k v.joined r.0 r.1 in omega (arith, s, a)) t) h
 
 pub one_seat : (n : ℕ) (views : List View) → HasNumbers n views → (k : ℕ) → k < n → HasOneSeat k views

@@ -19,7 +19,7 @@ use Rattle.lock_tables.specs.Numbers.{by_pass, passes_of, stands_in}
 use Rattle.lock_tables.specs.Queue.{IsIn}
 use Rattle.lock_tables.specs.Rule.{Discipline, is_holder, is_busy, busy, SeatStands, IsBusyAt, IsQueued}
 use Rattle.lock_tables.specs.Laws.{number_at}
-use Rattle.lock_tables.proofs.Sums.{sum_set, sum_le}
+use Rattle.lock_rules.proofs.Sums.{sum_set, sum_le}
 use Rattle.lock_tables.proofs.Lists.{set_at, at_end, at_below, mapped, no_true, number_is}
 use Rattle.lock_tables.proofs.Numbers.{passes_unspent, numbers_first, numbers_step, numbers_split, numbers_join, one_number}
 
@@ -37,7 +37,8 @@ like_size : (v w : View) → IsLike v w → passes_of w ≡ passes_of v
 like_size v w l = λ i. cond (l.spent i) 0 (1 + (l.to i - l.from i) + length (l.joined i))
 
 like_stands : (v w : View) → IsLike v w → (k : ℕ) → stands_in by_pass k w ≡ stands_in by_pass k v
-like_stands v w l k = λ i. cond (l.spent i) 0 (cond (l.number i == k) 1 0 + cond (nat_le (l.from i) k && nat_lt k (l.to i)) 1 0 + count_by (λ x. x == k) (l.joined i))
+like_stands v w l k = λ i. cond (l.spent i) 0 (cond (l.number i == k) 1 0 + cond (nat_le (l.from i) k && nat_lt k (l.to i)) 1 0 + count_by
+    (λ x. x == k) (l.joined i))
 
 -- a phase that is known, where its test says otherwise
 pub wrong_phase : (test : Phase → Bool) (v : View) (p : Phase) → v.phase ≡ p → test p ≡ false → ¬ (test v.phase ≡ true)
@@ -82,7 +83,8 @@ module _ (d : Discipline) (n : ℕ) (tag : Tag) where
   lives_like v w l live e = no_true (sym e ∙ l.spent ∙ live)
 
   -- a step of the seat id, from its view v to w
-  step : (words words' seats seats' : List ℕ) (views : List View) (id : ℕ) (v w : View) (q : Q words seats views) → get_elem? views id ≡ some v → IsLike v w
+  step : (words words' seats seats' : List ℕ) (views : List View) (id : ℕ) (v w : View) (q : Q words seats views)
+      → get_elem? views id ≡ some v → IsLike v w
       → length words' ≡ length words → length seats' + busy d.lingers v ≡ length seats + busy d.lingers w
       → ((i k j : ℕ) → get_elem? seats' i ≡ some j → get_elem? seats' k ≡ some j → i ≡ k)
       → Stands seats' id w → ((j : ℕ) (u : View) → j ≢ id → get_elem? views j ≡ some u → Stands seats' j u)
@@ -115,7 +117,8 @@ module _ (d : Discipline) (n : ℕ) (tag : Tag) where
   place_else views id w j ne p = record { view = p.view; at = set_else views id j w ne ∙ p.at; is = p.is }
 
   -- a seat that isn't busy has no place
-  pub no_place : (words seats : List ℕ) (views : List View) (id : ℕ) (v : View) → Q words seats views → get_elem? views id ≡ some v → are_busy v.phase ≡ false
+  pub no_place : (words seats : List ℕ) (views : List View) (id : ℕ) (v : View) → Q words seats views → get_elem? views id ≡ some v
+      → are_busy v.phase ≡ false
       → (i j : ℕ) → get_elem? seats i ≡ some j → j ≢ id
   no_place words seats views id v q at free i j e same =
       let p = q.each_place i j e in
@@ -126,7 +129,8 @@ module _ (d : Discipline) (n : ℕ) (tag : Tag) where
   busy_is v b e = ap (λ (x : Bool). cond x 1 0) e
 
   -- a step that is no event
-  pub stays : (words words' seats : List ℕ) (views : List View) (id : ℕ) (v w : View) (q : Q words seats views) → get_elem? views id ≡ some v → v.spent ≡ false → IsLike v w
+  pub stays : (words words' seats : List ℕ) (views : List View) (id : ℕ) (v w : View) (q : Q words seats views)
+      → get_elem? views id ≡ some v → v.spent ≡ false → IsLike v w
       → length words' ≡ length words → are_busy w.phase ≡ are_busy v.phase → holds w.phase ≡ holds v.phase
       → (holds w.phase ≡ true → w.tested ≡ Yes → 1 < length seats) → (holds w.phase ≡ true → w.followed ≡ true → 1 < length seats)
       → d.Core n words' seats (set views id w) → Q words' seats (set views id w)
@@ -148,7 +152,8 @@ module _ (d : Discipline) (n : ℕ) (tag : Tag) where
       core
 
   -- Enter
-  pub enters : (words words' seats : List ℕ) (views : List View) (id : ℕ) (v w : View) (q : Q words seats views) → get_elem? views id ≡ some v → v.spent ≡ false → IsLike v w
+  pub enters : (words words' seats : List ℕ) (views : List View) (id : ℕ) (v w : View) (q : Q words seats views)
+      → get_elem? views id ≡ some v → v.spent ≡ false → IsLike v w
       → length words' ≡ length words → v.phase ≡ Idle → w.phase ≡ Queued
       → d.Core n words' (seats ++ id ∷ []) (set views id w) → Q words' (seats ++ id ∷ []) (set views id w)
   enters words words' seats views id v w q at live l same idle queued core =
@@ -159,8 +164,10 @@ module _ (d : Discipline) (n : ℕ) (tag : Tag) where
       let other = no_place words seats views id v q at (ap are_busy idle) in
       step words words' seats (seats ++ id ∷ []) views id v w q at l same (omega (arith, long, b, b'))
       (λ i k j e e'. ⊎_elim
-      (λ (f : get_elem? seats i ≡ some j). ⊎_elim (λ (f' : get_elem? seats k ≡ some j). q.once i k j f f') (λ (f' : (k ≡ length seats) × (id ≡ j)). absurd (other i j f (sym f'.1))) (at_end seats id j k e'))
-      (λ (f : (i ≡ length seats) × (id ≡ j)). ⊎_elim (λ (f' : get_elem? seats k ≡ some j). absurd (other k j f' (sym f.1))) (λ (f' : (k ≡ length seats) × (id ≡ j)). f.0 ∙ sym f'.0) (at_end seats id j k e'))
+      (λ (f : get_elem? seats i ≡ some j). ⊎_elim (λ (f' : get_elem? seats k ≡ some j). q.once i k j f f')
+      (λ (f' : (k ≡ length seats) × (id ≡ j)). absurd (other i j f (sym f'.1))) (at_end seats id j k e'))
+      (λ (f : (i ≡ length seats) × (id ≡ j)). ⊎_elim (λ (f' : get_elem? seats k ≡ some j). absurd (other k j f' (sym f.1)))
+      (λ (f' : (k ≡ length seats) × (id ≡ j)). f.0 ∙ sym f'.0) (at_end seats id j k e'))
       (at_end seats id j i e))
       (record {
         tagged = tagged_like seats id v w l st;
@@ -181,13 +188,19 @@ module _ (d : Discipline) (n : ℕ) (tag : Tag) where
         followed = λ t y. let m = su.followed t y in omega (arith, long, m);
       })
       (λ i j e. ⊎_elim (λ (f : get_elem? seats i ≡ some j). place_else views id w j (other i j f) (q.each_place i j f))
-      (λ (f : (i ≡ length seats) × (id ≡ j)). record { view = w; at = ap (get_elem? (set views id w)) (sym f.1) ∙ set_at views id v w at; is = ap are_busy queued })
+      (λ (f : (i ≡ length seats) × (id ≡ j)). record {
+        view = w;
+        at = ap (get_elem? (set views id w)) (sym f.1) ∙ set_at views id v w at;
+        is = ap are_busy queued;
+      })
       (at_end seats id j i e))
       core
 
   -- Take
-  pub takes : (words words' seats : List ℕ) (views : List View) (id : ℕ) (v w : View) (q : Q words seats views) → get_elem? views id ≡ some v → v.spent ≡ false → IsLike v w
-      → length words' ≡ length words → v.phase ≡ Queued → get_elem? seats 0 ≡ some id → w.phase ≡ Holding → ¬ (w.tested ≡ Yes) → w.followed ≡ false
+  pub takes : (words words' seats : List ℕ) (views : List View) (id : ℕ) (v w : View) (q : Q words seats views)
+      → get_elem? views id ≡ some v → v.spent ≡ false → IsLike v w
+      → length words' ≡ length words → v.phase ≡ Queued → get_elem? seats 0 ≡ some id → w.phase ≡ Holding → ¬ (w.tested ≡ Yes)
+      → w.followed ≡ false
       → d.Core n words' seats (set views id w) → Q words' seats (set views id w)
   takes words words' seats views id v w q at live l same queued first held untested alone core =
       let st = q.each_seat id v at in
@@ -208,14 +221,16 @@ module _ (d : Discipline) (n : ℕ) (tag : Tag) where
       core
 
   -- Enter and Take
-  pub enters_and_takes : (words words' seats : List ℕ) (views : List View) (id : ℕ) (v w : View) (q : Q words seats views) → get_elem? views id ≡ some v → v.spent ≡ false → IsLike v w
+  pub enters_and_takes : (words words' seats : List ℕ) (views : List View) (id : ℕ) (v w : View) (q : Q words seats views)
+      → get_elem? views id ≡ some v → v.spent ≡ false → IsLike v w
       → length words' ≡ length words → v.phase ≡ Idle → seats ≡ [] → w.phase ≡ Holding → ¬ (w.tested ≡ Yes) → w.followed ≡ false
       → d.Core n words' (id ∷ []) (set views id w) → Q words' (id ∷ []) (set views id w)
   enters_and_takes words words' seats views id v w q at live l same idle empty held untested alone core =
       let st = q.each_seat id v at in
       let b = busy_is v false (ap are_busy idle) in
       let b' = busy_is w true (ap are_busy held) in
-      let none_there : (i j : ℕ) → ¬ (get_elem? seats i ≡ some j) = λ i j e. some-ne-none j (sym (ap (λ (s : List ℕ). get_elem? s i) (sym empty) ∙ e)) in
+      let none_there : (i j : ℕ) → ¬ (get_elem? seats i ≡ some j) =
+      λ i j e. some-ne-none j (sym (ap (λ (s : List ℕ). get_elem? s i) (sym empty) ∙ e)) in
       step words words' seats (id ∷ []) views id v w q at l same (let z = ap length empty in omega (arith, z, b, b'))
       (λ i k j e e'. let x = at_one id i j e in let y = at_one id k j e' in x.0 ∙ sym y.0)
       (record {
@@ -236,11 +251,16 @@ module _ (d : Discipline) (n : ℕ) (tag : Tag) where
         tested = λ t _. absurd (none_there 0 j (su.first t));
         followed = λ t _. absurd (none_there 0 j (su.first t));
       })
-      (λ i j e. let x = at_one id i j e in record { view = w; at = ap (get_elem? (set views id w)) (sym x.1) ∙ set_at views id v w at; is = ap are_busy held })
+      (λ i j e. let x = at_one id i j e in record {
+        view = w;
+        at = ap (get_elem? (set views id w)) (sym x.1) ∙ set_at views id v w at;
+        is = ap are_busy held;
+      })
       core
 
   -- Leave: the head goes
-  pub leaves : (words words' seats rest : List ℕ) (views : List View) (id : ℕ) (v w : View) (q : Q words seats views) → get_elem? views id ≡ some v → v.spent ≡ false → IsLike v w
+  pub leaves : (words words' seats rest : List ℕ) (views : List View) (id : ℕ) (v w : View) (q : Q words seats views)
+      → get_elem? views id ≡ some v → v.spent ≡ false → IsLike v w
       → length words' ≡ length words → holds v.phase ≡ true → seats ≡ id ∷ rest → are_busy w.phase ≡ false → holds w.phase ≡ false
       → d.Core n words' rest (set views id w) → Q words' rest (set views id w)
   leaves words words' seats rest views id v w q at live l same held cut free idle core =
@@ -248,9 +268,12 @@ module _ (d : Discipline) (n : ℕ) (tag : Tag) where
       let b = busy_is v true (held_busy d.lingers v.phase held) in
       let b' = busy_is w false free in
       let one : length seats ≡ suc (length rest) = ap length cut in
-      let later : (i j : ℕ) → get_elem? rest i ≡ some j → get_elem? seats (suc i) ≡ some j = λ i j e. ap (λ (s : List ℕ). get_elem? s (suc i)) cut ∙ e in
+      let later : (i j : ℕ) → get_elem? rest i ≡ some j
+      → get_elem? seats (suc i) ≡ some j = λ i j e. ap (λ (s : List ℕ). get_elem? s (suc i)) cut ∙ e in
       let here : get_elem? seats 0 ≡ some id = ap (λ (s : List ℕ). get_elem? s 0) cut in
-      let other : (i j : ℕ) → get_elem? rest i ≡ some j → j ≢ id = λ i j e same'. (let z : suc i ≡ 0 = q.once (suc i) 0 id (later i id (e ∙ ap some same')) here in absurd (omega arith)) in
+      let other : (i j : ℕ) → get_elem? rest i ≡ some j
+      → j ≢ id = λ i j e same'. (let z : suc i ≡ 0 = q.once (suc i) 0 id (later i id (e ∙ ap some same')) here in
+      absurd (omega arith)) in
       let not_head : (j : ℕ) (u : View) → j ≢ id → get_elem? views j ≡ some u → ¬ (holds u.phase ≡ true)
       = λ j u ne e t. ne (some-injective j id (sym ((q.each_seat j u e).first t) ∙ here)) in
       step words words' seats rest views id v w q at l same (omega (arith, one, b, b'))
@@ -277,8 +300,10 @@ module _ (d : Discipline) (n : ℕ) (tag : Tag) where
       core
 
   -- a pass is split off
-  pub splits : (words seats : List ℕ) (views : List View) (id : ℕ) (v : View) (q : Q words seats views) → get_elem? views id ≡ some v → v.spent ≡ false → v.from < v.to
-      → d.Core n words seats (set views id (without_next v) ++ next_split v ∷ []) → Q words seats (set views id (without_next v) ++ next_split v ∷ [])
+  pub splits : (words seats : List ℕ) (views : List View) (id : ℕ) (v : View) (q : Q words seats views) → get_elem? views id ≡ some v
+      → v.spent ≡ false → v.from < v.to
+      → d.Core n words seats (set views id (without_next v) ++ next_split v ∷ [])
+      → Q words seats (set views id (without_next v) ++ next_split v ∷ [])
   splits words seats views id v q at live more core =
       let w : View = without_next v in
       let new : View = next_split v in
@@ -286,12 +311,21 @@ module _ (d : Discipline) (n : ℕ) (tag : Tag) where
         few = q.few;
         long = q.long;
         numbers = numbers_split n views id v at live more q.numbers;
-        busy_are = let t = sum_set (busy d.lingers) views id v w at in let p = sum_by_push (busy d.lingers) (set views id w) new in omega (arith, t, p, q.busy_are);
+        busy_are = let t = sum_set (busy d.lingers) views id v w at in let p = sum_by_push (busy d.lingers) (set views id w) new in
+            omega (arith, t, p, q.busy_are);
         once = q.once;
         each_seat = λ j u e. ⊎_elim
             (λ (e' : get_elem? (set views id w) j ≡ some u). ⊎_elim
             (λ (t : (j ≡ id) × (w ≡ u)). subst (λ (x : ℕ × View). Stands seats x.0 x.1) (λ i. (sym t.0 i, t.1 i))
-            (record { tagged = st.tagged; counted = st.counted; ended = st.ended; placed = st.placed; first = st.first; tested = st.tested; followed = st.followed }))
+            (record {
+              tagged = st.tagged;
+              counted = st.counted;
+              ended = st.ended;
+              placed = st.placed;
+              first = st.first;
+              tested = st.tested;
+              followed = st.followed;
+            }))
             (λ (t : (j ≢ id) × (get_elem? views j ≡ some u)). q.each_seat j u t.1)
             (at_set views id j w u e'))
             (λ (t : (j ≡ length (set views id w)) × (new ≡ u)). subst (Stands seats j) t.1 (record {
@@ -304,14 +338,17 @@ module _ (d : Discipline) (n : ℕ) (tag : Tag) where
               followed = λ e' _. absurd (no_true (sym e'));
             }))
             (at_end (set views id w) new u j e);
-        each_place = λ i j e. let p = place_same views id v w at (λ b. b) j (q.each_place i j e) in record { view = p.view; at = at_longer (set views id w) (new ∷ []) j p.view p.at; is = p.is };
+        each_place = λ i j e. let p = place_same views id v w at (λ b. b) j (q.each_place i j e) in
+            record { view = p.view; at = at_longer (set views id w) (new ∷ []) j p.view p.at; is = p.is };
         core = core;
       }
 
   -- a seat is joined into another
-  pub joins : (words seats : List ℕ) (views : List View) (id : ℕ) (v : View) (other : ℕ) (w : View) (q : Q words seats views) → get_elem? views id ≡ some v → v.spent ≡ false
+  pub joins : (words seats : List ℕ) (views : List View) (id : ℕ) (v : View) (other : ℕ) (w : View) (q : Q words seats views)
+      → get_elem? views id ≡ some v → v.spent ≡ false
       → get_elem? (set views id (joined_view v w)) other ≡ some w → w.phase ≡ Idle → IsPlain w
-      → d.Core n words seats (set (set views id (joined_view v w)) other spent_view) → Q words seats (set (set views id (joined_view v w)) other spent_view)
+      → d.Core n words seats (set (set views id (joined_view v w)) other spent_view)
+      → Q words seats (set (set views id (joined_view v w)) other spent_view)
   joins words seats views id v other w q at live at' idle plain core =
       let both : View = joined_view v w in
       let mid : List View = set views id both in
@@ -320,7 +357,8 @@ module _ (d : Discipline) (n : ℕ) (tag : Tag) where
         few = q.few;
         long = q.long;
         numbers = numbers_join n views id v other w at at' live plain q.numbers;
-        busy_are = let t = sum_set (busy d.lingers) views id v both at in let p = sum_set (busy d.lingers) mid other w spent_view at' in omega (arith, t, p, b, q.busy_are);
+        busy_are = let t = sum_set (busy d.lingers) views id v both at in let p = sum_set (busy d.lingers) mid other w spent_view at' in
+            omega (arith, t, p, b, q.busy_are);
         once = q.once;
         each_seat = λ j u e. ⊎_elim
             (λ (t : (j ≡ other) × (spent_view ≡ u)). subst (Stands seats j) t.1 (record {
@@ -334,7 +372,15 @@ module _ (d : Discipline) (n : ℕ) (tag : Tag) where
             }))
             (λ (t : (j ≢ other) × (get_elem? mid j ≡ some u)). ⊎_elim
             (λ (x : (j ≡ id) × (both ≡ u)). subst (λ (y : ℕ × View). Stands seats y.0 y.1) (λ i. (sym x.0 i, x.1 i))
-            (record { tagged = st.tagged; counted = st.counted; ended = st.ended; placed = st.placed; first = st.first; tested = st.tested; followed = st.followed }))
+            (record {
+              tagged = st.tagged;
+              counted = st.counted;
+              ended = st.ended;
+              placed = st.placed;
+              first = st.first;
+              tested = st.tested;
+              followed = st.followed;
+            }))
             (λ (x : (j ≢ id) × (get_elem? views j ≡ some u)). q.each_seat j u x.1)
             (at_set views id j both u t.1))
             (at_set mid other j spent_view u e);
@@ -348,7 +394,8 @@ module _ (d : Discipline) (n : ℕ) (tag : Tag) where
       }
 
   -- the first seat alone
-  pub starts : (words : List ℕ) → 0 < n → n < 2 ^ 32 → length words ≡ row_of d.algorithm n → d.Core n words [] (first_view d.algorithm n tag ∷ []) → Q words [] (first_view d.algorithm n tag ∷ [])
+  pub starts : (words : List ℕ) → 0 < n → n < 2 ^ 32 → length words ≡ row_of d.algorithm n
+      → d.Core n words [] (first_view d.algorithm n tag ∷ []) → Q words [] (first_view d.algorithm n tag ∷ [])
   starts words some_pass few long core = record {
     few = few;
     long = long;
@@ -371,13 +418,15 @@ module _ (d : Discipline) (n : ℕ) (tag : Tag) where
   }
 
   -- the seat at a place isn't spent
-  pub lives : (words seats : List ℕ) (views : List View) (q : Q words seats views) (j : ℕ) (v : View) → get_elem? views j ≡ some v → are_busy v.phase ≡ true → v.spent ≡ false
+  pub lives : (words seats : List ℕ) (views : List View) (q : Q words seats views) (j : ℕ) (v : View) → get_elem? views j ≡ some v
+      → are_busy v.phase ≡ true → v.spent ≡ false
   lives words seats views q j v at b = elim (v.spent) as (λ x. v.spent ≡ x → v.spent ≡ false) [
     | false ↦ λ e. e
     | true ↦ λ e. absurd (no_true (sym b ∙ ap are_busy ((q.each_seat j v at).ended e)))
   ] refl
 
-  busy_le : (words seats : List ℕ) (views : List View) (q : Q words seats views) (j : ℕ) (v : View) → get_elem? views j ≡ some v → busy d.lingers v ≤ passes_of v
+  busy_le : (words seats : List ℕ) (views : List View) (q : Q words seats views) (j : ℕ) (v : View) → get_elem? views j ≡ some v
+      → busy d.lingers v ≤ passes_of v
   busy_le words seats views q j v at = elim (are_busy v.phase) as (λ x. are_busy v.phase ≡ x → busy d.lingers v ≤ passes_of v) [
     | false ↦ λ e. let b = busy_is v false e in omega (arith, b)
     | true ↦ λ e. let m = passes_unspent v (lives words seats views q j v at e) in let b = busy_is v true e in omega (arith, m, b)
@@ -385,16 +434,19 @@ module _ (d : Discipline) (n : ℕ) (tag : Tag) where
 
   -- the queue is no longer than the number of passes
   pub few_seats : (words seats : List ℕ) (views : List View) → Q words seats views → length seats ≤ n
-  few_seats words seats views q = let l = sum_le (busy d.lingers) passes_of views (λ j v at. busy_le words seats views q j v at) in omega (arith, l, q.busy_are, q.numbers.in_all)
+  few_seats words seats views q = let l = sum_le (busy d.lingers) passes_of views (λ j v at. busy_le words seats views q j v at) in
+      omega (arith, l, q.busy_are, q.numbers.in_all)
 
   -- two seats that are not spent and have one pass are one
-  pub one_seat_of : (words seats : List ℕ) (views : List View) → Q words seats views → (a b : ℕ) (u w : View) → get_elem? views a ≡ some u → get_elem? views b ≡ some w
+  pub one_seat_of : (words seats : List ℕ) (views : List View) → Q words seats views → (a b : ℕ) (u w : View) → get_elem? views a ≡ some u
+      → get_elem? views b ≡ some w
       → u.spent ≡ false → w.spent ≡ false → w.number ≡ u.number → b ≡ a
   one_seat_of words seats views q a b u w at at' live live' e =
       dite (ℕ_discrete b a) (λ x. x) (λ ne. absurd (one_number n views q.numbers a b u w at at' live live' ne e))
 
   -- a pass that isn't busy is not in the queue
-  pub not_in : (words seats : List ℕ) (views : List View) (q : Q words seats views) (id : ℕ) (v : View) → get_elem? views id ≡ some v → v.spent ≡ false → are_busy v.phase ≡ false
+  pub not_in : (words seats : List ℕ) (views : List View) (q : Q words seats views) (id : ℕ) (v : View) → get_elem? views id ≡ some v
+      → v.spent ≡ false → are_busy v.phase ≡ false
       → ¬ IsIn v.number (map (number_at views) seats)
   not_in words seats views q id v at live free (i, e) =
       let m = mapped (number_at views) seats i v.number e in
@@ -465,7 +517,8 @@ pub record WasAt (views : List View) (j : ℕ) (u : View) : Type 0 where
   pub same : IsSame u view
 
 -- a seat after a pass is split off: it was there, or is the new one
-pub after_split : (views : List View) (id : ℕ) (v : View) → get_elem? views id ≡ some v → (j : ℕ) (u : View) → get_elem? (set views id (without_next v) ++ next_split v ∷ []) j ≡ some u
+pub after_split : (views : List View) (id : ℕ) (v : View) → get_elem? views id ≡ some v → (j : ℕ) (u : View)
+    → get_elem? (set views id (without_next v) ++ next_split v ∷ []) j ≡ some u
     → WasAt views j u ⊎ ((j ≡ length views) × (next_split v ≡ u))
 after_split views id v at j u e = ⊎_elim
     (λ (e' : get_elem? (set views id (without_next v)) j ≡ some u). inl (⊎_elim
@@ -477,7 +530,8 @@ after_split views id v at j u e = ⊎_elim
 
 -- a seat after another was joined into one: it was there, or is the one that is spent
 pub after_join : (views : List View) (id : ℕ) (v : View) (other : ℕ) (w : View) → get_elem? views id ≡ some v → (j : ℕ) (u : View)
-    → get_elem? (set (set views id (joined_view v w)) other spent_view) j ≡ some u → ((j ≢ other) × WasAt views j u) ⊎ ((j ≡ other) × (spent_view ≡ u))
+    → get_elem? (set (set views id (joined_view v w)) other spent_view) j ≡ some u
+    → ((j ≢ other) × WasAt views j u) ⊎ ((j ≡ other) × (spent_view ≡ u))
 after_join views id v other w at j u e = ⊎_elim
     (λ (t : (j ≡ other) × (spent_view ≡ u)). inr t)
     (λ (t : (j ≢ other) × (get_elem? (set views id (joined_view v w)) j ≡ some u)). inl (
@@ -494,11 +548,16 @@ module _ (d : Discipline) (n : ℕ) (tag : Tag) (words seats : List ℕ) (views 
   pub placed_before_split : (id : ℕ) (v : View) → get_elem? views id ≡ some v → (i j : ℕ) (u : View) → get_elem? seats i ≡ some j
       → get_elem? (set views id (without_next v) ++ next_split v ∷ []) j ≡ some u → WasAt views j u
   placed_before_split id v at i j u e e' = ⊎_elim (λ a. a) (λ (t : (j ≡ length views) × (next_split v ≡ u)).
-      let p = q.each_place i j e in let b = at_below views j p.view p.at in absurd (omega (arith, b, t.0))) (after_split views id v at j u e')
+      let p = q.each_place i j e in let b = at_below views j p.view p.at in absurd (omega (arith, b, t.0)))
+      (after_split views id v at j u e')
 
   -- and before a seat was joined
-  pub placed_before_join : (id : ℕ) (v : View) (other : ℕ) (w : View) → get_elem? views id ≡ some v → get_elem? (set views id (joined_view v w)) other ≡ some w → ¬ (other ≡ id) → w.phase ≡ Idle
-      → (i j : ℕ) (u : View) → get_elem? seats i ≡ some j → get_elem? (set (set views id (joined_view v w)) other spent_view) j ≡ some u → WasAt views j u
-  placed_before_join id v other w at at' apart idle i j u e e' = ⊎_elim (λ (t : (j ≢ other) × WasAt views j u). t.1) (λ (t : (j ≡ other) × (spent_view ≡ u)).
+  pub placed_before_join : (id : ℕ) (v : View) (other : ℕ) (w : View) → get_elem? views id ≡ some v
+      → get_elem? (set views id (joined_view v w)) other ≡ some w → ¬ (other ≡ id) → w.phase ≡ Idle
+      → (i j : ℕ) (u : View) → get_elem? seats i ≡ some j → get_elem? (set (set views id (joined_view v w)) other spent_view) j ≡ some u
+      → WasAt views j u
+  placed_before_join id v other w at at' apart idle i j u e e' = ⊎_elim (λ (t : (j ≢ other) × WasAt views j u). t.1)
+      (λ (t : (j ≡ other) × (spent_view ≡ u)).
       let was : get_elem? views other ≡ some w = sym (set_else views id other (joined_view v w) apart) ∙ at' in
-      absurd (no_place d n tag words seats views other w q was (ap (is_busy d.lingers) idle) i j e t.0)) (after_join views id v other w at j u e')
+      absurd (no_place d n tag words seats views other w q was (ap (is_busy d.lingers) idle) i j e t.0))
+      (after_join views id v other w at j u e')

@@ -25,10 +25,13 @@ tested_view v answer = record v { loads = v.loads + 1; tested = answer_of answer
 abbrev pub Seated : Type 0 → Type 0
 Seated V = Me (Option V) View
 
--- `rule` is the rule of a lock with this many passes and this tag. `queue_of` is what the events of a step speak of, as a function of words and views
+-- `rule` is the rule of a lock with this many passes and this tag. `queue_of` is what the events of a step speak of, as a function of
+-- words and views
 module _ {V Q : Type 0} (rule : ℕ → Tag → State (Option V) View → Type 0) (queue_of : List ℕ → List View → Q) where
-  -- A step of a seat that was `before` and is `after`: in some state of the table that the rule allows, of a lock with the passes and the tag that the seat knows, the
-  -- word with this index was `found`. The step made it `now`, gave the seat its new view, and did `act` with the slot; all other words and views, and the slot where
+  -- A step of a seat that was `before` and is `after`: in some state of the table that the rule allows, of a lock with the passes and the
+  -- tag that the seat knows, the
+  -- word with this index was `found`. The step made it `now`, gave the seat its new view, and did `act` with the slot; all other words
+  -- and views, and the slot where
   -- there is no act, stayed. The rule allows the state that it came to, and the queue changed as the event says
   pub record Happened (event : ℕ → Q → Q → Type 0) (act : Act (Option V)) (word found now : ℕ) (before after : Seated V) : Type 0 where
     pub seat : ℕ
@@ -39,7 +42,8 @@ module _ {V Q : Type 0} (rule : ℕ → Tag → State (Option V) View → Type 0
     pub acted : Valid state.homes before.1 act
     pub carries : after.1 ≡ carried_after before.1 act
     pub next_allowed : rule before.0.count before.0.tag.tag (stepped state word now seat before.1 after.0 act)
-    pub queue : event before.0.number (queue_of state.words state.views) (queue_of (slice_set state.words word now) (slice_set state.views seat after.0))
+    pub queue : event before.0.number (queue_of state.words state.views)
+        (queue_of (slice_set state.words word now) (slice_set state.views seat after.0))
 
   -- the step that happened gave the seat this view
   abbrev pub Stepped : (ℕ → Q → Q → Type 0) → Act (Option V) → ℕ → ℕ → ℕ → Seated V → View → Seated V → Type 0
@@ -47,7 +51,8 @@ module _ {V Q : Type 0} (rule : ℕ → Tag → State (Option V) View → Type 0
 
   -- the same with a Take: the value that was at home in the slot is fit and has the tag that the seat knows
   abbrev pub SteppedAndTook : (V → Type 0) → (V → Tag) → (ℕ → Q → Q → Type 0) → ℕ → ℕ → ℕ → Seated V → View → Seated V → Type 0
-  SteppedAndTook fit tag_of event word found now me w me' = (x : V) × fit x × (tag_of x ≡ me.0.tag.tag) × Stepped event (takes 0 (Some x)) word found now me w me'
+  SteppedAndTook fit tag_of event word found now me w me' = (x : V) × fit x × (tag_of x ≡ me.0.tag.tag)
+      × Stepped event (takes 0 (Some x)) word found now me w me'
 
 -- what a holder puts back: a fit value of the tag that its seat knows, parked only behind a yes
 pub record MayRest {V : Type 0} (fit : V → Type 0) (tag_of : V → Tag) (parked : V → Bool) (v : View) (x : V) : Type 0 where

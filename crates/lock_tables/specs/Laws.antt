@@ -27,14 +27,19 @@ module _ (d : Discipline) where
     pub opens : (n : ℕ) (tag : Tag) → 0 < n → n < 2 ^ 32 → d.Core n (d.opens n) [] (first_view d.algorithm n tag ∷ [])
     -- is kept where a seat is split off, and where one is joined
     pub splits : (n : ℕ) (tag : Tag) (words seats : List ℕ) (views : List View) (id : ℕ) (v : View) → IsQueued d n tag words seats views
-        → get_elem? views id ≡ some v → v.spent ≡ false → v.from < v.to → d.Core n words seats (slice_set views id (without_next v) ++ next_split v ∷ [])
-    pub joins : (n : ℕ) (tag : Tag) (words seats : List ℕ) (views : List View) (id : ℕ) (v : View) (other : ℕ) (w : View) → IsQueued d n tag words seats views
-        → get_elem? views id ≡ some v → v.spent ≡ false → ¬ (other ≡ id) → get_elem? (slice_set views id (joined_view v w)) other ≡ some w → w.phase ≡ Idle → IsPlain w
+        → get_elem? views id ≡ some v → v.spent ≡ false → v.from < v.to
+        → d.Core n words seats (slice_set views id (without_next v) ++ next_split v ∷ [])
+    pub joins : (n : ℕ) (tag : Tag) (words seats : List ℕ) (views : List View) (id : ℕ) (v : View) (other : ℕ) (w : View)
+        → IsQueued d n tag words seats views
+        → get_elem? views id ≡ some v → v.spent ≡ false → ¬ (other ≡ id) → get_elem? (slice_set views id (joined_view v w)) other ≡ some w
+        → w.phase ≡ Idle → IsPlain w
         → d.Core n words seats (slice_set (slice_set views id (joined_view v w)) other spent_view)
     -- and its queue is that of the passes of the rule's seats
-    pub queue_is : (n : ℕ) (tag : Tag) (words seats : List ℕ) (views : List View) → IsQueued d n tag words seats views → d.queue words views ≡ map (number_at views) seats
+    pub queue_is : (n : ℕ) (tag : Tag) (words seats : List ℕ) (views : List View) → IsQueued d n tag words seats views
+        → d.queue words views ≡ map (number_at views) seats
 
   module _ {V : Type 0} (fit : V → Type 0) (tag_of : V → Tag) (parked : V → Bool) where
     -- the rule implies that of a basic lock, with the queue computed from words and views
     abbrev pub RuleIsBasic : Type 0
-    RuleIsBasic = (n : ℕ) (tag : Tag) (s : State (Option V) View) → IsLock d fit tag_of parked n tag s → IsBasic fit tag_of parked (is_holder d.lingers) n tag (d.queue s.words s.views) s
+    RuleIsBasic = (n : ℕ) (tag : Tag) (s : State (Option V) View) → IsLock d fit tag_of parked n tag s
+        → IsBasic fit tag_of parked (is_holder d.lingers) n tag (d.queue s.words s.views) s

@@ -3,7 +3,8 @@ use Rattle.std.specs.Prelude.{◌≡◌, ℕ, ◌+◌, ◌-◌, cond, ◌&&◌, 
 use Rattle.std.specs.List.{sum_by, count_by}
 use Rattle.lock_rules.specs.declared.view.View.{View}
 
--- A way to number views: a seat has a number of its own and those that it took over by joining, and each pass that was not split off yet will have its own pass's
+-- A way to number views: a seat has a number of its own and those that it took over by joining, and each pass that was not split off yet
+-- will have its own pass's
 -- number
 pub record Numbering : Type 0 where
   pub own : View → ℕ
@@ -23,7 +24,8 @@ passes_of v = cond v.spent 0 (1 + (v.to - v.from) + length v.joined)
 
 -- how often the number k stands in a seat
 abbrev pub stands_in : Numbering → ℕ → View → ℕ
-stands_in m k v = cond v.spent 0 (cond (m.own v == k) 1 0 + cond (nat_le v.from k && nat_lt k v.to) 1 0 + count_by (λ x. x == k) (m.taken v))
+stands_in m k v = cond v.spent 0 (cond (m.own v == k) 1 0 + cond (nat_le v.from k && nat_lt k v.to) 1 0 + count_by (λ x. x == k)
+    (m.taken v))
 
 -- the seats have n passes in all: each number below n once, and no other
 pub record HasNumbers (n : ℕ) (views : List View) : Type 0 where

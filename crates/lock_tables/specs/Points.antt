@@ -1,4 +1,5 @@
--- The rule of a basic lock, in words that name no algorithm: what holds of the queue, the slot and all views of its table between any two atomic steps.
+-- The rule of a basic lock, in words that name no algorithm: what holds of the queue, the slot and all views of its table between any two
+-- atomic steps.
 use Rattle.std.specs.Prelude.{◌≡◌, ◌⊎◌, ℕ, ◌<◌, ◌≤◌, Bool, true, false, ◌||◌, List, slice_get, Option, Some}
 use mathlib.Core.Option.{some}
 use lib.ListN.{get_elem?}

@@ -21,7 +21,8 @@ use Rattle.ticket_lock.specs.Rule.{next, serving, HasTickets, ticket_discipline}
 use Rattle.ticket_lock.proofs.Rounds.{next_ticket, one_place, first_ticket}
 use Rattle.ticket_lock.proofs.Queue.{disciplined, place_below}
 
-like : (v w : View) → w.number ≡ v.number → w.from ≡ v.from → w.to ≡ v.to → w.joined ≡ v.joined → w.spent ≡ v.spent → w.tag.tag ≡ v.tag.tag → w.count ≡ v.count → IsLike v w
+like : (v w : View) → w.number ≡ v.number → w.from ≡ v.from → w.to ≡ v.to → w.joined ≡ v.joined → w.spent ≡ v.spent
+    → w.tag.tag ≡ v.tag.tag → w.count ≡ v.count → IsLike v w
 like v w a b c d e f g = record { number = a; from = b; to = c; joined = d; spent = e; tag = f; count = g }
 
 module _ {V : Type 0} (fit : V → Type 0) (tag_of : V → Tag) (parked : V → Bool) (n : ℕ) (tag : Tag) where
@@ -32,7 +33,8 @@ module _ {V : Type 0} (fit : V → Type 0) (tag_of : V → Tag) (parked : V → 
   Q = IsQueued ticket_discipline n tag
 
   -- the tickets, where a seat gets a view with the same ticket
-  same_tickets : (words seats : List ℕ) (views : List View) (id : ℕ) (v w : View) (q : Q words seats views) → get_elem? views id ≡ some v → w.ticket ≡ v.ticket → HasTickets n words seats (set views id w)
+  same_tickets : (words seats : List ℕ) (views : List View) (id : ℕ) (v w : View) (q : Q words seats views) → get_elem? views id ≡ some v
+      → w.ticket ≡ v.ticket → HasTickets n words seats (set views id w)
   same_tickets words seats views id v w q at t = record {
     first = q.core.first;
     next_is = q.core.next_is;
@@ -43,7 +45,8 @@ module _ {V : Type 0} (fit : V → Type 0) (tag_of : V → Tag) (parked : V → 
         (at_set views id j w u e');
   }
 
-  pub adds : (slots id : ℕ) (me : Me (Option V) View) → me.0.phase ≡ Idle → me.0.spent ≡ false → Allows Rule slots id me next (λ x. (x + 1) % 2 ^ 64) (Entered fit tag_of parked me)
+  pub adds : (slots id : ℕ) (me : Me (Option V) View) → me.0.phase ≡ Idle → me.0.spent ≡ false
+      → Allows Rule slots id me next (λ x. (x + 1) % 2 ^ 64) (Entered fit tag_of parked me)
   adds slots id me idle live s r count at low =
       let v : View = me.0 in
       let q = r.queued in
@@ -54,7 +57,8 @@ module _ {V : Type 0} (fit : V → Type 0) (tag_of : V → Tag) (parked : V → 
       let other = no_place ticket_discipline n tag s.words r.seats s.views id v q at (ap (is_busy false) idle) in
       let core : HasTickets n (set s.words next (after found)) (r.seats ++ id ∷ []) (set s.views id w) = record {
         first = q.core.first;
-        next_is = wrote_here s.words next (after found) (omega (arith, size)) ∙ ap after q.core.next_is ∙ next_ticket q.core.first (length r.seats)
+        next_is = wrote_here s.words next (after found) (omega (arith, size)) ∙ ap after q.core.next_is
+            ∙ next_ticket q.core.first (length r.seats)
             ∙ ap (λ (x : ℕ). (q.core.first + x) % 2 ^ 64) (sym long);
         serving_is = wrote_else s.words next serving (after found) (λ e. omega arith) ∙ q.core.serving_is;
         tickets = λ i j u e e'. ⊎_elim
@@ -63,16 +67,19 @@ module _ {V : Type 0} (fit : V → Type 0) (tag_of : V → Tag) (parked : V → 
             (λ (x : (j ≢ id) × (get_elem? s.views j ≡ some u)). q.core.tickets i j u f x.1)
             (at_set s.views id j w u e'))
             (λ (f : (i ≡ length r.seats) × (id ≡ j)). ⊎_elim
-            (λ (x : (j ≡ id) × (w ≡ u)). ap (λ (y : View). y.ticket) (sym x.1) ∙ q.core.next_is ∙ ap (λ (y : ℕ). (q.core.first + y) % 2 ^ 64) (sym f.0))
+            (λ (x : (j ≡ id) × (w ≡ u)). ap (λ (y : View). y.ticket) (sym x.1) ∙ q.core.next_is
+            ∙ ap (λ (y : ℕ). (q.core.first + y) % 2 ^ 64) (sym f.0))
             (λ (x : (j ≢ id) × (get_elem? s.views j ≡ some u)). absurd (x.0 (sym f.1)))
             (at_set s.views id j w u e'))
             (at_end r.seats id j i e);
       } in
-      let k = enters fit tag_of parked ticket_discipline disciplined n tag next (after found) id me w s r at live (like v w refl refl refl refl refl refl refl) idle refl core in
+      let k = enters fit tag_of parked ticket_discipline disciplined n tag next (after found) id me w s r at live
+      (like v w refl refl refl refl refl refl refl) idle refl core in
       (w, keeps, k.0, k.1, k.2)
 
   -- where the ticket is served, the pass is the head
-  first_served : (s : State (Option V) View) (r : Rule s) (id : ℕ) (v : View) → get_elem? s.views id ≡ some v → v.phase ≡ Queued → slice_index s.words serving ≡ v.ticket → get_elem? r.seats 0 ≡ some id
+  first_served : (s : State (Option V) View) (r : Rule s) (id : ℕ) (v : View) → get_elem? s.views id ≡ some v → v.phase ≡ Queued
+      → slice_index s.words serving ≡ v.ticket → get_elem? r.seats 0 ≡ some id
   first_served s r id v at queued e =
       let q = r.queued in
       let p = (q.each_seat id v at).placed (ap (is_busy false) queued) in
@@ -80,44 +87,54 @@ module _ {V : Type 0} (fit : V → Type 0) (tag_of : V → Tag) (parked : V → 
       (sym (q.core.tickets p.0 id v p.1 at) ∙ sym e ∙ q.core.serving_is ∙ sym (first_ticket q.core.first)) in
       ap (get_elem? r.seats) (sym same) ∙ p.1
 
-  pub polls : (slots id : ℕ) (me : Me (Option V) View) → me.0.phase ≡ Queued → me.0.spent ≡ false → Allows Rule slots id me serving (λ x. x) (Polled fit tag_of parked me)
+  pub polls : (slots id : ℕ) (me : Me (Option V) View) → me.0.phase ≡ Queued → me.0.spent ≡ false
+      → Allows Rule slots id me serving (λ x. x) (Polled fit tag_of parked me)
   polls slots id me queued live s r count at low = dite (ℕ_discrete (slice_index s.words serving) me.0.ticket)
       (λ e.
       let v : View = me.0 in
       let w : View = took_view v in
-      let k = takes_head fit tag_of parked ticket_discipline disciplined n tag serving id me w s r at live (like v w refl refl refl refl refl refl refl) queued (first_served s r id v at queued e)
+      let k = takes_head fit tag_of parked ticket_discipline disciplined n tag serving id me w s r at live
+      (like v w refl refl refl refl refl refl refl) queued (first_served s r id v at queued e)
       refl (λ x. absurd (cc)) refl (same_tickets s.words r.seats s.views id v w r.queued at refl) in
       (w, k.0, k.1, k.2, (λ _. k.3, λ ne. absurd (ne e))))
       (λ ne.
       let v : View = me.0 in
       let w : View = missed_view v in
       let idle = wrong_phase (is_holder false) v Queued queued refl in
-      let k = loads fit tag_of parked ticket_discipline disciplined n tag serving id me w s r at live (like v w refl refl refl refl refl refl refl) refl refl
+      let k = loads fit tag_of parked ticket_discipline disciplined n tag serving id me w s r at live
+      (like v w refl refl refl refl refl refl refl) refl refl
       (λ h _. absurd (idle h)) (λ h _. absurd (idle h)) (same_tickets s.words r.seats s.views id v w r.queued at refl) in
       (w, keeps, k.0, k.1, (λ e. absurd (ne e), λ _. k.2)))
 
   -- where the next ticket isn't the one behind the holder's, another pass is queued
-  others_behind : (s : State (Option V) View) (r : Rule s) (id : ℕ) (v : View) → get_elem? s.views id ≡ some v → get_elem? r.seats 0 ≡ some id → answer_of (others_wait v (slice_index s.words next)) ≡ Yes → 1 < length r.seats
+  others_behind : (s : State (Option V) View) (r : Rule s) (id : ℕ) (v : View) → get_elem? s.views id ≡ some v
+      → get_elem? r.seats 0 ≡ some id → answer_of (others_wait v (slice_index s.words next)) ≡ Yes → 1 < length r.seats
   others_behind s r id v at first noted = dite (ℕ_discrete (length r.seats) 1)
       (λ one.
       let q = r.queued in
       let ticket = q.core.tickets 0 id v first at in
       let behind : after v.ticket ≡ (q.core.first + 1) % 2 ^ 64 = ap after ticket ∙ next_ticket q.core.first 0 in
-      let found : slice_index s.words next ≡ (q.core.first + 1) % 2 ^ 64 = q.core.next_is ∙ ap (λ (x : ℕ). (q.core.first + x) % 2 ^ 64) one in
-      let same : (slice_index s.words next == after v.ticket) ≡ true = eq-eqb (slice_index s.words next) (after v.ticket) (found ∙ sym behind) in
+      let found : slice_index s.words next ≡ (q.core.first + 1) % 2 ^ 64 = q.core.next_is
+      ∙ ap (λ (x : ℕ). (q.core.first + x) % 2 ^ 64) one in
+      let same : (slice_index s.words next == after v.ticket) ≡ true = eq-eqb (slice_index s.words next) (after v.ticket) (found
+      ∙ sym behind) in
       let no : No ≡ Yes = sym (ap (λ (b : Bool). answer_of (not b)) same) ∙ noted in absurd cc)
       (λ ne. let b = at_below r.seats 0 id first in omega arith)
 
-  pub waits : (slots id : ℕ) (me : Me (Option V) View) → me.0.phase ≡ Holding → me.0.spent ≡ false → Allows Rule slots id me next (λ x. x) (Tested fit tag_of parked me)
+  pub waits : (slots id : ℕ) (me : Me (Option V) View) → me.0.phase ≡ Holding → me.0.spent ≡ false
+      → Allows Rule slots id me next (λ x. x) (Tested fit tag_of parked me)
   waits slots id me held live s r count at low =
       let v : View = me.0 in
       let w : View = tested_view v (others_wait v (slice_index s.words next)) in
       let st = r.queued.each_seat id v at in
-      let k = loads fit tag_of parked ticket_discipline disciplined n tag next id me w s r at live (like v w refl refl refl refl refl refl refl) refl refl
-      (λ h noted. others_behind s r id v at (st.first h) noted) st.followed (same_tickets s.words r.seats s.views id v w r.queued at refl) in
+      let k = loads fit tag_of parked ticket_discipline disciplined n tag next id me w s r at live
+      (like v w refl refl refl refl refl refl refl) refl refl
+      (λ h noted. others_behind s r id v at (st.first h) noted) st.followed
+      (same_tickets s.words r.seats s.views id v w r.queued at refl) in
       (w, keeps, k.0, k.1, k.2)
 
-  pub gives_back : (slots id : ℕ) (v : View) (x : V) (new : ℕ) (c : List (ℕ × Option V)) → v.phase ≡ Holding → v.spent ≡ false → c ≡ (0, Some x) ∷ [] → MayRest fit tag_of parked v x → new ≡ after v.ticket
+  pub gives_back : (slots id : ℕ) (v : View) (x : V) (new : ℕ) (c : List (ℕ × Option V)) → v.phase ≡ Holding → v.spent ≡ false
+      → c ≡ (0, Some x) ∷ [] → MayRest fit tag_of parked v x → new ≡ after v.ticket
       → Allows Rule slots id (v, c) serving (λ _. new) (λ _. Left fit tag_of parked (v, c) new)
   gives_back slots id v x new c held live carries rests is_next s r count at low =
       let q = r.queued in
@@ -131,7 +148,8 @@ module _ {V : Type 0} (fit : V → Type 0) (tag_of : V → Tag) (parked : V → 
       let core : HasTickets n (set s.words serving new) tail (set s.views id w) = record {
         first = q.core.first + 1;
         next_is = wrote_else s.words serving next new (λ e. omega arith) ∙ q.core.next_is ∙ ap (λ (y : ℕ). y % 2 ^ 64) shift;
-        serving_is = wrote_here s.words serving new (omega (arith, size)) ∙ is_next ∙ ap after (q.core.tickets 0 id v first at) ∙ next_ticket q.core.first 0;
+        serving_is = wrote_here s.words serving new (omega (arith, size)) ∙ is_next ∙ ap after (q.core.tickets 0 id v first at)
+            ∙ next_ticket q.core.first 0;
         tickets = λ i j u e e'.
             let e'' : get_elem? r.seats (suc i) ≡ some j = ap (λ (l : List ℕ). get_elem? l (suc i)) cut.1 ∙ e in
             let far : q.core.first + suc i ≡ q.core.first + 1 + i = omega arith in ⊎_elim
@@ -139,6 +157,7 @@ module _ {V : Type 0} (fit : V → Type 0) (tag_of : V → Tag) (parked : V → 
             (λ (y : (j ≢ id) × (get_elem? s.views j ≡ some u)). q.core.tickets (suc i) j u e'' y.1 ∙ ap (λ (z : ℕ). z % 2 ^ 64) far)
             (at_set s.views id j w u e');
       } in
-      let k = leaves fit tag_of parked ticket_discipline disciplined n tag serving new id v w x c tail s r at live (like v w refl refl refl refl refl refl refl)
+      let k = leaves fit tag_of parked ticket_discipline disciplined n tag serving new id v w x c tail s r at live
+      (like v w refl refl refl refl refl refl refl)
       (ap (is_holder false) held) cut.1 refl refl carries rests core in
       (w, gives, k.0, k.1, (slice_index s.words serving, k.2))

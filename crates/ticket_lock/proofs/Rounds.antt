@@ -7,7 +7,8 @@ use Rattle.atomic_table.proofs.Lists.{one_turn}
 
 -- the ticket behind one that is taken modulo 2 ^ 64
 pub next_ticket : (f k : ℕ) → ((f + k) % 2 ^ 64 + 1) % 2 ^ 64 ≡ (f + (k + 1)) % 2 ^ 64
-next_ticket f k = let a = mod-add-mod (f + k) (2 ^ 64) 1 in let b : (f + k) + 1 ≡ f + (k + 1) = omega arith in a ∙ ap (λ (x : ℕ). x % 2 ^ 64) b
+next_ticket f k = let a = mod-add-mod (f + k) (2 ^ 64) 1 in let b : (f + k) + 1 ≡ f + (k + 1) = omega arith in a
+    ∙ ap (λ (x : ℕ). x % 2 ^ 64) b
 
 -- how many tickets are out
 pub out_is : (f k : ℕ) → k < 2 ^ 64 → ((f + k) % 2 ^ 64 + (2 ^ 64 - f % 2 ^ 64)) % 2 ^ 64 ≡ k

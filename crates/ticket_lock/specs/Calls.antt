@@ -29,7 +29,8 @@ module _ {V : Type 0} (fit : V → Type 0) (tag_of : V → Tag) (parked : V → 
   pub record HasTaken (before : Badge View) (after : Held V) : Type 0 where
     pub found : ℕ
     pub own : found ≡ (view_of before).ticket
-    pub step : Stepped (IsLock ticket_discipline fit tag_of parked) queue_of Takes (takes 0 (Some after.value)) serving found found (view_of before, []) (took_view (view_of before))
+    pub step : Stepped (IsLock ticket_discipline fit tag_of parked) queue_of Takes (takes 0 (Some after.value)) serving found found
+        (view_of before, []) (took_view (view_of before))
         (held_view after, (0, Some after.value) ∷ [])
 
   -- a load of `next`; the answer is yes exactly where it was not the ticket behind the holder's
@@ -40,4 +41,5 @@ module _ {V : Type 0} (fit : V → Type 0) (tag_of : V → Tag) (parked : V → 
 
   -- the store of the next ticket in `serving`; the holder's value is at home then
   abbrev pub HasLeft : Held V → Badge View → Type 0
-  HasLeft before now = Left fit tag_of parked (held_view before, (0, Some before.value) ∷ []) (after (held_view before).ticket) (view_of now, [])
+  HasLeft before now = Left fit tag_of parked (held_view before, (0, Some before.value) ∷ []) (after (held_view before).ticket)
+      (view_of now, [])

@@ -27,4 +27,5 @@ pub record HasDistances (words : List ℕ) (views : List View) : Type 0 where
 
 module _ {V : Type 0} (fit : V → Type 0) (tag_of : V → Tag) (parked : V → Bool) where
   abbrev pub RuleHasDistances : Type 0
-  RuleHasDistances = (n : ℕ) (tag : Tag) (s : State (Option V) View) → IsLock ticket_discipline fit tag_of parked n tag s → HasDistances s.words s.views
+  RuleHasDistances = (n : ℕ) (tag : Tag) (s : State (Option V) View) → IsLock ticket_discipline fit tag_of parked n tag s
+      → HasDistances s.words s.views

@@ -28,22 +28,27 @@ others_wait v found = not (found == after v.ticket)
 module _ {V : Type 0} (fit : V → Type 0) (tag_of : V → Tag) (parked : V → Bool) where
   -- Addition to `next`: Enter
   abbrev pub Entered : Seated V → ℕ → Seated V → Type 0
-  Entered me found me' = Stepped (IsLock ticket_discipline fit tag_of parked) queue_of Enters keeps next found (after found) me (queued_view me.0 found) me'
+  Entered me found me' = Stepped (IsLock ticket_discipline fit tag_of parked) queue_of Enters keeps next found (after found) me
+      (queued_view me.0 found) me'
 
   -- Load of `serving`: Take where it is the ticket, else no event
   abbrev pub Took : Seated V → ℕ → Seated V → Type 0
-  Took me found me' = SteppedAndTook (IsLock ticket_discipline fit tag_of parked) queue_of fit tag_of Takes serving found found me (took_view me.0) me'
+  Took me found me' = SteppedAndTook (IsLock ticket_discipline fit tag_of parked) queue_of fit tag_of Takes serving found found me
+      (took_view me.0) me'
 
   abbrev pub Missed : Seated V → ℕ → Seated V → Type 0
-  Missed me found me' = Stepped (IsLock ticket_discipline fit tag_of parked) queue_of Stays keeps serving found found me (missed_view me.0) me'
+  Missed me found me' = Stepped (IsLock ticket_discipline fit tag_of parked) queue_of Stays keeps serving found found me
+      (missed_view me.0) me'
 
   abbrev pub Polled : Seated V → ℕ → Seated V → Type 0
   Polled me found me' = (found ≡ me.0.ticket → Took me found me') × (found ≢ me.0.ticket → Missed me found me')
 
   -- Load of `next` by `waiter`: no event
   abbrev pub Tested : Seated V → ℕ → Seated V → Type 0
-  Tested me found me' = Stepped (IsLock ticket_discipline fit tag_of parked) queue_of Stays keeps next found found me (tested_view me.0 (others_wait me.0 found)) me'
+  Tested me found me' = Stepped (IsLock ticket_discipline fit tag_of parked) queue_of Stays keeps next found found me
+      (tested_view me.0 (others_wait me.0 found)) me'
 
   -- Store of `serving`: Leave
   abbrev pub Left : Seated V → ℕ → Seated V → Type 0
-  Left me stored me' = (found : ℕ) × Stepped (IsLock ticket_discipline fit tag_of parked) queue_of Leaves gives serving found stored me (left_view me.0) me'
+  Left me stored me' = (found : ℕ) × Stepped (IsLock ticket_discipline fit tag_of parked) queue_of Leaves gives serving found stored me
+      (left_view me.0) me'

@@ -8,7 +8,14 @@ use Rattle.lock_tables.proofs.table.deal.Given as goal
 abbrev pub invariant-loop-number : goal.invariant-loop-number
 invariant-loop-number g l = record {
   table : l.seat.table_id ≡ l.words.table_id;
-  seat : l.seat.me ≡ (record (first_view g.D.Disciplined.discipline.algorithm l.passes (g.V.Cargo.tag l.words.key.value.value)) { from = l.number }, []);
-  listed : AreAll (λ p. badge_place p.badge) (lock_name g.D.Disciplined.discipline.algorithm l.words.table_id) (g.V.Cargo.tag l.words.key.value.value) l.number l.list.items;
+  seat : l.seat.me ≡ (
+    record (first_view g.D.Disciplined.discipline.algorithm l.passes (g.V.Cargo.tag l.words.key.value.value)) {
+      from =
+          l.number;
+    },
+    [],
+  );
+  listed : AreAll (λ p. badge_place p.badge) (lock_name g.D.Disciplined.discipline.algorithm l.words.table_id)
+      (g.V.Cargo.tag l.words.key.value.value) l.number l.list.items;
   room : l.passes ≤ vec_capacity l.list;
 }

@@ -22,7 +22,8 @@ loop-pass-init g c =
 
 pub join_seat-requires : goal.join_seat-requires
 join_seat-requires g c =
-    let out = one_less _ _ _ _ _ c.pop-in-loop-pass.new.self.items c.in-Some-pop.pass c.in-Some-pop.ensures.items c.loop-pass.invariant.listed in
+    let out = one_less _ _ _ _ _ c.pop-in-loop-pass.new.self.items c.in-Some-pop.pass c.in-Some-pop.ensures.items
+    c.loop-pass.invariant.listed in
     let parts = c.into_parts-other.ensures in
     let view = ap (λ m. m.0) parts.view in
     let plain : IsPlain c.into_parts-other.result.0.me.0 = subst IsPlain (sym view) c.in-Some-pop.pass.idle.plain in
@@ -31,13 +32,16 @@ join_seat-requires g c =
       parts.table ∙ (lock_name-tells _ _ _ _ (ap (λ p. p.lock) out.1)).1,
       ap (λ m. m.1) parts.view,
       omega (arith, words),
-      joins g.V.Cargo.fit g.V.Cargo.tag g.V.Cargo.parked _ c.is_disciplined.ensures _ _ _ _ _ _ c.loop-pass.invariant.unspent (ap (λ v. v.phase) view ∙ c.in-Some-pop.pass.idle.stands) plain,
+      joins g.V.Cargo.fit g.V.Cargo.tag g.V.Cargo.parked _ c.is_disciplined.ensures _ _ _ _ _ _ c.loop-pass.invariant.unspent
+          (ap (λ v. v.phase) view ∙ c.in-Some-pop.pass.idle.stands) plain,
     )
 
 pub loop-pass-preserved : goal.loop-pass-preserved
 loop-pass-preserved g c =
-    let out = one_less _ _ _ _ _ c.pop-in-loop-pass.new.self.items c.in-Some-pop.pass c.in-Some-pop.ensures.items c.loop-pass.invariant.listed in
-    let plain : IsPlain c.into_parts-other.result.0.me.0 = subst IsPlain (sym (ap (λ m. m.0) c.into_parts-other.ensures.view)) c.in-Some-pop.pass.idle.plain in
+    let out = one_less _ _ _ _ _ c.pop-in-loop-pass.new.self.items c.in-Some-pop.pass c.in-Some-pop.ensures.items
+    c.loop-pass.invariant.listed in
+    let plain : IsPlain c.into_parts-other.result.0.me.0 =
+    subst IsPlain (sym (ap (λ m. m.0) c.into_parts-other.ensures.view)) c.in-Some-pop.pass.idle.plain in
     let did = ap (λ m. m.0) c.join_seat.ensures.2 in record {
       table = c.join_seat.ensures.0 ∙ c.loop-pass.invariant.table;
       idle = ap (λ v. v.phase) did ∙ c.loop-pass.invariant.idle;

@@ -13,7 +13,8 @@ invariant-loop-pass g l = record {
   idle : l.seat.me.0.phase ≡ Idle;
   unspent : l.seat.me.0.spent ≡ false;
   numbers : passes_of l.seat.me.0 + length l.passes.items ≡ l.words.key.passes;
-  listed : AreAll (λ p. badge_place p.badge) (lock_name g.D.Disciplined.discipline.algorithm l.words.table_id) (g.V.Cargo.tag l.words.key.value.value) (length l.passes.items) l.passes.items;
+  listed : AreAll (λ p. badge_place p.badge) (lock_name g.D.Disciplined.discipline.algorithm l.words.table_id)
+      (g.V.Cargo.tag l.words.key.value.value) (length l.passes.items) l.passes.items;
 }
 
 abbrev pub decreases-loop-pass : goal.decreases-loop-pass

@@ -10,7 +10,8 @@ load_next-next-requires-clause-table g c = own_table _ _ _ _ (held_view c.args.h
 
 pub returns-clause-asked : goal.returns-clause-asked
 returns-clause-asked g c =
-    let mark = c.args.held.now.seat.marked ∙ own_mark _ _ _ _ (held_view c.args.held.now) c.requires.own (held_view c.args.held.now) refl in record {
+    let mark = c.args.held.now.seat.marked
+    ∙ own_mark _ _ _ _ (held_view c.args.held.now) c.requires.own (held_view c.args.held.now) refl in record {
       found = c.load_next-next.result;
       told = ap (λ (t : ℕ). not (c.load_next-next.result == after t)) mark;
       step = c.load_next-next.ensures.step;

@@ -1,4 +1,4 @@
--- Sums over the views of a table.
+-- Sums over a list of which one element is replaced.
 use Rattle.std.proofs.Common.{◌≡◌, ◌≢◌, ℕ, zero, suc, ◌+◌, ◌<◌, ◌≤◌, List, [], ◌∷◌, set, refl, ap, sym, arith}
 use Rattle.std.specs.List.{sum_by}
 use Rattle.std.proofs.lemmas.List.Sums.{sum_by-cons}
@@ -24,8 +24,10 @@ module _ {X : Type 0} (f : X → ℕ) where
   pub parts_le : (xs : List X) (i j : ℕ) (x y : X) → i ≢ j → get_elem? xs i ≡ some x → get_elem? xs j ≡ some y → f x + f y ≤ sum_by f xs
   parts_le [] i j x y n e e' = absurd (some-ne-none x (sym e))
   parts_le (z ∷ zs) zero zero x y n e e' = absurd (n refl)
-  parts_le (z ∷ zs) zero (suc j) x y n e e' = let s : f z ≡ f x = ap f (some-injective z x e) in omega (arith, part_le zs j y e', sum_by-cons f z zs)
-  parts_le (z ∷ zs) (suc i) zero x y n e e' = let s : f z ≡ f y = ap f (some-injective z y e') in omega (arith, part_le zs i x e, sum_by-cons f z zs)
+  parts_le (z ∷ zs) zero (suc j) x y n e e' = let s : f z ≡ f x = ap f (some-injective z x e) in
+      omega (arith, part_le zs j y e', sum_by-cons f z zs)
+  parts_le (z ∷ zs) (suc i) zero x y n e e' = let s : f z ≡ f y = ap f (some-injective z y e') in
+      omega (arith, part_le zs i x e, sum_by-cons f z zs)
   parts_le (z ∷ zs) (suc i) (suc j) x y n e e' = omega (arith, parts_le zs i j x y (λ q. n (ap suc q)) e e', sum_by-cons f z zs)
 
   -- where the sum is more than 0, so is an element
@@ -38,4 +40,5 @@ module _ {X : Type 0} (f : X → ℕ) where
   -- where each element of one sum is no more than that of another
   pub sum_le : (g : X → ℕ) (xs : List X) → ((i : ℕ) (x : X) → get_elem? xs i ≡ some x → f x ≤ g x) → sum_by f xs ≤ sum_by g xs
   sum_le g [] h = omega arith
-  sum_le g (z ∷ zs) h = let a : f z ≤ g z = h zero z refl in omega (arith, sum_le g zs (λ i. h (suc i)), sum_by-cons f z zs, sum_by-cons g z zs)
+  sum_le g (z ∷ zs) h = let a : f z ≤ g z = h zero z refl in
+      omega (arith, sum_le g zs (λ i. h (suc i)), sum_by-cons f z zs, sum_by-cons g z zs)
