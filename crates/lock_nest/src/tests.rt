@@ -1,13 +1,13 @@
 ghost use Rattle.std.specs.Prelude.{false};
 ghost use Rattle.lock_rules.specs.Tag.{leaf};
 ghost use Rattle.lock_rules.specs.Passes.{IsOf};
-ghost use Rattle.lock_rules.specs.Holds.{grip_of};
+ghost use Rattle.lock_rules.specs.Holders.{holder_of};
 ghost use Rattle.lock_rules.specs.declared.step.Answer.TheVariants.{Open};
 
 use crate::Level;
 use crate::own::{Context, Higher, Kept, Own};
-use lock_rules::{Basic, Cargo, Hold, Step};
-use ticket_lock::{Pass, Ticket};
+use lock_rules::{Basic, Cargo, Held, Pass, Step};
+use ticket_lock::Ticket;
 
 /// The value of the higher lock.
 #[derive(Drop)]
@@ -27,8 +27,8 @@ impl Cargo for Seed {
     }
 }
 
-impl Kept for Hold<Seed> {
-    ghost place = { λ h. (grip_of h).place };
+impl Kept for Held<Seed> {
+    ghost place = { λ h. (holder_of h).place };
 
     ghost stands = { λ _. Unit {0} };
 }
@@ -36,7 +36,7 @@ impl Kept for Hold<Seed> {
 impl Higher for Ticket<Seed> {
     type Pass = Pass;
 
-    type Held = Hold<Seed>;
+    type Held = Held<Seed>;
 }
 
 type High = Ticket<Seed>;

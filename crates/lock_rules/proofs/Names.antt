@@ -1,9 +1,12 @@
 -- The name of a lock tells its algorithm and its table.
-use Rattle.std.proofs.Common.{◌≡◌, ℕ, List, [], ◌∷◌, arith}
+use Rattle.std.proofs.Common.{◌≡◌, ℕ, List, [], ◌∷◌, ap, ◌∙◌, arith}
 use Rattle.atomic_table.specs.Seated.{TableId}
-use Rattle.lock_rules.specs.Views.{algorithm_number, tree_of, lock_name}
-use Rattle.lock_rules.specs.declared.hold.Algorithm.{Algorithm}
-use Rattle.lock_rules.specs.declared.hold.Algorithm.TheVariants.{Ticket, Mcs, Clh, Hemlock}
+use Rattle.lock_rules.specs.Passes.{IsOf}
+use Rattle.lock_rules.specs.Tag.{Tag}
+use Rattle.lock_rules.specs.Views.{algorithm_number, tree_of, lock_name, place_of, mark_by, mark_of}
+use Rattle.lock_rules.specs.declared.view.Algorithm.{Algorithm}
+use Rattle.lock_rules.specs.declared.view.Algorithm.TheVariants.{Ticket, Mcs, Clh, Hemlock}
+use Rattle.lock_rules.specs.declared.view.View.{View}
 
 tree_of-tells : (xs ys : List ℕ) → tree_of xs ≡ tree_of ys → xs ≡ ys
 tree_of-tells [] [] e = cc
@@ -50,3 +53,14 @@ lock_name-tells a b y z e =
     let n : algorithm_number a ≡ algorithm_number b = cc in
     let t : tree_of (fields y) ≡ tree_of (fields z) = cc in
     (algorithm-tells a b n, fields-tell y z (tree_of-tells (fields y) (fields z) t))
+
+-- a token of a lock has a seat of its table, and a view of its algorithm
+module _ (a : Algorithm) (z : TableId) (tag : Tag) (y : TableId) (v : View) (own : IsOf (lock_name a z) tag (place_of y v)) where
+  pub own_table : y ≡ z
+  own_table = (lock_name-tells v.algorithm a y z own.lock_is).1
+
+  pub own_algorithm : v.algorithm ≡ a
+  own_algorithm = (lock_name-tells v.algorithm a y z own.lock_is).0
+
+  pub own_mark : (w : View) → w.algorithm ≡ v.algorithm → mark_of w ≡ mark_by a w
+  own_mark w e = let f = own_algorithm in ap (λ (x : Algorithm). mark_by x w) (e ∙ f)

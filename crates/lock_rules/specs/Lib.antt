@@ -2,8 +2,7 @@ pub mod Tag
 pub mod Meanings
 pub mod Steps
 pub mod Views
+pub mod Rows
+pub mod Tokens
 pub mod Passes
-pub mod Holds
-pub mod Queue
-pub mod Numbers
-pub mod Points
+pub mod Holders

@@ -5,23 +5,23 @@
 //! `acquire` and `release` wait. What a token means (which lock and pass it is of, what its last load showed) stands in traits of the
 //! tokens, so that no token names the type of a lock.
 //!
-//! The lower half, for those who write a lock, is what its table's seats know (`View`), the one token of a holder (`Hold`), and the key
-//! that its table is told (`Opening`).
+//! For those who write a lock there are what its table's seats know (`View`), the tokens that all locks share (`Pass`, `Queue`, `Held`, `Left`), the key
+//! that its table is told (`Opening`), and how its words lie in lines (`specs/Rows`). The crate `lock_tables` has the rule that stands on these.
 #![tactic(auto)]
 
 mod basic;
 mod cargo;
-mod deal;
-mod grip;
-mod hold;
+mod held;
+mod holder;
 mod step;
 mod token;
+mod tokens;
 mod view;
 
 pub use basic::Basic;
 pub use cargo::Cargo;
-pub use deal::{Cut, Glue};
-pub use hold::{Algorithm, Grasp, Hold};
+pub use held::{Held, HeldSeat};
 pub use step::{Answer, Refused, Step};
-pub use token::{Gripping, Placed, Polled};
-pub use view::{Opening, Phase, Tagged, View};
+pub use token::{Departing, Holding, Placed, Queueing};
+pub use tokens::{Left, Pass, Queue};
+pub use view::{Algorithm, Opening, Phase, Tagged, View};

@@ -6,6 +6,15 @@ use crate::step::Answer;
 use std::marker::Model;
 use std::snapshot::Snapshot;
 
+/// The algorithms of the four locks. A lock's name has its algorithm, so a token of one lock is never taken for a token of another.
+#[derive(Clone, Copy, Drop)]
+pub enum Algorithm {
+    Ticket,
+    Mcs,
+    Clh,
+    Hemlock,
+}
+
 /// Where a pass stands. A pass that is leaving has put the value back, and its lock still waits for the next pass.
 pub enum Phase {
     Idle,
@@ -23,32 +32,52 @@ impl Model for Tagged {
     ghost also_owns = { λ _. ftrue };
 }
 
-/// What a seat at the table of a lock knows, for each of the four locks. It exists in proofs alone, and no value of it is made.
+/// What a seat at the table of a lock knows. It exists in proofs alone, and no value of it is made.
 ///
-/// The seat's own pass has `number`; the numbers from `from` up to `to` were not split off yet, and it took over the numbers `joined`. A seat that was
-/// joined into another is `spent`. `tested` is what the last load of `waiter` in this hold showed, `loads` counts the loads, and `ready` says whether the
-/// last load of a call that polls or releases showed the word that lets the pass go on. `ticket` is of the Ticket lock. `predecessor` is the word that the
-/// last swap of the tail found, `followed` says that an exchange of the tail found another pass behind, `prepared` that the own words were set before
-/// the swap, and `linked` that the own link was stored in the predecessor's word. `node` and `nodes` are of CLH: the own node and those taken over by joining.
+/// One type serves all four locks, because each type that a token names is compared with all others where locks are nested: with a view, and so a
+/// holder's token, of its own for each lock, a composition of a few levels is out of the checker's reach. A field that a lock doesn't use stays as it
+/// was at the start. Words name a pass by its number plus 1, so that 0 names none.
 pub struct View {
-    pub phase: Phase,
+    /// Of all locks: which lock it is, and how many passes it has. No step changes these.
+    pub algorithm: Algorithm,
+    pub count: u64,
+    /// Of all locks: the tag of the lock's value. No step changes it.
+    pub tag: Tagged,
+    /// Of all locks: the seat's own pass, the passes from `from` up to `to` that were not split off yet, and those that it took over by joining.
+    /// A clause reads an array as a list, of any length.
     pub number: u64,
     pub from: u64,
     pub to: u64,
-    // A clause reads an array as a list, of any length.
     pub joined: [u64; 0],
+    /// Of all locks: the seat was joined into another.
     pub spent: bool,
-    pub tag: Tagged,
-    pub tested: Answer,
+    /// Of all locks: where the pass stands.
+    pub phase: Phase,
+    /// Of all locks: how many entering steps the view recorded, the additions of Ticket and the swaps of the others.
+    pub entries: u64,
+    /// Of all locks: how many loads the view recorded.
     pub loads: u64,
+    /// Of all locks: the last load of a call that polls or releases showed the word that lets the pass go on.
     pub ready: bool,
+    /// Of all locks: what the last load of `waiter` in this hold showed.
+    pub tested: Answer,
+    /// Of Ticket: the ticket that the last addition found.
     pub ticket: u64,
-    pub predecessor: u64,
-    pub followed: bool,
-    pub prepared: bool,
-    pub linked: bool,
+    /// Of CLH: the own node, and the nodes that were taken over by joining.
     pub node: u64,
     pub nodes: [u64; 0],
+    /// Of MCS, CLH and Hemlock: the word that the last swap of the tail found, a pass or (CLH) a node. Hemlock sets it to 0 by its store of 0.
+    pub predecessor: u64,
+    /// Of MCS: the own `next` was stored 0 for the swap to come.
+    pub unlinked: bool,
+    /// Of MCS and CLH: the own `locked` (CLH: flag) was stored 1 for the swap to come.
+    pub raised: bool,
+    /// Of MCS: the own link was stored in the predecessor's `next`.
+    pub linked: bool,
+    /// Of MCS: the word that the last load of the own `next` in this hold showed.
+    pub successor: u64,
+    /// Of MCS and Hemlock: an exchange of the tail found another pass behind.
+    pub followed: bool,
 }
 
 /// What the table of a lock is told when it is made: how many passes there are, and the opening value, as clauses see it.

@@ -1,17 +1,17 @@
 -- Which pass a token of a script is of.
 use Rattle.std.specs.Prelude.{◌≡◌, true}
 use Rattle.lock_rules.specs.Tag.{Tag}
-use Rattle.lock_rules.specs.Meanings.{Place, Waiting, Grip}
+use Rattle.lock_rules.specs.Meanings.{Place, Waiting, Holder as Meaning}
 use Rattle.lock_rules.specs.declared.step.Answer.TheVariants.{Yes}
 use Rattle.lock_trials.specs.declared.script.Holder.{Holder}
 use Rattle.lock_trials.specs.declared.script.Token.{Token}
 use Rattle.lock_trials.specs.declared.script.Token.TheVariants.{Idle, Queued, Holding, Leaving}
 
 -- a yes is that of the last `waiter`
-abbrev pub IsNoted : {H V : Type 0} → (H → Grip V) → Holder H → Type 0
-IsNoted held h = h.followed ≡ true → (held h.held).tested ≡ Yes
+abbrev pub IsNoted : {H V : Type 0} → (H → Meaning V) → Holder H → Type 0
+IsNoted held h = h.told_yes ≡ true → (held h.held).tested ≡ Yes
 
-module _ {P Q H L V : Type 0} (pass : P → Place) (queue : Q → Waiting) (held : H → Grip V) (leave : L → Waiting) where
+module _ {P Q H L V : Type 0} (pass : P → Place) (queue : Q → Waiting) (held : H → Meaning V) (leave : L → Waiting) (rests : L → Type 0) where
   abbrev pub place_of_token : Token P Q H L → Place
   place_of_token (Idle p) = pass p
   place_of_token (Queued q) = (queue q).place
@@ -20,6 +20,7 @@ module _ {P Q H L V : Type 0} (pass : P → Place) (queue : Q → Waiting) (held
 
   abbrev pub IsSound : Token P Q H L → Type 0
   IsSound (Holding h) = IsNoted held h
+  IsSound (Leaving l) = rests l
   IsSound _ = Unit {0}
 
   -- the token is that of this pass

@@ -76,17 +76,17 @@ pub enum Token<P, Q, H, L> {
 #[derive(Drop)]
 pub struct Holder<H> {
     pub held: H,
-    pub followed: bool,
+    pub told_yes: bool,
 }
 
 impl<H> Holder<H> {
     /// A holder that hasn't asked yet.
     fn new(held: H) -> Holder<H>
-        ensures { result ≡ record { held = held; followed = false } }
+        ensures { result ≡ record { held = held; told_yes = false } }
     {
         Holder {
             held,
-            followed: false,
+            told_yes: false,
         }
     }
 }
@@ -97,7 +97,7 @@ fn play_idle<B: Basic<Parcel>>(
     call: Call,
 ) -> Option<(Token<B::Pass, B::Queue, B::Held, B::Leave>, Told)>
     requires { IsOf (B.name lock.now) (B.tag lock.now) (B.Pass.place pass) }
-    ensures { IfSome result (λ t. Stands B.Pass.place B.Queue.waiting B.Held.grip B.Leave.waiting (B.Pass.place pass) t.0) }
+    ensures { IfSome result (λ t. Stands B.Pass.place B.Queue.waiting B.Held.holder B.Leave.waiting B.Leave.rests (B.Pass.place pass) t.0) }
 {
     let Call::Begin = call else { return None };
     match lock.begin(pass) {
@@ -112,7 +112,7 @@ fn play_queued<B: Basic<Parcel>>(
     call: Call,
 ) -> Option<(Token<B::Pass, B::Queue, B::Held, B::Leave>, Told)>
     requires { IsOf (B.name lock.now) (B.tag lock.now) (B.Queue.waiting queue).place }
-    ensures { IfSome result (λ t. Stands B.Pass.place B.Queue.waiting B.Held.grip B.Leave.waiting (B.Queue.waiting queue).place t.0) }
+    ensures { IfSome result (λ t. Stands B.Pass.place B.Queue.waiting B.Held.holder B.Leave.waiting B.Leave.rests (B.Queue.waiting queue).place t.0) }
 {
     let Call::Poll = call else { return None };
     match lock.poll(queue) {
@@ -125,13 +125,13 @@ fn release<B: Basic<Parcel>>(
     lock: &B,
     holder: Holder<B::Held>,
 ) -> Option<(Token<B::Pass, B::Queue, B::Held, B::Leave>, Told)>
-    requires own { IsOf (B.name lock.now) (B.tag lock.now) (B.Held.grip holder.held).place }
+    requires own { IsOf (B.name lock.now) (B.tag lock.now) (B.Held.holder holder.held).place }
     requires tag { B.tag lock.now ≡ leaf 0 }
-    requires said { IsNoted B.Held.grip holder }
-    ensures { IfSome result (λ t. Stands B.Pass.place B.Queue.waiting B.Held.grip B.Leave.waiting (B.Held.grip holder.held).place t.0) }
+    requires said { IsNoted B.Held.holder holder }
+    ensures { IfSome result (λ t. Stands B.Pass.place B.Queue.waiting B.Held.holder B.Leave.waiting B.Leave.rests (B.Held.holder holder.held).place t.0) }
 {
-    let Holder { held, followed } = holder;
-    if B::value(&held).parked && !followed {
+    let Holder { held, told_yes } = holder;
+    if B::value(&held).parked && !told_yes {
         return None;
     }
     match lock.begin_release(held) {
@@ -141,37 +141,37 @@ fn release<B: Basic<Parcel>>(
 }
 
 fn ask<B: Basic<Parcel>>(lock: &B, holder: Holder<B::Held>) -> (Holder<B::Held>, Told)
-    requires { IsOf (B.name lock.now) (B.tag lock.now) (B.Held.grip holder.held).place }
-    ensures place { (B.Held.grip result.0.held).place ≡ (B.Held.grip holder.held).place }
-    ensures said { IsNoted B.Held.grip result.0 }
+    requires { IsOf (B.name lock.now) (B.tag lock.now) (B.Held.holder holder.held).place }
+    ensures place { (B.Held.holder result.0.held).place ≡ (B.Held.holder holder.held).place }
+    ensures said { IsNoted B.Held.holder result.0 }
 {
     let Holder {
         mut held,
-        followed: _,
+        told_yes: _,
     } = holder;
-    let followed = lock.waiter(&mut held);
-    (Holder { held, followed }, Told::of(followed))
+    let told_yes = lock.waiter(&mut held);
+    (Holder { held, told_yes }, Told::of(told_yes))
 }
 
 fn park<B: Basic<Parcel>>(holder: Holder<B::Held>) -> Holder<B::Held>
-    requires { IsNoted B.Held.grip holder }
-    ensures place { (B.Held.grip result.held).place ≡ (B.Held.grip holder.held).place }
-    ensures said { IsNoted B.Held.grip result }
+    requires { IsNoted B.Held.holder holder }
+    ensures place { (B.Held.holder result.held).place ≡ (B.Held.holder holder.held).place }
+    ensures said { IsNoted B.Held.holder result }
 {
-    let Holder { mut held, followed } = holder;
+    let Holder { mut held, told_yes } = holder;
     B::value_mut(&mut held).parked = true;
-    Holder { held, followed }
+    Holder { held, told_yes }
 }
 
 fn unpark<B: Basic<Parcel>>(holder: Holder<B::Held>) -> (Holder<B::Held>, Told)
-    requires { IsNoted B.Held.grip holder }
-    ensures place { (B.Held.grip result.0.held).place ≡ (B.Held.grip holder.held).place }
-    ensures said { IsNoted B.Held.grip result.0 }
+    requires { IsNoted B.Held.holder holder }
+    ensures place { (B.Held.holder result.0.held).place ≡ (B.Held.holder holder.held).place }
+    ensures said { IsNoted B.Held.holder result.0 }
 {
-    let Holder { mut held, followed } = holder;
+    let Holder { mut held, told_yes } = holder;
     let told = Told::of(B::value(&held).parked);
     B::value_mut(&mut held).parked = false;
-    (Holder { held, followed }, told)
+    (Holder { held, told_yes }, told)
 }
 
 fn play_holding<B: Basic<Parcel>>(
@@ -179,10 +179,10 @@ fn play_holding<B: Basic<Parcel>>(
     holder: Holder<B::Held>,
     call: Call,
 ) -> Option<(Token<B::Pass, B::Queue, B::Held, B::Leave>, Told)>
-    requires own { IsOf (B.name lock.now) (B.tag lock.now) (B.Held.grip holder.held).place }
+    requires own { IsOf (B.name lock.now) (B.tag lock.now) (B.Held.holder holder.held).place }
     requires tag { B.tag lock.now ≡ leaf 0 }
-    requires said { IsNoted B.Held.grip holder }
-    ensures { IfSome result (λ t. Stands B.Pass.place B.Queue.waiting B.Held.grip B.Leave.waiting (B.Held.grip holder.held).place t.0) }
+    requires said { IsNoted B.Held.holder holder }
+    ensures { IfSome result (λ t. Stands B.Pass.place B.Queue.waiting B.Held.holder B.Leave.waiting B.Leave.rests (B.Held.holder holder.held).place t.0) }
 {
     match call {
         Call::Waiter => {
@@ -204,8 +204,9 @@ fn play_leaving<B: Basic<Parcel>>(
     leave: B::Leave,
     call: Call,
 ) -> Option<(Token<B::Pass, B::Queue, B::Held, B::Leave>, Told)>
-    requires { IsOf (B.name lock.now) (B.tag lock.now) (B.Leave.waiting leave).place }
-    ensures { IfSome result (λ t. Stands B.Pass.place B.Queue.waiting B.Held.grip B.Leave.waiting (B.Leave.waiting leave).place t.0) }
+    requires own { IsOf (B.name lock.now) (B.tag lock.now) (B.Leave.waiting leave).place }
+    requires rests { B.Leave.rests leave }
+    ensures { IfSome result (λ t. Stands B.Pass.place B.Queue.waiting B.Held.holder B.Leave.waiting B.Leave.rests (B.Leave.waiting leave).place t.0) }
 {
     let Call::PollRelease = call else {
         return None;
@@ -222,10 +223,10 @@ fn play<B: Basic<Parcel>>(
     token: Token<B::Pass, B::Queue, B::Held, B::Leave>,
     call: Call,
 ) -> Option<(Token<B::Pass, B::Queue, B::Held, B::Leave>, Told)>
-    requires own { IsOf (B.name lock.now) (B.tag lock.now) (place_of_token B.Pass.place B.Queue.waiting B.Held.grip B.Leave.waiting token) }
-    requires sound { IsSound B.Pass.place B.Queue.waiting B.Held.grip B.Leave.waiting token }
+    requires own { IsOf (B.name lock.now) (B.tag lock.now) (place_of_token B.Pass.place B.Queue.waiting B.Held.holder B.Leave.waiting B.Leave.rests token) }
+    requires sound { IsSound B.Pass.place B.Queue.waiting B.Held.holder B.Leave.waiting B.Leave.rests token }
     requires tag { B.tag lock.now ≡ leaf 0 }
-    ensures { IfSome result (λ t. Stands B.Pass.place B.Queue.waiting B.Held.grip B.Leave.waiting (place_of_token B.Pass.place B.Queue.waiting B.Held.grip B.Leave.waiting token) t.0) }
+    ensures { IfSome result (λ t. Stands B.Pass.place B.Queue.waiting B.Held.holder B.Leave.waiting B.Leave.rests (place_of_token B.Pass.place B.Queue.waiting B.Held.holder B.Leave.waiting B.Leave.rests token) t.0) }
 {
     match token {
         Token::Idle(pass) => play_idle(lock, pass, call),
@@ -248,9 +249,9 @@ fn make_move<B: Basic<Parcel>>(
     pair: Pair<B::Pass, B::Queue, B::Held, B::Leave>,
     next: Move,
 ) -> Option<(Pair<B::Pass, B::Queue, B::Held, B::Leave>, Told)>
-    requires pair { ArePair B.Pass.place B.Queue.waiting B.Held.grip B.Leave.waiting (B.name lock.now) (B.tag lock.now) pair.first pair.second }
+    requires pair { ArePair B.Pass.place B.Queue.waiting B.Held.holder B.Leave.waiting B.Leave.rests (B.name lock.now) (B.tag lock.now) pair.first pair.second }
     requires tag { B.tag lock.now ≡ leaf 0 }
-    ensures { IfSome result (λ t. ArePair B.Pass.place B.Queue.waiting B.Held.grip B.Leave.waiting (B.name lock.now) (B.tag lock.now) t.0.first t.0.second) }
+    ensures { IfSome result (λ t. ArePair B.Pass.place B.Queue.waiting B.Held.holder B.Leave.waiting B.Leave.rests (B.name lock.now) (B.tag lock.now) t.0.first t.0.second) }
 {
     let Pair { first, second } = pair;
     match next.who {
@@ -272,7 +273,7 @@ fn make_moves<B: Basic<Parcel>>(
     moves: &[Move],
     told: &mut Vec<Told>,
 ) -> Option<(B::Pass, B::Pass)>
-    requires pair { ArePair B.Pass.place B.Queue.waiting B.Held.grip B.Leave.waiting (B.name lock.now) (B.tag lock.now) pair.first pair.second }
+    requires pair { ArePair B.Pass.place B.Queue.waiting B.Held.holder B.Leave.waiting B.Leave.rests (B.name lock.now) (B.tag lock.now) pair.first pair.second }
     requires tag { B.tag lock.now ≡ leaf 0 }
     ensures passes { IfSome result (λ t. ArePasses B.Pass.place (B.name lock.now) (B.tag lock.now) t.0 t.1) }
     ensures told { IfSome result (λ _. vec_len told.new ≡ vec_len told.old + length moves.now) }

@@ -1,6 +1,4 @@
 pub mod Rounds
-pub mod Queues
-pub mod Standing
+pub mod Queue
 pub mod Kept
-pub mod Seated
-pub mod Implied
+pub mod Distances

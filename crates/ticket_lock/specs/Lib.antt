@@ -1,7 +1,4 @@
 pub mod Rule
-pub mod Queue
 pub mod Kinds
-pub mod Tokens
 pub mod Calls
-pub mod Seats
-pub mod Implied
+pub mod Distances

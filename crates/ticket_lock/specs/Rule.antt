@@ -1,72 +1,49 @@
--- The rule of a Ticket lock: what holds of the words, of the value at home and of all views between any two steps.
-use Rattle.std.specs.Prelude.{◌≡◌, ◌⊎◌, ℕ, ◌+◌, ◌%◌, ◌^◌, ◌<◌, Bool, true, false, cond, List, [], ◌∷◌, length, Option, Some}
-use Rattle.std.specs.List.{sum_by}
-use mathlib.Core.Option.{some, none}
+-- The words of a Ticket lock, its part of the rule, and its queue as a function of words and views.
+use Rattle.std.specs.Prelude.{◌≡◌, ℕ, zero, suc, ◌+◌, ◌-◌, ◌%◌, ◌^◌, false, cond, ◌&&◌, List, [], ◌∷◌, length, replicate, slice_index, ◌==◌}
+use mathlib.Core.Option.{some}
 use lib.ListN.{get_elem?}
-use Rattle.atomic_table.specs.Table.{State}
-use Rattle.lock_rules.specs.Tag.{Tag}
-use Rattle.lock_rules.specs.Numbers.{HasNumbers}
-use Rattle.lock_rules.specs.declared.step.Answer.TheVariants.{Yes}
-use Rattle.lock_rules.specs.declared.view.Phase.{Phase}
-use Rattle.lock_rules.specs.declared.view.Phase.TheVariants.{Idle, Queued, Holding, Leaving}
+use Rattle.lock_rules.specs.Rows.{line, row_of}
+use Rattle.lock_rules.specs.declared.view.Algorithm.TheVariants.{Ticket}
 use Rattle.lock_rules.specs.declared.view.View.{View}
-use Rattle.ticket_lock.specs.Queue.{is_busy, is_holding}
+use Rattle.lock_tables.specs.Rule.{Discipline, is_busy}
 
--- The two words, where `first` holds have ended and `count` passes are in the queue
-abbrev pub words_of : ℕ → ℕ → List ℕ
-words_of first count = ((first + count) % 2 ^ 64) ∷ (first % 2 ^ 64) ∷ []
+-- the word of the next ticket, and the word of the ticket that is served
+abbrev pub next : ℕ
+next = line 0
 
-abbrev pub busy : View → ℕ
-busy v = cond (is_busy v.phase) 1 0
+abbrev pub serving : ℕ
+serving = line 1
 
-abbrev pub holds : View → ℕ
-holds v = cond (is_holding v.phase) 1 0
+-- the pass that has the ticket t
+abbrev pub pass_with : List View → ℕ → ℕ
+pass_with [] t = 0
+pass_with (v ∷ vs) t = cond (is_busy false v.phase && v.ticket == t) v.number (pass_with vs t)
 
--- What a seat's view says, by its phase: `seats` are the seats of the queue, the head first
-module _ (first : ℕ) (seats : List ℕ) (seat : ℕ) where
-  abbrev pub Knows : View → Phase → Type 0
-  Knows v Idle = Unit {0}
-  Knows v Queued = (i : ℕ) × (get_elem? seats i ≡ some seat) × (v.ticket ≡ (first + i) % 2 ^ 64)
-  Knows v Holding = (get_elem? seats 0 ≡ some seat) × (v.ticket ≡ first % 2 ^ 64) × (v.tested ≡ Yes → 1 < length seats)
-  Knows v Leaving = ⊥
+-- the passes that have the count tickets from t on
+abbrev pub passes_from : List View → ℕ → ℕ → List ℕ
+passes_from views t zero = []
+passes_from views t (suc count) = pass_with views (t % 2 ^ 64) ∷ passes_from views (t + 1) count
 
--- a seat that is spent is idle, and any other has the lock's tag
-pub record SeatStands (tag : Tag) (first : ℕ) (seats : List ℕ) (seat : ℕ) (v : View) : Type 0 where
-  pub knows : Knows first seats seat v v.phase
-  pub tagged : v.spent ≡ false → v.tag.tag ≡ tag
-  pub ended : v.spent ≡ true → v.phase ≡ Idle
+-- how many tickets are out: next - serving, modulo 2 ^ 64
+abbrev pub tickets_out : List ℕ → ℕ
+tickets_out words = (slice_index words next + (2 ^ 64 - slice_index words serving)) % 2 ^ 64
 
--- the place i of the queue is that of a seat whose pass has the ticket of this place
-pub record PlaceStands (views : List View) (first i seat : ℕ) : Type 0 where
-  pub view : View
-  pub at : get_elem? views seat ≡ some view
-  pub in_queue : is_busy view.phase ≡ true
-  pub ticket : view.ticket ≡ (first + i) % 2 ^ 64
+-- the passes by their distance, ticket - serving
+abbrev pub queue_of : List ℕ → List View → List ℕ
+queue_of words views = passes_from views (slice_index words serving) (tickets_out words)
 
-module _ {V : Type 0} where
-  -- the slot away with a holder
-  pub record IsAway (views : List View) (homes : List (mathlib.Core.Option.Option (Option V))) : Type 0 where
-    pub slot : homes ≡ none ∷ []
-    pub held : sum_by holds views ≡ 1
+-- where `first` holds have ended, tickets are drawn and served in turn: the seat with the place i in the queue has the ticket first + i
+pub record HasTickets (n : ℕ) (words : List ℕ) (seats : List ℕ) (views : List View) : Type 0 where
+  pub first : ℕ
+  pub next_is : slice_index words next ≡ (first + length seats) % 2 ^ 64
+  pub serving_is : slice_index words serving ≡ first % 2 ^ 64
+  pub tickets : (i j : ℕ) (v : View) → get_elem? seats i ≡ some j → get_elem? views j ≡ some v → v.ticket ≡ (first + i) % 2 ^ 64
 
-module _ {V : Type 0} (fit : V → Type 0) (tag_of : V → Tag) (parked : V → Bool) where
-  -- the slot with a value at home, and no holder
-  pub record IsHome (tag : Tag) (seats : List ℕ) (views : List View) (homes : List (mathlib.Core.Option.Option (Option V))) : Type 0 where
-    pub value : V
-    pub slot : homes ≡ some (Some value) ∷ []
-    pub fits : fit value
-    pub tagged : tag_of value ≡ tag
-    pub relied_on : parked value ≡ true → 0 < length seats
-    pub free : sum_by holds views ≡ 0
-
-  -- the rule of a lock that was made with n passes and a value of this tag
-  pub record IsTicket (n : ℕ) (tag : Tag) (s : State (Option V) View) : Type 0 where
-    pub first : ℕ
-    pub seats : List ℕ
-    pub few : n < 2 ^ 32
-    pub words : s.words ≡ words_of first (length seats)
-    pub counted : sum_by busy s.views ≡ length seats
-    pub numbers : HasNumbers n s.views
-    pub each_seat : (j : ℕ) (v : View) → get_elem? s.views j ≡ some v → SeatStands tag first seats j v
-    pub each_place : (i j : ℕ) → get_elem? seats i ≡ some j → PlaceStands s.views first i j
-    pub slot : IsHome tag seats s.views s.homes ⊎ IsAway s.views s.homes
+abbrev pub ticket_discipline : Discipline
+ticket_discipline = record {
+  algorithm = Ticket;
+  lingers = false;
+  opens = λ n. replicate (row_of Ticket n) 0;
+  Core = HasTickets;
+  queue = queue_of;
+}

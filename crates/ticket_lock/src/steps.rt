@@ -1,76 +1,139 @@
-//! The atomic steps on the lock's words, by their names in the published pseudo-code.
-ghost use Rattle.std.specs.Prelude.{◌≡◌, ◌≢◌, ◌+◌, ◌%◌, ◌^◌, [], ◌∷◌, true, false, Option, Some};
-ghost use Rattle.atomic_table.specs.Table.{rest, keeps, takes, gives};
-ghost use Rattle.lock_rules.specs.Queue.{Enters, Takes, Leaves};
-ghost use Rattle.lock_rules.specs.declared.step.Answer.TheVariants.{Yes};
+//! The lock's words, and the atomic steps on them, by their names in the published pseudo-code. Nothing else reaches the words.
+ghost use Rattle.std.specs.Prelude.{◌≡◌, ◌≢◌, ◌<◌, [], ◌∷◌, false, Some, None, IfOk, IfErr};
+ghost use Rattle.crossbeam_utils.specs.Padded.{padded_value};
+ghost use Rattle.lock_rules.specs.Passes.{AreAll};
+ghost use Rattle.lock_rules.specs.Tokens.{badge_place};
+ghost use Rattle.lock_rules.specs.Views.{lock_name};
+ghost use Rattle.lock_rules.specs.declared.view.Algorithm.TheVariants.{Ticket as ticket_algorithm};
 ghost use Rattle.lock_rules.specs.declared.view.Phase.TheVariants.{Idle, Queued, Holding};
-ghost use Rattle.ticket_lock.specs.Kinds.{queued_with, not_served, served, tested_by, left, Happened, Nothing};
-ghost use Rattle.ticket_lock.specs.Seats.{IsSized, seat_as};
+ghost use Rattle.lock_tables.specs.Happened.{MayRest};
+ghost use Rattle.lock_tables.specs.Seats.{IsSized, seat_as};
+ghost use Rattle.ticket_lock.specs.Kinds.{after, Entered, Took, Missed, Tested, Left};
 
-use crate::plays::{AddNext, LoadNext, LoadServing, StoreServing, TicketRule};
-use atomic_table::{Seat, Shared};
-use lock_rules::{Cargo, Opening, View};
+use crate::kinds::{AddNext, LoadNext, LoadServing, StoreServing};
+use crate::laws::TicketWords;
+use atomic_table::Seat;
+use crossbeam_utils::CachePadded;
+use lock_rules::{Cargo, Pass, Refused, View};
+use lock_tables::{LockTable, deal, gather, lay, put, take, take_out};
+use std::alloc::Global;
 
-/// The words `next` and `serving`, and the slot.
-pub(crate) type Words<V> = Shared<Option<V>, View, Opening<V>, TicketRule>;
-
-const NEXT: usize = 0;
-
-const SERVING: usize = 1;
-
-/// Draws the next ticket, by which the pass enters the queue.
-pub(crate) fn fetch_and_increment_next<V: Cargo>(
-    words: &Words<V>,
-    seat: &mut Seat<Option<V>, View>,
-) -> u64
-    requires table { seat.old.table_id ≡ words.now.table_id }
-    requires size { IsSized words.now.table_id }
-    requires idle { seat.old.me.0.phase ≡ Idle }
-    requires unspent { seat.old.me.0.spent ≡ false }
-    ensures seat { seat.new ≡ seat_as seat.old (queued_with seat.old.me.0 result) seat.old.me.1 }
-    ensures event { Happened V.fit V.tag V.parked Enters keeps NEXT result ((result + 1) % 2 ^ 64) seat.old.me seat.new.me }
-{
-    words.fetch_add::<AddNext>(seat, NEXT, 1)
+/// The words `next` and `serving`, each on a line of its own, and the slot.
+#[derive(Drop)]
+pub(crate) struct Words<V: Cargo> {
+    table: CachePadded<LockTable<V, TicketWords>>,
+    ghost sized: { IsSized ticket_algorithm (padded_value table).shared.key.passes (padded_value table).shared.table_id },
+    ghost used: { 0 < (padded_value table).shared.key.passes },
 }
 
-/// Loads the ticket that is served. Where it is the pass's own, the pass takes the slot.
-pub(crate) fn load_serving<V: Cargo>(words: &Words<V>, seat: &mut Seat<Option<V>, View>) -> u64
-    requires table { seat.old.table_id ≡ words.now.table_id }
-    requires size { IsSized words.now.table_id }
-    requires queued { seat.old.me.0.phase ≡ Queued }
-    ensures served { result ≡ seat.old.me.0.ticket → (x : V) × V.fit x × (V.tag x ≡ seat.old.me.0.tag.tag) × (seat.new ≡ seat_as seat.old (served seat.old.me.0) ((0, Some x) ∷ seat.old.me.1)) }
-    ensures not_served { result ≢ seat.old.me.0.ticket → seat.new ≡ seat_as seat.old (not_served seat.old.me.0) seat.old.me.1 }
-    ensures slot { result ≡ seat.old.me.0.ticket → (x : Option V) × (seat.new.me.1 ≡ (0, x) ∷ rest seat.new.me.1) }
-    ensures takes { result ≡ seat.old.me.0.ticket → (x : V) × (seat.new.me.1 ≡ (0, Some x) ∷ seat.old.me.1) × Happened V.fit V.tag V.parked Takes (takes 0 (Some x)) SERVING result result seat.old.me seat.new.me }
-    ensures stays { result ≢ seat.old.me.0.ticket → Happened V.fit V.tag V.parked Nothing keeps SERVING result result seat.old.me seat.new.me }
-{
-    words.load::<LoadServing>(seat, SERVING)
-}
+const NEXT: usize = 16;
 
-/// Loads the next ticket, which a holder compares with its own.
-pub(crate) fn load_next<V: Cargo>(words: &Words<V>, seat: &mut Seat<Option<V>, View>) -> u64
-    requires table { seat.old.table_id ≡ words.now.table_id }
-    requires size { IsSized words.now.table_id }
-    requires holds { seat.old.me.0.phase ≡ Holding }
-    ensures seat { seat.new ≡ seat_as seat.old (tested_by seat.old.me.0 result) seat.old.me.1 }
-    ensures event { Happened V.fit V.tag V.parked Nothing keeps NEXT result result seat.old.me seat.new.me }
-{
-    words.load::<LoadNext>(seat, NEXT)
-}
+const SERVING: usize = 32;
 
-/// Serves the ticket behind the holder's, by which the holder leaves the queue and gives the slot back.
-pub(crate) fn store_serving<V: Cargo>(
-    words: &Words<V>,
-    seat: &mut Seat<Option<V>, View>,
-    ticket: u64,
-)
-    requires table { seat.old.table_id ≡ words.now.table_id }
-    requires size { IsSized words.now.table_id }
-    requires holds { seat.old.me.0.phase ≡ Holding }
-    requires next { ticket ≡ (seat.old.me.0.ticket + 1) % 2 ^ 64 }
-    requires home { (x : V) × (seat.old.me.1 ≡ (0, Some x) ∷ []) × V.fit x × (V.tag x ≡ seat.old.me.0.tag.tag) × (V.parked x ≡ true → seat.old.me.0.tested ≡ Yes) }
-    ensures seat { seat.new ≡ seat_as seat.old (left seat.old.me.0) [] }
-    ensures event { (found : _) × Happened V.fit V.tag V.parked Leaves gives SERVING found ticket seat.old.me seat.new.me }
-{
-    words.store::<StoreServing>(seat, SERVING, ticket);
+const OPENING: [u64; 48] = [0; 48];
+
+impl<V: Cargo> Words<V> {
+    /// The words of a new lock with the value at home, and its passes.
+    pub(crate) fn make(
+        alloc: Global,
+        passes: u32,
+        value: V,
+    ) -> Result<(Words<V>, Vec<Pass>), Refused<V>>
+        requires some { 0 < passes }
+        requires fit { V.fit value }
+        requires unparked { V.parked value ≡ false }
+        ensures count { IfOk result (λ m. (padded_value m.0.table).shared.key.passes ≡ passes) }
+        ensures value { IfOk result (λ m. (padded_value m.0.table).shared.key.value.value ≡ value) }
+        ensures passes { IfOk result (λ m. AreAll (λ p. badge_place p.badge) (lock_name ticket_algorithm (padded_value m.0.table).shared.table_id) (V.tag value) passes m.1.items) }
+        ensures refused { IfErr result (λ r. r.value ≡ value) }
+    {
+        let Ok(room) = Vec::with_capacity(alloc, passes as usize) else {
+            return Err(Refused { value });
+        };
+        let (table, seat) = lay::<V, TicketWords>(alloc, &OPENING, passes, value)?;
+        let list = deal(&table.shared, seat, passes, room);
+        let table = CachePadded::new(table);
+        Ok((Words { table }, list))
+    }
+
+    /// The value of a lock whose passes came back.
+    pub(crate) fn close(self, passes: Vec<Pass>) -> V
+        requires all { AreAll (λ p. badge_place p.badge) (lock_name ticket_algorithm (padded_value self.table).shared.table_id) (V.tag (padded_value self.table).shared.key.value.value) (padded_value self.table).shared.key.passes passes.items }
+        ensures fit { V.fit result }
+        ensures tagged { V.tag result ≡ V.tag (padded_value self.table).shared.key.value.value }
+        ensures unparked { V.parked result ≡ false }
+    {
+        let Words { table } = self;
+        let table = table.into_inner();
+        let seat = gather(&table.shared, passes);
+        take_out(table, seat)
+    }
+
+    /// Draws the next ticket, by which the pass enters the queue.
+    pub(crate) fn fetch_and_increment_next(&self, seat: &mut Seat<Option<V>, View>) -> u64
+        requires table { seat.old.table_id ≡ (padded_value self.now.table).shared.table_id }
+        requires idle { seat.old.me.0.phase ≡ Idle }
+        requires unspent { seat.old.me.0.spent ≡ false }
+        ensures table { seat.new.table_id ≡ seat.old.table_id }
+        ensures step { Entered V.fit V.tag V.parked seat.old.me result seat.new.me }
+    {
+        self.table.shared.fetch_add::<AddNext>(seat, NEXT, 1)
+    }
+
+    /// Loads the ticket that is served. Where it is the pass's own, the pass takes the slot.
+    pub(crate) fn load_serving(&self, seat: &mut Seat<Option<V>, View>) -> u64
+        requires table { seat.old.table_id ≡ (padded_value self.now.table).shared.table_id }
+        requires queued { seat.old.me.0.phase ≡ Queued }
+        requires unspent { seat.old.me.0.spent ≡ false }
+        ensures table { seat.new.table_id ≡ seat.old.table_id }
+        ensures took { result ≡ seat.old.me.0.ticket → Took V.fit V.tag V.parked seat.old.me result seat.new.me }
+        ensures missed { result ≢ seat.old.me.0.ticket → Missed V.fit V.tag V.parked seat.old.me result seat.new.me }
+    {
+        self.table.shared.load::<LoadServing>(seat, SERVING)
+    }
+
+    /// Loads the next ticket, which a holder compares with its own.
+    pub(crate) fn load_next(&self, seat: &mut Seat<Option<V>, View>) -> u64
+        requires table { seat.old.table_id ≡ (padded_value self.now.table).shared.table_id }
+        requires holds { seat.old.me.0.phase ≡ Holding }
+        requires unspent { seat.old.me.0.spent ≡ false }
+        ensures table { seat.new.table_id ≡ seat.old.table_id }
+        ensures step { Tested V.fit V.tag V.parked seat.old.me result seat.new.me }
+    {
+        self.table.shared.load::<LoadNext>(seat, NEXT)
+    }
+
+    /// Serves the ticket behind the holder's, by which the holder leaves the queue and gives the slot back.
+    pub(crate) fn store_serving(&self, seat: &mut Seat<Option<V>, View>, ticket: u64)
+        requires table { seat.old.table_id ≡ (padded_value self.now.table).shared.table_id }
+        requires holds { seat.old.me.0.phase ≡ Holding }
+        requires unspent { seat.old.me.0.spent ≡ false }
+        requires next { ticket ≡ after seat.old.me.0.ticket }
+        requires home { (x : V) × (seat.old.me.1 ≡ (0, Some x) ∷ []) × MayRest V.fit V.tag V.parked seat.old.me.0 x }
+        ensures table { seat.new.table_id ≡ seat.old.table_id }
+        ensures step { Left V.fit V.tag V.parked seat.old.me ticket seat.new.me }
+    {
+        self.table
+            .shared
+            .store::<StoreServing>(seat, SERVING, ticket);
+    }
+
+    /// Takes the value out of the slot that the seat has just taken.
+    pub(crate) fn take(&self, seat: &mut Seat<Option<V>, View>) -> V
+        requires table { seat.old.table_id ≡ (padded_value self.now.table).shared.table_id }
+        requires full { (x : V) × (seat.old.me.1 ≡ (0, Some x) ∷ []) }
+        ensures value { seat.old.me.1 ≡ (0, Some result) ∷ [] }
+        ensures seat { seat.new ≡ seat_as seat.old seat.old.me.0 ((0, None) ∷ []) }
+    {
+        take(&self.table.shared, seat)
+    }
+
+    /// Puts the value back.
+    pub(crate) fn put(&self, seat: &mut Seat<Option<V>, View>, value: V)
+        requires table { seat.old.table_id ≡ (padded_value self.now.table).shared.table_id }
+        requires empty { seat.old.me.1 ≡ (0, None) ∷ [] }
+        ensures seat { seat.new ≡ seat_as seat.old seat.old.me.0 ((0, Some value) ∷ []) }
+    {
+        put(&self.table.shared, seat, value);
+    }
 }

@@ -1,4 +1,5 @@
 use crate::Ticket;
+use lock_rules::Basic;
 use lock_trials::{Call, HOLDS, Move, Parcel, START, Told, Who, carry_out, hold_by_four};
 
 const fn first(call: Call) -> Move {
@@ -88,5 +89,28 @@ fn four_threads_hold_in_turn(rt: HostRuntime) {
         };
         assert!(rt; parcel.count == 4 * u64::from(HOLDS));
         assert!(rt; parcel.parkings == parcel.unparkings);
+    }
+}
+
+#[test]
+fn thousands_of_passes_are_made(rt: HostRuntime) {
+    let Ok((lock, passes)) = Ticket::make(rt.alloc(), (), 4096, Parcel::new(START)) else {
+        panic!(rt; "there was no memory")
+    };
+    assert!(rt; passes.len() == 4096);
+    assert!(rt; lock.close(passes).count == START);
+}
+
+#[test]
+fn one_pass_is_made_or_the_value_comes_back(rt: HostRuntime) {
+    match Ticket::make(rt.alloc(), (), 1, Parcel::new(START)) {
+        Ok((lock, passes)) => {
+            assert!(rt; passes.len() == 1);
+            assert!(rt; lock.close(passes).count == START);
+        }
+        Err(refused) => {
+            assert!(rt; refused.value.count == START);
+            panic!(rt; "there was no memory")
+        }
     }
 }

@@ -1,0 +1,115 @@
+//! The tokens of a pass that doesn't hold. None names the type of the value, and each is one for all locks whose token of that kind has no slot in hand.
+ghost use Rattle.std.specs.Prelude.{◌≡◌, []};
+ghost use Rattle.lock_rules.specs.Rows.{IsRowOf};
+ghost use Rattle.lock_rules.specs.Tokens.{IsSeated, view_of, badge_place, badge_waiting};
+ghost use Rattle.lock_rules.specs.Views.{IsPlain, mark_of};
+ghost use Rattle.lock_rules.specs.declared.view.Phase.TheVariants.{Idle, Queued};
+
+use crate::token::{Departing, Placed, Queueing};
+use crate::view::View;
+use atomic_table::{Badge, Seat};
+
+/// A pass that isn't in use. `mark` is the number by which the lock's words name it, where they do: its number, its node (CLH), or its last ticket.
+#[derive(Drop)]
+pub struct Pass {
+    pub badge: Badge<View>,
+    pub mark: u64,
+    pub ghost idle: { IsSeated Idle badge },
+    pub ghost marked: { mark ≡ mark_of (view_of badge) },
+}
+
+/// A pass in the queue. `predecessor` is the word that its swap of the tail found; it is 0 in a Ticket lock.
+#[derive(Drop)]
+pub struct Queue {
+    pub badge: Badge<View>,
+    pub mark: u64,
+    pub predecessor: u64,
+    pub ghost queued: { IsSeated Queued badge },
+    pub ghost marked: { mark ≡ mark_of (view_of badge) },
+    pub ghost behind: { predecessor ≡ (view_of badge).predecessor },
+}
+
+/// A pass that has left, for the locks whose release is done with its first call. They give none; the type has values because the contract of a call that takes
+/// one must be met by some call.
+#[derive(Drop)]
+pub struct Left {
+    pub pass: Pass,
+}
+
+impl Placed for Pass {
+    ghost place = { λ p. badge_place p.badge };
+
+    ghost entries = { λ p. (view_of p.badge).entries };
+}
+
+impl Queueing for Queue {
+    ghost waiting = { λ q. badge_waiting q.badge };
+}
+
+impl Departing for Left {
+    ghost waiting = { λ l. badge_waiting l.pass.badge };
+
+    ghost rests = { λ _. Unit {0} };
+}
+
+impl Pass {
+    pub fn of<V>(seat: Seat<Option<V>, View>, mark: u64) -> Pass
+        requires idle { seat.me.0.phase ≡ Idle }
+        requires plain { IsPlain seat.me.0 }
+        requires row { IsRowOf seat.me.0 seat.table_id }
+        requires empty { seat.me.1 ≡ [] }
+        requires marked { mark ≡ mark_of seat.me.0 }
+        ensures table { result.badge.table_id ≡ seat.table_id }
+        ensures view { view_of result.badge ≡ seat.me.0 }
+        ensures mark { result.mark ≡ mark }
+    {
+        let badge = seat.into_badge();
+        Pass { badge, mark }
+    }
+
+    /// The seat of the pass, and its mark.
+    pub fn into_parts<V>(self) -> (Seat<Option<V>, View>, u64)
+        ensures table { result.0.table_id ≡ self.badge.table_id }
+        ensures view { result.0.me ≡ (view_of self.badge, []) }
+        ensures mark { result.1 ≡ mark_of (view_of self.badge) }
+    {
+        let Pass { badge, mark } = self;
+        (badge.into_seat(), mark)
+    }
+}
+
+impl Queue {
+    pub fn of<V>(seat: Seat<Option<V>, View>, mark: u64, predecessor: u64) -> Queue
+        requires queued { seat.me.0.phase ≡ Queued }
+        requires plain { IsPlain seat.me.0 }
+        requires row { IsRowOf seat.me.0 seat.table_id }
+        requires empty { seat.me.1 ≡ [] }
+        requires marked { mark ≡ mark_of seat.me.0 }
+        requires behind { predecessor ≡ seat.me.0.predecessor }
+        ensures table { result.badge.table_id ≡ seat.table_id }
+        ensures view { view_of result.badge ≡ seat.me.0 }
+        ensures marks { (result.mark ≡ mark) × (result.predecessor ≡ predecessor) }
+    {
+        let badge = seat.into_badge();
+        Queue {
+            badge,
+            mark,
+            predecessor,
+        }
+    }
+
+    /// The seat of the pass, its mark and its predecessor.
+    pub fn into_parts<V>(self) -> (Seat<Option<V>, View>, u64, u64)
+        ensures table { result.0.table_id ≡ self.badge.table_id }
+        ensures view { result.0.me ≡ (view_of self.badge, []) }
+        ensures mark { result.1 ≡ mark_of (view_of self.badge) }
+        ensures predecessor { result.2 ≡ (view_of self.badge).predecessor }
+    {
+        let Queue {
+            badge,
+            mark,
+            predecessor,
+        } = self;
+        (badge.into_seat(), mark, predecessor)
+    }
+}

@@ -1,0 +1,8 @@
+pub mod Sums
+pub mod Numbers
+pub mod Points
+pub mod Lists
+pub mod Queues
+pub mod Steps
+pub mod Implied
+pub mod Seats

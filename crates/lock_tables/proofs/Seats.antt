@@ -1,0 +1,40 @@
+-- Seats of a lock's table, and the tokens made of them.
+use Rattle.std.proofs.Common.{◌≡◌, ℕ, ◌<◌, Bool, false, List, ◌∷◌, refl, ap, sym, ◌∙◌, arith, Option, Some}
+use mathlib.Core.Option.{some, some-injective}
+use Rattle.atomic_table.specs.Seated.{TableId}
+use Rattle.atomic_table.specs.Table.{rest}
+use Rattle.atomic_table.specs.declared.badge.Badge.{Badge}
+use Rattle.atomic_table.specs.declared.shared.Seat.{Seat}
+use Rattle.lock_rules.specs.Tag.{Tag}
+use Rattle.lock_rules.specs.Tokens.{view_of, badge_place}
+use Rattle.lock_rules.specs.Views.{IsPlain, mark_by, place_of, fresh_view}
+use Rattle.lock_rules.specs.declared.view.Algorithm.{Algorithm}
+use Rattle.lock_rules.specs.declared.view.Algorithm.TheVariants.{Ticket, Mcs, Clh, Hemlock}
+use Rattle.lock_rules.specs.declared.view.View.{View}
+use Rattle.lock_tables.specs.Seats.{seat_as}
+
+pub seat_is : {S V : Type 0} (a b : Seat S V) (view : V) (carried : List (ℕ × S)) → b.table_id ≡ a.table_id → b.id ≡ a.id → b.me ≡ (view, carried) → b ≡ seat_as a view carried
+seat_is a b view carried t d m = λ i. record { marker = b.marker; table_id = t i; id = d i; me = m i }
+
+-- the mark of a view that is as at the start
+pub fresh_mark : (a : Algorithm) (n : ℕ) (tag : Tag) (k from to : ℕ) (spent : Bool) → mark_by a (fresh_view a n tag k from to spent) ≡ k
+fresh_mark Ticket n tag k from to spent = refl
+fresh_mark Mcs n tag k from to spent = refl
+fresh_mark Clh n tag k from to spent = refl
+fresh_mark Hemlock n tag k from to spent = refl
+
+-- a pass as it is dealt
+pub fresh_plain : (a : Algorithm) (n : ℕ) (tag : Tag) (k from to : ℕ) → from ≡ to → k < n → IsPlain (fresh_view a n tag k from to false)
+fresh_plain a n tag k from to split below = record { unspent = refl; split = split; alone = refl; nodeless = refl; below = below; node_within = omega arith; predecessor_within = omega arith }
+
+-- what is read from a slot
+pub taken : {V : Type 0} (x y : V) (slot : Option V) → some (Some x) ≡ some slot → slot ≡ Some y → x ≡ y
+taken x y slot e e' = let p : Some x ≡ slot = some-injective (Some x) slot e in let q : Some x ≡ Some y = p ∙ e' in cc
+
+-- a seat that has just taken the slot
+pub in_hand : {S : Type 0} (carried : List (ℕ × S)) (k : ℕ) (x : S) (old : List (ℕ × S)) → carried ≡ (k, x) ∷ old → carried ≡ (k, x) ∷ rest carried
+in_hand {S} carried k x old e = e ∙ ap (λ (c : List (ℕ × S)). (k, x) ∷ c) (sym (ap rest e))
+
+-- the place of a token is read off its table and its view
+pub place_is : (b : Badge View) (z : TableId) (w : View) → b.table_id ≡ z → view_of b ≡ w → badge_place b ≡ place_of z w
+place_is b z w t v = λ i. place_of (t i) (v i)

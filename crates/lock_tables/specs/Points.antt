@@ -1,0 +1,68 @@
+-- The rule of a basic lock, in words that name no algorithm: what holds of the queue, the slot and all views of its table between any two atomic steps.
+use Rattle.std.specs.Prelude.{◌≡◌, ◌⊎◌, ℕ, ◌<◌, ◌≤◌, Bool, true, false, ◌||◌, List, slice_get, Option, Some}
+use mathlib.Core.Option.{some}
+use lib.ListN.{get_elem?}
+use Rattle.atomic_table.specs.Table.{State}
+use Rattle.lock_rules.specs.Tag.{Tag}
+use Rattle.lock_rules.specs.declared.step.Answer.TheVariants.{Yes}
+use Rattle.lock_rules.specs.declared.view.Phase.{Phase}
+use Rattle.lock_rules.specs.declared.view.Phase.TheVariants.{Queued}
+use Rattle.lock_rules.specs.declared.view.View.{View}
+use Rattle.lock_tables.specs.Queue.{IsIn, HasNoRepeats, IsHead}
+
+abbrev pub is_queued : Phase → Bool
+is_queued Queued = true
+is_queued _ = false
+
+-- the seat j has this view and is not spent
+pub record IsAt (views : List View) (j : ℕ) (v : View) : Type 0 where
+  pub at : get_elem? views j ≡ some v
+  pub unspent : v.spent ≡ false
+
+-- p is the pass of a seat in a phase that passes the test
+pub record IsPassIn (test : Phase → Bool) (views : List View) (p : ℕ) : Type 0 where
+  pub seat : ℕ
+  pub view : View
+  pub at : IsAt views seat view
+  pub pass : view.number ≡ p
+  pub phase : test view.phase ≡ true
+
+-- the number k is the seat's pass, or not split off yet, or taken over by joining
+abbrev pub HasNumber : ℕ → View → Type 0
+HasNumber k v = (v.number ≡ k) ⊎ (((v.from ≤ k) × (k < v.to)) ⊎ IsIn k v.joined)
+
+-- exactly one seat has the number k
+pub record HasOneSeat (k : ℕ) (views : List View) : Type 0 where
+  pub seat : ℕ
+  pub view : View
+  pub at : IsAt views seat view
+  pub has : HasNumber k view
+  pub alone : (j : ℕ) (v : View) → IsAt views j v → HasNumber k v → j ≡ seat
+
+module _ {V : Type 0} where
+  -- the value x is at home in the slot
+  abbrev pub IsHomeValue : List (mathlib.Core.Option.Option (Option V)) → V → Type 0
+  IsHomeValue homes x = get_elem? homes 0 ≡ some (some (Some x))
+
+module _ {V : Type 0} (fit : V → Type 0) (tag_of : V → Tag) (parked : V → Bool) (holds : Phase → Bool) where
+  -- The rule of a lock with n passes and this tag, whose queue is `queue`; `holds` tells a holder by its phase
+  pub record IsBasic (n : ℕ) (tag : Tag) (queue : List ℕ) (s : State (Option V) View) : Type 0 where
+    -- the queue has no repeats, and consists of the passes that are queued or hold
+    pub no_repeats : HasNoRepeats queue
+    pub members : (p : ℕ) → IsIn p queue → IsPassIn (λ x. is_queued x || holds x) s.views p
+    pub all_members : (p : ℕ) → IsPassIn (λ x. is_queued x || holds x) s.views p → IsIn p queue
+    -- a holder is the head of the queue
+    pub holder_first : (p : ℕ) → IsPassIn holds s.views p → IsHead p queue
+    -- a value is at home, or there is a holder
+    pub kept : ((x : V) × IsHomeValue s.homes x) ⊎ ((p : ℕ) × IsPassIn holds s.views p)
+    -- a parked value at home with no holder has a queue that is not empty
+    pub relied_on : (x : V) → IsHomeValue s.homes x → ((p : ℕ) → ¬ IsPassIn holds s.views p) → parked x ≡ true → (p : ℕ) × IsHead p queue
+    -- a holder that tested yes has another pass behind it
+    pub behind : (j : ℕ) (v : View) → IsAt s.views j v → holds v.phase ≡ true → v.tested ≡ Yes → (p : ℕ) × (slice_get queue 1 ≡ Some p)
+    -- all views and the value at home have one tag, and the value at home is fit
+    pub one_tag : (j : ℕ) (v : View) → IsAt s.views j v → v.tag.tag ≡ tag
+    pub value_tag : (x : V) → IsHomeValue s.homes x → tag_of x ≡ tag
+    pub value_fits : (x : V) → IsHomeValue s.homes x → fit x
+    -- each number below n has exactly one seat, and no seat has another number
+    pub one_seat : (k : ℕ) → k < n → HasOneSeat k s.views
+    pub no_other : (k j : ℕ) (v : View) → IsAt s.views j v → HasNumber k v → k < n

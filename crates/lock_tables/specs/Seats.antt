@@ -1,0 +1,25 @@
+-- A seat of a lock's table.
+use Rattle.std.specs.Prelude.{◌≡◌, ℕ, List}
+use Rattle.atomic_table.specs.Seated.{TableId}
+use Rattle.atomic_table.specs.declared.shared.Seat.{Seat}
+use Rattle.lock_rules.specs.Meanings.{Place}
+use Rattle.lock_rules.specs.Passes.{IsOf}
+use Rattle.lock_rules.specs.Rows.{row_of}
+use Rattle.lock_rules.specs.Tag.{Tag}
+use Rattle.lock_rules.specs.Views.{lock_name}
+use Rattle.lock_rules.specs.declared.view.Algorithm.{Algorithm}
+use Rattle.lock_rules.specs.declared.view.Opening.{Opening}
+
+-- the table of a lock with this algorithm and n passes: its row of words, and one slot
+pub record IsSized (a : Algorithm) (n : ℕ) (z : TableId) : Type 0 where
+  pub row : z.words ≡ row_of a n
+  pub one_slot : z.slots ≡ 1
+
+-- the seat with this view, and these slots in hand
+abbrev pub seat_as : {S V : Type 0} → Seat S V → V → List (ℕ × S) → Seat S V
+seat_as s view carried = record s { me = (view, carried) }
+
+module _ {V : Type 0} where
+  -- a place in the lock with this algorithm, table and key
+  abbrev pub IsOwn : (V → Tag) → Algorithm → TableId → Opening V → Place → Type 0
+  IsOwn tag_of a z key place = IsOf (lock_name a z) (tag_of key.value.value) place
