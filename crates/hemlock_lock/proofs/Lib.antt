@@ -1,0 +1,5 @@
+pub mod Chains
+pub mod Queue
+pub mod Kept
+pub mod Tokens
+pub mod Releases

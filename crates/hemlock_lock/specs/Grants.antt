@@ -1,0 +1,2 @@
+-- What the rule of a Hemlock says of its grants.
+use Rattle.std.specs.Prelude.{ℕ}
