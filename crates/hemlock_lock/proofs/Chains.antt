@@ -1,21 +1,24 @@
 -- The names in the queue of a Hemlock, and its grants.
-use Rattle.std.proofs.Common.{◌≡◌, ◌≢◌, ◌⊎◌, ℕ, zero, suc, ◌+◌, ◌-◌, ◌<◌, ◌≤◌, true, false, refl, ap, sym, ◌∙◌, inl, ⊎_elim, arith}
-use Rattle.std.proofs.Common.{List, [], ◌∷◌, ◌++◌, length, set, slice_index}
-use mathlib.Core.Option.{some, some-injective, some-ne-none}
+use Rattle.std.proofs.Common.{◌≡◌, ◌≢◌, ℕ, zero, suc, ◌+◌, ◌-◌, ◌<◌, ◌≤◌, true, false, refl, ap, sym, ◌∙◌, inl, ⊎_elim, arith}
+use Rattle.std.proofs.Common.{List, [], ◌∷◌, length, set, slice_index}
+use mathlib.Core.Option.{some, some-injective}
 use mathlib.Core.Logic.{dite}
 use native.Mathlib.Decide.{ℕ_discrete}
 use lib.ListN.{get_elem?}
 use Rattle.atomic_table.proofs.Lists.{at_set, set_else}
 use Rattle.lock_rules.specs.Tag.{Tag}
-use Rattle.lock_rules.specs.declared.view.Phase.TheVariants.{Idle, Queued, Holding, Leaving}
+use Rattle.lock_rules.specs.declared.view.Phase.TheVariants.{Idle, Queued, Leaving}
 use Rattle.lock_rules.specs.declared.view.View.{View}
-use Rattle.lock_tables.specs.Points.{IsAt}
 use Rattle.lock_tables.specs.Rule.{is_busy, IsQueued}
 use Rattle.lock_tables.proofs.Lists.{set_at, at_below, there, no_true}
 use Rattle.lock_tables.proofs.Points.{no_other}
 use Rattle.lock_tables.proofs.Queues.{lives, one_seat_of}
 use Rattle.hemlock_lock.specs.Kinds.{own_name}
-use Rattle.hemlock_lock.specs.Rule.{tail, grant, IsLeaving, IsChained, HasGrants, hemlock_discipline}
+use Rattle.hemlock_lock.specs.Rule.{tail, grant, IsLeaving, IsChained, hemlock_discipline}
+
+pub no_seats : (l : List ℕ) → length l ≡ 0 → l ≡ []
+no_seats [] e = refl
+no_seats (x ∷ xs) e = absurd (omega arith)
 
 -- the seat j had a view with the same names
 pub record WasNamed (views : List View) (j : ℕ) (u : View) : Type 0 where

@@ -1,5 +1,5 @@
 -- Each kind of step of a Hemlock keeps the rule.
-use Rattle.std.proofs.Common.{◌≡◌, ◌≢◌, ℕ, zero, suc, ◌+◌, ◌<◌, ◌≤◌, Bool, true, false, not, ◌==◌, eq-eqb, refl, ap, sym, ◌∙◌, subst, ⊎_elim, arith, Option, Some, length-append}
+use Rattle.std.proofs.Common.{◌≡◌, ◌≢◌, ℕ, zero, suc, ◌+◌, ◌<◌, Bool, true, false, not, ◌==◌, eq-eqb, refl, ap, sym, ◌∙◌, subst, ⊎_elim, arith, Option, Some, length-append}
 use Rattle.std.proofs.Common.{List, [], ◌∷◌, ◌++◌, length, set, slice_index}
 use mathlib.Core.Option.{some, some-injective, some-ne-none}
 use mathlib.Core.Logic.{dite}
@@ -10,7 +10,7 @@ use Rattle.atomic_table.specs.Table.{State, Me, Act, keeps, gives, Allows, Valid
 use Rattle.atomic_table.proofs.Lists.{at_set, exchanged}
 use Rattle.lock_rules.specs.Tag.{Tag}
 use Rattle.lock_rules.specs.Views.{IsPlain, answer_of}
-use Rattle.lock_rules.specs.declared.step.Answer.TheVariants.{Open, No, Yes}
+use Rattle.lock_rules.specs.declared.step.Answer.TheVariants.{No, Yes}
 use Rattle.lock_rules.specs.declared.view.Phase.TheVariants.{Idle, Queued, Holding, Leaving}
 use Rattle.lock_rules.specs.declared.view.View.{View}
 use Rattle.lock_tables.specs.Happened.{MayRest, missed_view, tested_view}
@@ -20,8 +20,8 @@ use Rattle.lock_tables.proofs.Queues.{IsLike, no_place, wrong_phase, lives, one_
 use Rattle.lock_tables.proofs.Steps.{stays, loads, enters, enters_and_takes, takes_head, leaves}
 use Rattle.hemlock_lock.specs.Kinds.{own_name, queued_view, entered_view, granted_view, cleared_view, followed_view, left_view, granting_view, done_view, others_wait}
 use Rattle.hemlock_lock.specs.Kinds.{Swapped, Polled, Cleared, Tested, Exchanged, Granted, Looked}
-use Rattle.hemlock_lock.specs.Rule.{tail, grant, IsLeaving, IsChained, HasGrants, hemlock_discipline}
-use Rattle.hemlock_lock.proofs.Chains.{WasNamed, chained_stays, is_new, is_old, was_set, leaver_stays}
+use Rattle.hemlock_lock.specs.Rule.{tail, grant, HasGrants, hemlock_discipline}
+use Rattle.hemlock_lock.proofs.Chains.{no_seats, chained_stays, is_new, is_old, was_set, leaver_stays}
 use Rattle.hemlock_lock.proofs.Chains.{name_within, busy_ungranted, last_seat, none_queued}
 use Rattle.hemlock_lock.proofs.Queue.{disciplined}
 
@@ -34,10 +34,6 @@ not_tail name ne e = ne (omega arith)
 
 not_other : (a b : ℕ) → a ≢ b → grant a ≢ grant b
 not_other a b ne e = ne (omega arith)
-
-no_seats : (l : List ℕ) → length l ≡ 0 → l ≡ []
-no_seats [] e = refl
-no_seats (x ∷ xs) e = absurd (omega arith)
 
 at_one : (a i j : ℕ) → get_elem? (a ∷ []) i ≡ some j → (i ≡ 0) × (a ≡ j)
 at_one a zero j e = (refl, some-injective a j e)

@@ -3,3 +3,4 @@ pub mod Queue
 pub mod Kept
 pub mod Tokens
 pub mod Releases
+pub mod Grants

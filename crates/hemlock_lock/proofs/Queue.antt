@@ -1,5 +1,5 @@
 -- The queue that is computed from words and views is that of the rule.
-use Rattle.std.proofs.Common.{◌≡◌, ◌≢◌, ℕ, zero, suc, ◌+◌, ◌-◌, ◌<◌, ◌≤◌, Bool, true, false, not, cond, ◌&&◌, ◌==◌, eq-eqb, refl, ap, sym, ◌∙◌, subst, inl, ⊎_elim, arith}
+use Rattle.std.proofs.Common.{◌≡◌, ◌≢◌, ℕ, zero, suc, ◌+◌, ◌<◌, ◌≤◌, Bool, true, false, not, cond, ◌&&◌, ◌==◌, eq-eqb, refl, ap, sym, ◌∙◌, ⊎_elim, arith}
 use Rattle.std.proofs.Common.{List, [], ◌∷◌, ◌++◌, length, map, set, slice_index, replicate}
 use Rattle.std.proofs.lemmas.List.{get_or-replicate, length-replicate}
 use Rattle.std.specs.List.{sum_by}
@@ -12,17 +12,17 @@ use borrow.Author.Tests.{eqb-true}
 use Rattle.atomic_table.proofs.Lists.{set_else, at_longer}
 use Rattle.lock_rules.specs.Rows.{row_of}
 use Rattle.lock_rules.specs.Tag.{Tag}
-use Rattle.lock_rules.specs.Views.{IsPlain, first_view, without_next, next_split, joined_view, spent_view}
+use Rattle.lock_rules.specs.Views.{first_view, without_next, next_split, joined_view, spent_view}
 use Rattle.lock_rules.specs.declared.view.Algorithm.TheVariants.{Hemlock}
 use Rattle.lock_rules.specs.declared.view.Phase.TheVariants.{Idle, Holding, Leaving}
 use Rattle.lock_rules.specs.declared.view.View.{View}
 use Rattle.lock_tables.specs.Laws.{IsDisciplined, number_at}
 use Rattle.lock_tables.specs.Rule.{is_busy, busy, IsQueued}
-use Rattle.lock_tables.proofs.Lists.{number_is, set_at, at_below, at_end, there, no_true}
+use Rattle.lock_tables.proofs.Lists.{number_is, set_at, at_below, at_end, there}
 use Rattle.lock_tables.proofs.Queues.{WasAt, lives, one_seat_of, after_split, after_join, placed_before_split, placed_before_join}
 use Rattle.hemlock_lock.specs.Kinds.{own_name}
-use Rattle.hemlock_lock.specs.Rule.{tail, grant, named_by, ungranted, passes_to, queue_of, IsLeaving, IsChained, HasGrants, hemlock_discipline}
-use Rattle.hemlock_lock.proofs.Chains.{WasNamed, chained_stays, busy_ungranted, last_seat}
+use Rattle.hemlock_lock.specs.Rule.{tail, grant, named_by, ungranted, passes_to, queue_of, IsLeaving, hemlock_discipline}
+use Rattle.hemlock_lock.proofs.Chains.{WasNamed, no_seats, chained_stays, busy_ungranted, last_seat}
 
 -- the name that the view of an unspent seat has, where its pass has one seat
 named_by_is : (views : List View) (j : ℕ) (v : View) → get_elem? views j ≡ some v → v.spent ≡ false
@@ -139,9 +139,6 @@ module _ (n : ℕ) (tag : Tag) (words seats : List ℕ) (views : List View) (q :
       no_passes : (c : ℕ) → passes_to words views c 0 ≡ []
       no_passes zero = refl
       no_passes (suc c) = refl
-      no_seats : (l : List ℕ) → length l ≡ 0 → l ≡ []
-      no_seats [] e = refl
-      no_seats (x ∷ xs) e = absurd (omega arith)
 
   -- a pass that is leaving is so behind a split
   split_leaver : (id : ℕ) (v : View) (name : ℕ) → get_elem? views id ≡ some v → IsLeaving views name → IsLeaving (set views id (without_next v) ++ next_split v ∷ []) name
@@ -169,8 +166,8 @@ module _ (n : ℕ) (tag : Tag) (words seats : List ℕ) (views : List View) (q :
       let both : View = joined_view v w in
       let was : get_elem? views other ≡ some w = sym (set_else views id other both apart) ∙ at' in
       let not_other : l.seat ≢ other = λ e. (
-          let same : l.view ≡ w = some-injective l.view w (sym l.at ∙ ap (get_elem? views) e ∙ was) in
-          let no : Leaving ≡ Idle = sym l.leaves ∙ ap (λ (x : View). x.phase) same ∙ idle in absurd cc) in
+      let same : l.view ≡ w = some-injective l.view w (sym l.at ∙ ap (get_elem? views) e ∙ was) in
+      let no : Leaving ≡ Idle = sym l.leaves ∙ ap (λ (x : View). x.phase) same ∙ idle in absurd cc) in
       dite (ℕ_discrete l.seat id)
       (λ e.
       let same : l.view ≡ v = some-injective l.view v (sym l.at ∙ ap (get_elem? views) e ∙ at) in record {

@@ -1,5 +1,5 @@
 -- What a release did, from its steps.
-use Rattle.std.proofs.Common.{◌≡◌, ◌≢◌, ℕ, ◌+◌, Bool, [], ◌∷◌, ap, sym, ◌∙◌, subst, Some, Option}
+use Rattle.std.proofs.Common.{◌≡◌, ◌≢◌, ℕ, Bool, [], ap, sym, ◌∙◌, subst}
 use Rattle.atomic_table.specs.Table.{rest}
 use Rattle.atomic_table.specs.declared.badge.Badge.{Badge}
 use Rattle.lock_rules.specs.Holders.{held_view}
@@ -8,7 +8,7 @@ use Rattle.lock_rules.specs.Tokens.{view_of}
 use Rattle.lock_rules.specs.declared.held.Held.{Held}
 use Rattle.lock_rules.specs.declared.view.View.{View}
 use Rattle.lock_tables.specs.Happened.{Seated}
-use Rattle.hemlock_lock.specs.Calls.{seated, with_value, HasLeft, HasGranted, HasDone, HasWaited}
+use Rattle.hemlock_lock.specs.Calls.{with_value, HasLeft, HasGranted, HasDone, HasWaited}
 use Rattle.hemlock_lock.specs.Kinds.{own_name, followed_view, granting_view, Left, Followed, Granted, Done, Uncleared}
 
 module _ {V : Type 0} (fit : V → Type 0) (tag_of : V → Tag) (parked : V → Bool) where

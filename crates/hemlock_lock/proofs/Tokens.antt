@@ -1,5 +1,5 @@
 -- What the tokens of a Hemlock know of its table.
-use Rattle.std.proofs.Common.{◌≡◌, ◌≢◌, ℕ, ◌+◌, ◌≤◌, Bool, refl, ap, sym, ◌∙◌, arith, Option}
+use Rattle.std.proofs.Common.{◌≡◌, ◌≢◌, ℕ, ◌≤◌, Bool, refl, ap, sym, ◌∙◌, arith, Option}
 use Rattle.atomic_table.specs.Seated.{TableId}
 use Rattle.atomic_table.specs.Table.{Act}
 use Rattle.lock_rules.specs.Passes.{IsOf}
@@ -12,7 +12,6 @@ use Rattle.lock_rules.specs.declared.view.Phase.TheVariants.{Queued}
 use Rattle.lock_rules.specs.declared.view.View.{View}
 use Rattle.lock_rules.proofs.Names.{own_table, own_algorithm, own_mark}
 use Rattle.lock_tables.specs.Happened.{Seated, Happened, missed_view}
-use Rattle.lock_tables.specs.Queue.{Enters}
 use Rattle.lock_tables.specs.Rule.{IsLock}
 use Rattle.lock_tables.specs.Seats.{IsSized}
 use Rattle.hemlock_lock.specs.Kinds.{own_name, queued_view, followed_view, granting_view}

@@ -1,5 +1,5 @@
 -- What each call of a Hemlock did: its steps on words, the views that its token then has, and the events.
-use Rattle.std.specs.Prelude.{◌≡◌, ◌≢◌, ◌⊎◌, ℕ, Bool, List, [], ◌∷◌, Option, Some}
+use Rattle.std.specs.Prelude.{◌≡◌, ◌≢◌, ◌⊎◌, ℕ, Bool, [], ◌∷◌, Some}
 use Rattle.atomic_table.specs.Table.{takes}
 use Rattle.atomic_table.specs.declared.badge.Badge.{Badge}
 use Rattle.lock_rules.specs.Holders.{held_view}

@@ -28,7 +28,10 @@ mod steps;
 #[cfg(test)]
 mod tests;
 
-pub use kinds::{ClearPredecessorGrant, ExchangeTail, LoadGrant, LoadPredecessorGrant, LoadTail, StoreGrant, SwapTail};
-pub use laws::HemlockWords;
+pub use kinds::{
+    ClearPredecessorGrant, ExchangeTail, LoadGrant, LoadPredecessorGrant, LoadTail, StoreGrant,
+    SwapTail,
+};
+pub use laws::{HemlockWords, rule_has_grants};
 pub use leave::Leave;
 pub use lock::Hemlock;

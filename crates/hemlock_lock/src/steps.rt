@@ -11,7 +11,10 @@ ghost use Rattle.lock_tables.specs.Seats.{IsSized, seat_as};
 ghost use Rattle.hemlock_lock.specs.Rule.{grant};
 ghost use Rattle.hemlock_lock.specs.Kinds.{own_name, TookAtOnce, Entered, Took, Missed, Cleared, Tested, Left, Followed, Granted, Done, Uncleared};
 
-use crate::kinds::{ClearPredecessorGrant, ExchangeTail, LoadGrant, LoadPredecessorGrant, LoadTail, StoreGrant, SwapTail};
+use crate::kinds::{
+    ClearPredecessorGrant, ExchangeTail, LoadGrant, LoadPredecessorGrant, LoadTail, StoreGrant,
+    SwapTail,
+};
 use crate::laws::HemlockWords;
 use atomic_table::Seat;
 use crossbeam_utils::CachePadded;
@@ -112,11 +115,7 @@ impl<V: Cargo> Words<V> {
     }
 
     /// Clears the grant of the predecessor, which the holder doesn't name any more.
-    pub(crate) fn clear_predecessor_grant(
-        &self,
-        seat: &mut Seat<Option<V>, View>,
-        predecessor: u64,
-    )
+    pub(crate) fn clear_predecessor_grant(&self, seat: &mut Seat<Option<V>, View>, predecessor: u64)
         requires table { seat.old.table_id ≡ (padded_value self.now.table).shared.table_id }
         requires holds { seat.old.me.0.phase ≡ Holding }
         requires unspent { seat.old.me.0.spent ≡ false }

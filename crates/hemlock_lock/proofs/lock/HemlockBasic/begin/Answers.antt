@@ -1,4 +1,4 @@
-use Rattle.std.proofs.Common.{ℕ, ◌+◌, ap, sym, ◌∙◌, refl, subst, arith, Some, ◌∷◌}
+use Rattle.std.proofs.Common.{ℕ, ◌+◌, ap, sym, ◌∙◌, subst, arith}
 use Rattle.lock_rules.specs.Tokens.{view_of}
 use Rattle.lock_rules.specs.Views.{IsPlain}
 use Rattle.lock_rules.proofs.Names.{own_table}

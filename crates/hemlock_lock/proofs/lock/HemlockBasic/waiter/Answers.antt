@@ -1,4 +1,4 @@
-use Rattle.std.proofs.Common.{ℕ, ◌+◌, ◌==◌, not, ap, sym, ◌∙◌, refl, arith}
+use Rattle.std.proofs.Common.{ℕ, ◌+◌, ◌==◌, not, ap, sym, ◌∙◌, arith}
 use Rattle.lock_rules.specs.Holders.{held_view}
 use Rattle.lock_rules.specs.Views.{answer_of}
 use Rattle.lock_rules.proofs.Names.{own_table}
