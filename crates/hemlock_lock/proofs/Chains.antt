@@ -29,8 +29,10 @@ pub record WasNamed (views : List View) (j : ℕ) (u : View) : Type 0 where
   pub queued : u.phase ≡ Queued → view.phase ≡ Queued
 
 -- the queue's names stay where its seats keep theirs
-pub chained_stays : (named : ℕ) (words words' seats : List ℕ) (views views' : List View) → IsChained named words seats views → slice_index words' tail ≡ slice_index words tail
-    → ((i j : ℕ) (u : View) → get_elem? seats i ≡ some j → get_elem? views' j ≡ some u → WasNamed views j u) → IsChained named words' seats views'
+pub chained_stays : (named : ℕ) (words words' seats : List ℕ) (views views' : List View) → IsChained named words seats views
+    → slice_index words' tail ≡ slice_index words tail
+    → ((i j : ℕ) (u : View) → get_elem? seats i ≡ some j → get_elem? views' j ≡ some u → WasNamed views j u)
+    → IsChained named words' seats views'
 chained_stays named words words' seats views views' c same was = record {
   none_last = λ e. same ∙ c.none_last e;
   last = λ i j v e at at'. let w = was i j v at at' in same ∙ c.last i j w.view e at w.at ∙ (λ t. sym w.number t + 1);
@@ -43,15 +45,18 @@ chained_stays named words words' seats views views' c same was = record {
 }
 
 -- the new view of the seat that stepped
-pub is_new : (views : List View) (id : ℕ) (v w : View) → get_elem? views id ≡ some v → (j : ℕ) (u : View) → id ≡ j → get_elem? (set views id w) j ≡ some u → w ≡ u
+pub is_new : (views : List View) (id : ℕ) (v w : View) → get_elem? views id ≡ some v → (j : ℕ) (u : View) → id ≡ j
+    → get_elem? (set views id w) j ≡ some u → w ≡ u
 is_new views id v w at j u e at' = some-injective w u (sym (set_at views id v w at) ∙ ap (get_elem? (set views id w)) e ∙ at')
 
 -- the old view of another seat
-pub is_old : (views : List View) (id : ℕ) (w : View) (j : ℕ) (u : View) → j ≢ id → get_elem? (set views id w) j ≡ some u → get_elem? views j ≡ some u
+pub is_old : (views : List View) (id : ℕ) (w : View) (j : ℕ) (u : View) → j ≢ id → get_elem? (set views id w) j ≡ some u
+    → get_elem? views j ≡ some u
 is_old views id w j u ne at = sym (set_else views id j w ne) ∙ at
 
 -- a seat whose step leaves its names
-pub was_set : (views : List View) (id : ℕ) (v w : View) → get_elem? views id ≡ some v → w.number ≡ v.number → w.predecessor ≡ v.predecessor → (w.phase ≡ Queued → v.phase ≡ Queued)
+pub was_set : (views : List View) (id : ℕ) (v w : View) → get_elem? views id ≡ some v → w.number ≡ v.number
+    → w.predecessor ≡ v.predecessor → (w.phase ≡ Queued → v.phase ≡ Queued)
     → (j : ℕ) (u : View) → get_elem? (set views id w) j ≡ some u → WasNamed views j u
 was_set views id v w at number predecessor queued j u e = ⊎_elim
     (λ (t : (j ≡ id) × (w ≡ u)). record {
@@ -65,7 +70,8 @@ was_set views id v w at number predecessor queued j u e = ⊎_elim
     (at_set views id j w u e)
 
 -- a pass that is leaving stays where the step of a seat leaves it so
-pub leaver_stays : (views : List View) (id : ℕ) (v w : View) (name : ℕ) → get_elem? views id ≡ some v → w.number ≡ v.number → (v.phase ≡ Leaving → own_name v ≡ name → w.phase ≡ Leaving)
+pub leaver_stays : (views : List View) (id : ℕ) (v w : View) (name : ℕ) → get_elem? views id ≡ some v → w.number ≡ v.number
+    → (v.phase ≡ Leaving → own_name v ≡ name → w.phase ≡ Leaving)
     → IsLeaving views name → IsLeaving (set views id w) name
 leaver_stays views id v w name at number stays l = dite (ℕ_discrete l.seat id)
     (λ e.
@@ -96,22 +102,26 @@ module _ (n : ℕ) (tag : Tag) (words seats : List ℕ) (views : List View) (q :
   not_named j v at live stays e =
       let l = q.core.leaver (λ z. let a : own_name v ≡ 0 = e ∙ z in omega arith) in
       let number : l.view.number ≡ v.number = (let a : l.view.number + 1 ≡ v.number + 1 = l.is ∙ sym e in omega arith) in
-      let same = one_seat_of hemlock_discipline n tag words seats views q j l.seat v l.view at l.at live (leaving_lives l.seat l.view l.at l.leaves) number in
+      let same = one_seat_of hemlock_discipline n tag words seats views q j l.seat v l.view at l.at live
+      (leaving_lives l.seat l.view l.at l.leaves) number in
       let one : v ≡ l.view = some-injective v l.view (sym at ∙ ap (get_elem? views) (sym same) ∙ l.at) in
       stays (ap (λ (x : View). x.phase) one ∙ l.leaves)
 
   -- nor is a pass in the queue
   pub busy_not_named : (j : ℕ) (v : View) → get_elem? views j ≡ some v → is_busy false v.phase ≡ true → own_name v ≢ q.core.named
-  busy_not_named j v at b = not_named j v at (lives hemlock_discipline n tag words seats views q j v at b) (λ e. no_true (sym b ∙ ap (is_busy false) e))
+  busy_not_named j v at b = not_named j v at (lives hemlock_discipline n tag words seats views q j v at b)
+      (λ e. no_true (sym b ∙ ap (is_busy false) e))
 
   -- and its grant is 0
-  pub busy_ungranted : (j : ℕ) (v : View) → get_elem? views j ≡ some v → is_busy false v.phase ≡ true → slice_index words (grant (own_name v)) ≡ 0
+  pub busy_ungranted : (j : ℕ) (v : View) → get_elem? views j ≡ some v → is_busy false v.phase ≡ true
+      → slice_index words (grant (own_name v)) ≡ 0
   busy_ungranted j v at b =
       let within = name_within j v at (lives hemlock_discipline n tag words seats views q j v at b) in
       q.core.kept (own_name v) (omega arith) within (busy_not_named j v at b)
 
   -- the last seat, where there is one
-  pub last_seat : 0 < length seats → (i : ℕ) × (j : ℕ) × (v : View) × (length seats ≡ i + 1) × (get_elem? seats i ≡ some j) × (get_elem? views j ≡ some v)
+  pub last_seat : 0 < length seats → (i : ℕ) × (j : ℕ) × (v : View) × (length seats ≡ i + 1) × (get_elem? seats i ≡ some j)
+      × (get_elem? views j ≡ some v)
   last_seat some_seat =
       let t = there seats (length seats - 1) (omega arith) in
       let p = q.each_place (length seats - 1) t.0 t.1 in
@@ -148,4 +158,5 @@ module _ (n : ℕ) (tag : Tag) (words seats : List ℕ) (views : List View) (q :
           let t = there seats i (omega arith) in
           let p = q.each_place i t.0 t.1 in
           let s : suc i ≡ i + 1 = omega arith in
-          let a : v.predecessor ≡ own_name p.view = q.core.chained.behind i t.0 j p.view v t.1 p.at (ap (get_elem? seats) (sym s) ∙ e) at in omega arith
+          let a : v.predecessor ≡ own_name p.view = q.core.chained.behind i t.0 j p.view v t.1 p.at (ap (get_elem? seats) (sym s)
+          ∙ e) at in omega arith

@@ -39,7 +39,8 @@ module _ (n : ℕ) (tag : Tag) (words seats : List ℕ) (views : List View) (q :
       m.1 ∙ ap some (one_seat_of hemlock_discipline n tag words seats views q j m.0 v p.view at.at p.at at.unspent live number)
 
   -- a seat that names a pass which is leaving has the first place
-  names_first : (k : ℕ) (u : View) (j : ℕ) (v : View) → IsAt views k u → IsAt views j v → v.phase ≡ Leaving → u.predecessor ≡ own_name v → get_elem? seats 0 ≡ some k
+  names_first : (k : ℕ) (u : View) (j : ℕ) (v : View) → IsAt views k u → IsAt views j v → v.phase ≡ Leaving → u.predecessor ≡ own_name v
+      → get_elem? seats 0 ≡ some k
   names_first k u j v at at' leaves named = elim (is_busy false u.phase) as (λ b. is_busy false u.phase ≡ b → get_elem? seats 0 ≡ some k) [
     | false ↦ λ free. let none : u.predecessor ≡ 0 = q.core.nameless k u at.at free in absurd (omega arith)
     | true ↦ λ busy. let p = (q.each_seat k u at.at).placed busy in from p.0 p.1
@@ -52,7 +53,8 @@ module _ (n : ℕ) (tag : Tag) (words seats : List ℕ) (views : List View) (q :
           let t = there seats i (omega arith) in
           let p = q.each_place i t.0 t.1 in
           let s : suc i ≡ i + 1 = omega arith in
-          let ahead : u.predecessor ≡ own_name p.view = q.core.chained.behind i t.0 k p.view u t.1 p.at (ap (get_elem? seats) (sym s) ∙ e) at.at in
+          let ahead : u.predecessor ≡ own_name p.view = q.core.chained.behind i t.0 k p.view u t.1 p.at (ap (get_elem? seats) (sym s)
+          ∙ e) at.at in
           let live = lives hemlock_discipline n tag words seats views q t.0 p.view p.at p.is in
           let number : p.view.number ≡ v.number = omega arith in
           let same = one_seat_of hemlock_discipline n tag words seats views q j t.0 v p.view at'.at p.at at'.unspent live number in
@@ -83,6 +85,8 @@ module _ (n : ℕ) (tag : Tag) (words seats : List ℕ) (views : List View) (q :
     none_queued = λ e. queue ∙ ap (map (number_at views)) (no_seats seats (none_queued n tag words seats views q e));
     kept = λ j v at stays. q.core.kept (own_name v) (omega arith) (name_within n tag words seats views q j v at.at at.unspent)
         (not_named n tag words seats views q j v at.at at.unspent stays);
-    out = λ j v at leaves e. not_in hemlock_discipline n tag words seats views q j v at.at at.unspent (ap (is_busy false) leaves) (subst (IsIn v.number) queue e);
-    leaves = λ j v at leaves. dite (ℕ_discrete (own_name v) q.core.named) (λ e. inl (granting j v at leaves e)) (λ ne. inr (cleared j v at leaves ne));
+    out = λ j v at leaves e. not_in hemlock_discipline n tag words seats views q j v at.at at.unspent (ap (is_busy false) leaves)
+        (subst (IsIn v.number) queue e);
+    leaves = λ j v at leaves. dite (ℕ_discrete (own_name v) q.core.named) (λ e. inl (granting j v at leaves e))
+        (λ ne. inr (cleared j v at leaves ne));
   }

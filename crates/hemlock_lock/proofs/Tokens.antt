@@ -19,12 +19,15 @@ use Rattle.hemlock_lock.specs.Rule.{tail, queue_of, hemlock_discipline}
 use Rattle.hemlock_lock.proofs.Chains.{tail_within, queued_names}
 use Rattle.std.specs.Prelude.{List, slice_index}
 
-module _ (z : TableId) (tag : Tag) (passes : ℕ) (sized : IsSized Hemlock passes z) (y : TableId) (v : View) (own : IsOf (lock_name Hemlock z) tag (place_of y v)) (row : IsRowOf v y) where
+module _ (z : TableId) (tag : Tag) (passes : ℕ) (sized : IsSized Hemlock passes z) (y : TableId) (v : View)
+    (own : IsOf (lock_name Hemlock z) tag (place_of y v)) (row : IsRowOf v y) where
   -- how many passes a token's lock has
   pub count_is : v.count ≡ passes
   count_is =
-      let a : row_of v.algorithm v.count ≡ row_of Hemlock passes = sym row ∙ ap (λ (t : TableId). t.words) (own_table Hemlock z tag y v own) ∙ sized.row in
-      let b : row_of Hemlock v.count ≡ row_of Hemlock passes = ap (λ (x : Algorithm). row_of x v.count) (sym (own_algorithm Hemlock z tag y v own)) ∙ a in omega arith
+      let a : row_of v.algorithm v.count ≡ row_of Hemlock passes = sym row
+      ∙ ap (λ (t : TableId). t.words) (own_table Hemlock z tag y v own) ∙ sized.row in
+      let b : row_of Hemlock v.count ≡ row_of Hemlock passes = ap (λ (x : Algorithm). row_of x v.count)
+      (sym (own_algorithm Hemlock z tag y v own)) ∙ a in omega arith
 
   module _ (plain : IsPlain v) where
     -- the names in a token's view
@@ -48,7 +51,8 @@ module _ {V : Type 0} (fit : V → Type 0) (tag_of : V → Tag) (parked : V → 
 
   -- a pass that waits names another
   pub loaded_named : (event : ℕ → List ℕ → List ℕ → Type 0) (act : Act (Option V)) (word found now : ℕ) (me me' : Seated V)
-      → Happened (IsLock hemlock_discipline fit tag_of parked) queue_of event act word found now me me' → me.0.phase ≡ Queued → me.0.predecessor ≢ 0
+      → Happened (IsLock hemlock_discipline fit tag_of parked) queue_of event act word found now me me' → me.0.phase ≡ Queued
+      → me.0.predecessor ≢ 0
   loaded_named event act word found now me me' h queued =
       queued_names me.0.count me.0.tag.tag h.state.words h.allowed.seats h.state.views h.allowed.queued h.seat me.0 h.knew queued
 

@@ -30,7 +30,8 @@ module _ {V : Type 0} (fit : V → Type 0) (tag_of : V → Tag) (parked : V → 
 
   -- the swap of `tail`, which found 0; the value that was at home is the holder's
   abbrev pub HasTakenAtOnce : Badge View → Held V → Type 0
-  HasTakenAtOnce before after = Stepped (IsLock hemlock_discipline fit tag_of parked) queue_of EntersAndTakes (takes 0 (Some after.value)) tail 0 (own_name (view_of before)) (seated before)
+  HasTakenAtOnce before after = Stepped (IsLock hemlock_discipline fit tag_of parked) queue_of EntersAndTakes
+      (takes 0 (Some after.value)) tail 0 (own_name (view_of before)) (seated before)
       (entered_view (view_of before)) (with_value (held_view after) after.value)
 
   -- a load of the predecessor's grant that did not show 1
@@ -41,9 +42,11 @@ module _ {V : Type 0} (fit : V → Type 0) (tag_of : V → Tag) (parked : V → 
 
   -- a load of the predecessor's grant that showed 1, and the store of 0 there; the value that was at home is the holder's
   pub record HasTaken (before : Badge View) (after : Held V) : Type 0 where
-    pub load : Stepped (IsLock hemlock_discipline fit tag_of parked) queue_of Takes (takes 0 (Some after.value)) (grant (view_of before).predecessor) 1 1 (seated before)
+    pub load : Stepped (IsLock hemlock_discipline fit tag_of parked) queue_of Takes (takes 0 (Some after.value))
+        (grant (view_of before).predecessor) 1 1 (seated before)
         (granted_view (view_of before)) (with_value (granted_view (view_of before)) after.value)
-    pub clear : Cleared fit tag_of parked (with_value (granted_view (view_of before)) after.value) (with_value (held_view after) after.value)
+    pub clear : Cleared fit tag_of parked (with_value (granted_view (view_of before)) after.value)
+        (with_value (held_view after) after.value)
 
   -- a load of `tail`; the answer is yes exactly where it named another than the holder
   pub record HasAsked (before now : Held V) (answer : Bool) : Type 0 where
@@ -59,8 +62,10 @@ module _ {V : Type 0} (fit : V → Type 0) (tag_of : V → Tag) (parked : V → 
   pub record HasGranted (before : Held V) : Type 0 where
     pub found : ℕ
     pub other : found ≢ own_name (held_view before)
-    pub exchange : Followed fit tag_of parked (with_value (held_view before) before.value) found (with_value (followed_view (held_view before)) before.value)
-    pub store : Granted fit tag_of parked (with_value (followed_view (held_view before)) before.value) (granting_view (held_view before), [])
+    pub exchange : Followed fit tag_of parked (with_value (held_view before) before.value) found
+        (with_value (followed_view (held_view before)) before.value)
+    pub store : Granted fit tag_of parked (with_value (followed_view (held_view before)) before.value)
+        (granting_view (held_view before), [])
 
   -- a load of the own grant that showed 0
   abbrev pub HasDone : View → Badge View → Type 0

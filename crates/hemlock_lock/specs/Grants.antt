@@ -35,4 +35,5 @@ module _ (words : List ℕ) (views : List View) where
 
 module _ {V : Type 0} (fit : V → Type 0) (tag_of : V → Tag) (parked : V → Bool) where
   abbrev pub RuleHasGrants : Type 0
-  RuleHasGrants = (n : ℕ) (tag : Tag) (s : State (Option V) View) → IsLock hemlock_discipline fit tag_of parked n tag s → LeaveByGrants s.words s.views
+  RuleHasGrants = (n : ℕ) (tag : Tag) (s : State (Option V) View) → IsLock hemlock_discipline fit tag_of parked n tag s
+      → LeaveByGrants s.words s.views

@@ -22,7 +22,8 @@ queued_view v found = record v { phase = Queued; entries = v.entries + 1; predec
 abbrev pub entered_view : View → View
 entered_view v = record v { phase = Holding; entries = v.entries + 1; predecessor = 0; tested = Open; followed = false }
 
--- a load that showed the grant, by which the pass takes. It still names the one that it found. Until it has cleared the grant its `node`, which has no other
+-- a load that showed the grant, by which the pass takes. It still names the one that it found. Until it has cleared the grant its `node`,
+-- which has no other
 -- use here, is one that the lock doesn't have: such a view is not plain, so no token of a holder has it
 abbrev pub granted_view : View → View
 granted_view v = record (took_view v) { node = v.count + 1 }
@@ -54,52 +55,62 @@ others_wait v found = not (found == own_name v)
 module _ {V : Type 0} (fit : V → Type 0) (tag_of : V → Tag) (parked : V → Bool) where
   -- Swap of `tail`: Enter and Take where it was 0, else Enter
   abbrev pub TookAtOnce : Seated V → ℕ → Seated V → Type 0
-  TookAtOnce me found me' = SteppedAndTook (IsLock hemlock_discipline fit tag_of parked) queue_of fit tag_of EntersAndTakes tail found (own_name me.0) me (entered_view me.0) me'
+  TookAtOnce me found me' = SteppedAndTook (IsLock hemlock_discipline fit tag_of parked) queue_of fit tag_of EntersAndTakes tail found
+      (own_name me.0) me (entered_view me.0) me'
 
   abbrev pub Entered : Seated V → ℕ → Seated V → Type 0
-  Entered me found me' = Stepped (IsLock hemlock_discipline fit tag_of parked) queue_of Enters keeps tail found (own_name me.0) me (queued_view me.0 found) me'
+  Entered me found me' = Stepped (IsLock hemlock_discipline fit tag_of parked) queue_of Enters keeps tail found (own_name me.0) me
+      (queued_view me.0 found) me'
 
   abbrev pub Swapped : Seated V → ℕ → Seated V → Type 0
   Swapped me found me' = (found ≡ 0 → TookAtOnce me found me') × (found ≢ 0 → Entered me found me')
 
   -- Load of the predecessor's grant: Take where it is 1, else no event
   abbrev pub Took : Seated V → ℕ → Seated V → Type 0
-  Took me found me' = SteppedAndTook (IsLock hemlock_discipline fit tag_of parked) queue_of fit tag_of Takes (grant me.0.predecessor) found found me (granted_view me.0) me'
+  Took me found me' = SteppedAndTook (IsLock hemlock_discipline fit tag_of parked) queue_of fit tag_of Takes
+      (grant me.0.predecessor) found found me (granted_view me.0) me'
 
   abbrev pub Missed : Seated V → ℕ → Seated V → Type 0
-  Missed me found me' = Stepped (IsLock hemlock_discipline fit tag_of parked) queue_of Stays keeps (grant me.0.predecessor) found found me (missed_view me.0) me'
+  Missed me found me' = Stepped (IsLock hemlock_discipline fit tag_of parked) queue_of Stays keeps (grant me.0.predecessor) found found me
+      (missed_view me.0) me'
 
   abbrev pub Polled : Seated V → ℕ → Seated V → Type 0
   Polled me found me' = (found ≡ 1 → Took me found me') × (found ≢ 1 → Missed me found me')
 
   -- Store of 0 in the predecessor's grant: no event
   abbrev pub Cleared : Seated V → Seated V → Type 0
-  Cleared me me' = (found : ℕ) × Stepped (IsLock hemlock_discipline fit tag_of parked) queue_of Stays keeps (grant me.0.predecessor) found 0 me (cleared_view me.0) me'
+  Cleared me me' = (found : ℕ) × Stepped (IsLock hemlock_discipline fit tag_of parked) queue_of Stays keeps
+      (grant me.0.predecessor) found 0 me (cleared_view me.0) me'
 
   -- Load of `tail` by `waiter`: no event
   abbrev pub Tested : Seated V → ℕ → Seated V → Type 0
-  Tested me found me' = Stepped (IsLock hemlock_discipline fit tag_of parked) queue_of Stays keeps tail found found me (tested_view me.0 (others_wait me.0 found)) me'
+  Tested me found me' = Stepped (IsLock hemlock_discipline fit tag_of parked) queue_of Stays keeps tail found found me
+      (tested_view me.0 (others_wait me.0 found)) me'
 
   -- Exchange of `tail` from own to 0: Leave where it is done, else no event
   abbrev pub Left : Seated V → ℕ → Seated V → Type 0
   Left me found me' = Stepped (IsLock hemlock_discipline fit tag_of parked) queue_of Leaves gives tail found 0 me (left_view me.0) me'
 
   abbrev pub Followed : Seated V → ℕ → Seated V → Type 0
-  Followed me found me' = Stepped (IsLock hemlock_discipline fit tag_of parked) queue_of Stays keeps tail found found me (followed_view me.0) me'
+  Followed me found me' = Stepped (IsLock hemlock_discipline fit tag_of parked) queue_of Stays keeps tail found found me
+      (followed_view me.0) me'
 
   abbrev pub Exchanged : Seated V → ℕ → Seated V → Type 0
   Exchanged me found me' = (found ≡ own_name me.0 → Left me found me') × (found ≢ own_name me.0 → Followed me found me')
 
   -- Store of 1 in the own grant: Leave
   abbrev pub Granted : Seated V → Seated V → Type 0
-  Granted me me' = (found : ℕ) × Stepped (IsLock hemlock_discipline fit tag_of parked) queue_of Leaves gives (grant (own_name me.0)) found 1 me (granting_view me.0) me'
+  Granted me me' = (found : ℕ) × Stepped (IsLock hemlock_discipline fit tag_of parked) queue_of Leaves gives
+      (grant (own_name me.0)) found 1 me (granting_view me.0) me'
 
   -- Load of the own grant: no event. The pass is idle where it is 0
   abbrev pub Done : Seated V → ℕ → Seated V → Type 0
-  Done me found me' = Stepped (IsLock hemlock_discipline fit tag_of parked) queue_of Stays keeps (grant (own_name me.0)) found found me (done_view me.0) me'
+  Done me found me' = Stepped (IsLock hemlock_discipline fit tag_of parked) queue_of Stays keeps (grant (own_name me.0)) found found me
+      (done_view me.0) me'
 
   abbrev pub Uncleared : Seated V → ℕ → Seated V → Type 0
-  Uncleared me found me' = Stepped (IsLock hemlock_discipline fit tag_of parked) queue_of Stays keeps (grant (own_name me.0)) found found me (missed_view me.0) me'
+  Uncleared me found me' = Stepped (IsLock hemlock_discipline fit tag_of parked) queue_of Stays keeps
+      (grant (own_name me.0)) found found me (missed_view me.0) me'
 
   abbrev pub Looked : Seated V → ℕ → Seated V → Type 0
   Looked me found me' = (found ≡ 0 → Done me found me') × (found ≢ 0 → Uncleared me found me')

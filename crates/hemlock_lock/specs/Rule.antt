@@ -48,14 +48,17 @@ pub record IsLeaving (views : List View) (name : ℕ) : Type 0 where
 -- Each seat of the queue names the one ahead of it, the head has the name `named`, and `tail` names the last
 pub record IsChained (named : ℕ) (words seats : List ℕ) (views : List View) : Type 0 where
   pub none_last : length seats ≡ 0 → slice_index words tail ≡ 0
-  pub last : (i j : ℕ) (v : View) → length seats ≡ i + 1 → get_elem? seats i ≡ some j → get_elem? views j ≡ some v → slice_index words tail ≡ v.number + 1
+  pub last : (i j : ℕ) (v : View) → length seats ≡ i + 1 → get_elem? seats i ≡ some j → get_elem? views j ≡ some v
+      → slice_index words tail ≡ v.number + 1
   pub none_first : length seats ≡ 0 → named ≡ 0
   pub first : (j : ℕ) (v : View) → get_elem? seats 0 ≡ some j → get_elem? views j ≡ some v → v.predecessor ≡ named
   pub waits : (j : ℕ) (v : View) → get_elem? seats 0 ≡ some j → get_elem? views j ≡ some v → v.phase ≡ Queued → named ≢ 0
-  pub behind : (i j k : ℕ) (u v : View) → get_elem? seats i ≡ some j → get_elem? views j ≡ some u → get_elem? seats (i + 1) ≡ some k → get_elem? views k ≡ some v
+  pub behind : (i j k : ℕ) (u v : View) → get_elem? seats i ≡ some j → get_elem? views j ≡ some u → get_elem? seats (i + 1) ≡ some k
+      → get_elem? views k ≡ some v
       → v.predecessor ≡ u.number + 1
 
--- What holds of the words and the views of a lock with n passes. At most one grant is 1: that of the pass that the head names, which is leaving
+-- What holds of the words and the views of a lock with n passes. At most one grant is 1: that of the pass that the head names, which is
+-- leaving
 pub record HasGrants (n : ℕ) (words seats : List ℕ) (views : List View) : Type 0 where
   pub named : ℕ
   pub chained : IsChained named words seats views

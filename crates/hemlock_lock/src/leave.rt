@@ -8,7 +8,8 @@ ghost use Rattle.lock_rules.specs.declared.view.Phase.TheVariants.{Leaving};
 use atomic_table::{Badge, Seat};
 use lock_rules::{Departing, View};
 
-/// A pass that has left. The value is home; the pass may not be used again before the next holder has cleared its grant. `mark` is the pass's number.
+/// A pass that has left. The value is home; the pass may not be used again before the next holder has cleared its grant. `mark` is the
+/// pass's number.
 #[derive(Drop)]
 pub struct Leave {
     pub badge: Badge<View>,

@@ -1,7 +1,8 @@
 //! Hemlock: a pass that leaves grants the lock to the one behind it by one word of its own, and waits until that word is cleared.
 //!
-//! It is the lock of Dice and Kogan, "Hemlock: Compact and Scalable Mutual Exclusion", SPAA 2021, in the form of their listing 1. There `Grant` is one word
-//! a thread, which holds the address of the lock that is granted; here it is one word a pass of one lock, which holds 1:
+//! It is the lock of Dice and Kogan, "Hemlock: Compact and Scalable Mutual Exclusion", SPAA 2021, in the form of their listing 1.
+//! There `Grant` is one word a thread, which holds the address of the lock that is granted; here it is one word a pass of one lock, which
+//! holds 1:
 //!
 //! ```text
 //! Lock      pred := swap(Tail, Self)                    begin           steps::swap_tail
@@ -13,11 +14,12 @@
 //!             while Self.Grant != null: pause           poll_release    steps::load_grant (and once in begin_release)
 //! ```
 //!
-//! The waiter test, by which a holder learns whether another pass is behind it, is that of Chehab and others, "CLoF: A Compositional Lock Framework for
-//! Multi-level NUMA Systems", SOSP 2021: `waiter`, `steps::load_tail`. The value is taken out of its slot behind the last step that enters, and put back
-//! before the first step that leaves. Each step is a sequentially consistent operation on one word.
+//! The waiter test, by which a holder learns whether another pass is behind it, is that of Chehab and others, "CLoF: A Compositional
+//! Lock Framework for Multi-level NUMA Systems", SOSP 2021: `waiter`, `steps::load_tail`. The value is taken out of its slot behind the
+//! last step that enters, and put back before the first step that leaves. Each step is a sequentially consistent operation on one word.
 //!
-//! `tail` and the grants stand on lines of their own in one `atomic_table`. `specs/Rule` says what holds of them, `specs/Kinds` has the kinds of step.
+//! `tail` and the grants stand on lines of their own in one `atomic_table`. `specs/Rule` says what holds of them, `specs/Kinds` has the
+//! kinds of step, `specs/Calls` what each call did, and `specs/Grants` what follows of the passes that leave.
 #![tactic(auto)]
 
 mod kinds;

@@ -9,7 +9,8 @@ ghost use Rattle.lock_rules.specs.Steps.{IfNot, IfGot};
 ghost use Rattle.lock_rules.specs.Passes.{IsOf, AreAll};
 ghost use Rattle.lock_rules.specs.Tokens.{view_of, badge_place, badge_waiting};
 ghost use Rattle.lock_tables.specs.Seats.{IsOwn};
-ghost use Rattle.hemlock_lock.specs.Calls.{HasQueued, HasTakenAtOnce, HasMissed, HasTaken, HasAsked, HasReleased, HasBegunToLeave, HasDone, HasWaited};
+ghost use Rattle.hemlock_lock.specs.Calls.{HasQueued, HasTakenAtOnce, HasMissed, HasTaken, HasAsked, HasReleased, HasBegunToLeave};
+ghost use Rattle.hemlock_lock.specs.Calls.{HasDone, HasWaited};
 
 use crate::laws::HemlockWords;
 use crate::leave::Leave;
@@ -51,9 +52,11 @@ impl<V: Cargo> Basic<V> for Hemlock<V> {
         Ok((Hemlock { words }, list))
     }
 
-    /// The answer is `Not` exactly where the swap of `tail` found a predecessor. Else the queue was empty, and the value that was at home is the holder's.
+    /// The answer is `Not` exactly where the swap of `tail` found a predecessor. Else the queue was empty, and the value that was at home
+    /// is the holder's.
     fn begin(&self, pass: Pass) -> Step<Queue, Held<V>>
-        requires own { IsOwn V.tag hemlock_algorithm (padded_value self.now.words.table).shared.table_id (padded_value self.now.words.table).shared.key (badge_place pass.badge) }
+        requires own { IsOwn V.tag hemlock_algorithm (padded_value self.now.words.table).shared.table_id
+            (padded_value self.now.words.table).shared.key (badge_place pass.badge) }
         ensures entered_behind { IfNot result (λ q. HasQueued V.fit V.tag V.parked pass.badge q.badge) }
         ensures took_at_once { IfGot result (λ h. HasTakenAtOnce V.fit V.tag V.parked pass.badge h) }
         ensures preceded { IfNot result (λ q. (badge_waiting q.badge).preceded ≡ true) }
@@ -73,9 +76,11 @@ impl<V: Cargo> Basic<V> for Hemlock<V> {
         Step::Got(Held::of(seat, value, number, 0))
     }
 
-    /// The answer is `Not` exactly where the predecessor's grant isn't 1. Else it is cleared, and the value that was at home is the holder's.
+    /// The answer is `Not` exactly where the predecessor's grant isn't 1. Else it is cleared, and the value that was at home is the
+    /// holder's.
     fn poll(&self, queue: Queue) -> Step<Queue, Held<V>>
-        requires own { IsOwn V.tag hemlock_algorithm (padded_value self.now.words.table).shared.table_id (padded_value self.now.words.table).shared.key (badge_waiting queue.badge).place }
+        requires own { IsOwn V.tag hemlock_algorithm (padded_value self.now.words.table).shared.table_id
+            (padded_value self.now.words.table).shared.key (badge_waiting queue.badge).place }
         ensures missed { IfNot result (λ q. HasMissed V.fit V.tag V.parked queue.badge q.badge) }
         ensures took { IfGot result (λ h. HasTaken V.fit V.tag V.parked queue.badge h) }
         ensures queue { IfNot result (λ q. (badge_waiting q.badge).place ≡ (badge_waiting queue.badge).place) }
@@ -97,7 +102,8 @@ impl<V: Cargo> Basic<V> for Hemlock<V> {
 
     /// The answer is yes exactly where `tail` names another than the holder.
     fn waiter(&self, held: &mut Held<V>) -> bool
-        requires own { IsOwn V.tag hemlock_algorithm (padded_value self.now.words.table).shared.table_id (padded_value self.now.words.table).shared.key (holder_of held.old).place }
+        requires own { IsOwn V.tag hemlock_algorithm (padded_value self.now.words.table).shared.table_id
+            (padded_value self.now.words.table).shared.key (holder_of held.old).place }
         ensures asked { HasAsked V.fit V.tag V.parked held.old held.new result }
         ensures place { (holder_of held.new).place ≡ (holder_of held.old).place }
         ensures value { held.new.value ≡ held.old.value }
@@ -110,7 +116,8 @@ impl<V: Cargo> Basic<V> for Hemlock<V> {
 
     /// The answer is `Got` where `tail` named the holder, or the one behind it has cleared its grant already.
     fn begin_release(&self, held: Held<V>) -> Step<Leave, Pass>
-        requires own { IsOwn V.tag hemlock_algorithm (padded_value self.now.words.table).shared.table_id (padded_value self.now.words.table).shared.key (holder_of held).place }
+        requires own { IsOwn V.tag hemlock_algorithm (padded_value self.now.words.table).shared.table_id
+            (padded_value self.now.words.table).shared.key (holder_of held).place }
         requires fit { V.fit held.value }
         requires tagged { V.tag held.value ≡ V.tag (padded_value self.now.words.table).shared.key.value.value }
         requires relied_on { V.parked held.value ≡ true → (holder_of held).tested ≡ Yes }
@@ -138,7 +145,8 @@ impl<V: Cargo> Basic<V> for Hemlock<V> {
 
     /// The answer is `Not` exactly where the grant isn't cleared.
     fn poll_release(&self, leave: Leave) -> Step<Leave, Pass>
-        requires own { IsOwn V.tag hemlock_algorithm (padded_value self.now.words.table).shared.table_id (padded_value self.now.words.table).shared.key (badge_waiting leave.badge).place }
+        requires own { IsOwn V.tag hemlock_algorithm (padded_value self.now.words.table).shared.table_id
+            (padded_value self.now.words.table).shared.key (badge_waiting leave.badge).place }
         ensures done { IfGot result (λ p. HasDone V.fit V.tag V.parked (view_of leave.badge) p.badge) }
         ensures waited { IfNot result (λ l. HasWaited V.fit V.tag V.parked (view_of leave.badge) l.badge) }
         ensures leave { IfNot result (λ l. (badge_waiting l.badge).place ≡ (badge_waiting leave.badge).place) }
@@ -155,7 +163,8 @@ impl<V: Cargo> Basic<V> for Hemlock<V> {
     }
 
     fn close(self, passes: Vec<Pass>) -> V
-        requires all { AreAll (λ p. badge_place p.badge) (lock_name hemlock_algorithm (padded_value self.words.table).shared.table_id) (V.tag (padded_value self.words.table).shared.key.value.value) (padded_value self.words.table).shared.key.passes passes.items }
+        requires all { AreAll (λ p. badge_place p.badge) (lock_name hemlock_algorithm (padded_value self.words.table).shared.table_id)
+            (V.tag (padded_value self.words.table).shared.key.value.value) (padded_value self.words.table).shared.key.passes passes.items }
         ensures fit { V.fit result }
         ensures tagged { V.tag result ≡ V.tag (padded_value self.words.table).shared.key.value.value }
         ensures unparked { V.parked result ≡ false }

@@ -9,7 +9,8 @@ ghost use Rattle.lock_rules.specs.declared.view.Phase.TheVariants.{Idle, Queued,
 ghost use Rattle.lock_tables.specs.Happened.{MayRest};
 ghost use Rattle.lock_tables.specs.Seats.{IsSized, seat_as};
 ghost use Rattle.hemlock_lock.specs.Rule.{grant};
-ghost use Rattle.hemlock_lock.specs.Kinds.{own_name, TookAtOnce, Entered, Took, Missed, Cleared, Tested, Left, Followed, Granted, Done, Uncleared};
+ghost use Rattle.hemlock_lock.specs.Kinds.{own_name, TookAtOnce, Entered, Took, Missed, Cleared, Tested, Left, Followed, Granted, Done};
+ghost use Rattle.hemlock_lock.specs.Kinds.{Uncleared};
 
 use crate::kinds::{
     ClearPredecessorGrant, ExchangeTail, LoadGrant, LoadPredecessorGrant, LoadTail, StoreGrant,
@@ -53,7 +54,8 @@ impl<V: Cargo> Words<V> {
         requires unparked { V.parked value ≡ false }
         ensures count { IfOk result (λ m. (padded_value m.0.table).shared.key.passes ≡ passes) }
         ensures value { IfOk result (λ m. (padded_value m.0.table).shared.key.value.value ≡ value) }
-        ensures passes { IfOk result (λ m. AreAll (λ p. badge_place p.badge) (lock_name hemlock_algorithm (padded_value m.0.table).shared.table_id) (V.tag value) passes m.1.items) }
+        ensures passes { IfOk result (λ m. AreAll (λ p. badge_place p.badge)
+            (lock_name hemlock_algorithm (padded_value m.0.table).shared.table_id) (V.tag value) passes m.1.items) }
         ensures refused { IfErr result (λ r. r.value ≡ value) }
     {
         let Ok(room) = Vec::with_capacity(alloc, passes as usize) else {
@@ -70,7 +72,8 @@ impl<V: Cargo> Words<V> {
 
     /// The value of a lock whose passes came back.
     pub(crate) fn close(self, passes: Vec<Pass>) -> V
-        requires all { AreAll (λ p. badge_place p.badge) (lock_name hemlock_algorithm (padded_value self.table).shared.table_id) (V.tag (padded_value self.table).shared.key.value.value) (padded_value self.table).shared.key.passes passes.items }
+        requires all { AreAll (λ p. badge_place p.badge) (lock_name hemlock_algorithm (padded_value self.table).shared.table_id)
+            (V.tag (padded_value self.table).shared.key.value.value) (padded_value self.table).shared.key.passes passes.items }
         ensures fit { V.fit result }
         ensures tagged { V.tag result ≡ V.tag (padded_value self.table).shared.key.value.value }
         ensures unparked { V.parked result ≡ false }
@@ -141,8 +144,8 @@ impl<V: Cargo> Words<V> {
         self.table.shared.load::<LoadTail>(seat, TAIL)
     }
 
-    /// Exchanges the own name in `tail` for 0 and answers the word that stood there. Where it was the own name, the holder has left the queue and given
-    /// the slot back.
+    /// Exchanges the own name in `tail` for 0 and answers the word that stood there. Where it was the own name, the holder has left the
+    /// queue and given the slot back.
     pub(crate) fn exchange_tail(&self, seat: &mut Seat<Option<V>, View>, own: u64) -> u64
         requires table { seat.old.table_id ≡ (padded_value self.now.table).shared.table_id }
         requires holds { seat.old.me.0.phase ≡ Holding }

@@ -7,7 +7,8 @@ use Rattle.hemlock_lock.proofs.lock.HemlockBasic.poll_release.Goals as goal
 pub overflow_add-number : goal.overflow_add-number
 overflow_add-number g c =
     let number = c.into_parts-seat.ensures.mark ∙ number_is _ _ _ (view_of c.args.leave.badge) c.requires.own in
-    let within = own_within _ _ _ c.args.self.now.words.sized _ (view_of c.args.leave.badge) c.requires.own c.args.leave.leaving.row c.args.leave.leaving.plain in
+    let within = own_within _ _ _ c.args.self.now.words.sized _ (view_of c.args.leave.badge) c.requires.own c.args.leave.leaving.row
+    c.args.leave.leaving.plain in
     let few = c.args.self.now.words.few in omega arith
 
 pub load_grant-requires-clause-table : goal.load_grant-requires-clause-table
@@ -21,4 +22,5 @@ load_grant-requires-clause-name g c =
 pub load_grant-requires-clause-within : goal.load_grant-requires-clause-within
 load_grant-requires-clause-within g c =
     let number = c.into_parts-seat.ensures.mark ∙ number_is _ _ _ (view_of c.args.leave.badge) c.requires.own in
-    let within = own_within _ _ _ c.args.self.now.words.sized _ (view_of c.args.leave.badge) c.requires.own c.args.leave.leaving.row c.args.leave.leaving.plain in omega arith
+    let within = own_within _ _ _ c.args.self.now.words.sized _ (view_of c.args.leave.badge) c.requires.own c.args.leave.leaving.row
+    c.args.leave.leaving.plain in omega arith

@@ -11,7 +11,8 @@ load_tail-last-requires-clause-table g c = own_table _ _ _ _ (held_view c.args.h
 pub overflow_add-result : goal.overflow_add-result
 overflow_add-result g c =
     let number = c.args.held.now.seat.marked ∙ number_is _ _ _ (held_view c.args.held.now) c.requires.own in
-    let within = own_within _ _ _ c.args.self.now.words.sized _ (held_view c.args.held.now) c.requires.own c.args.held.now.seat.row c.args.held.now.seat.plain in
+    let within = own_within _ _ _ c.args.self.now.words.sized _ (held_view c.args.held.now) c.requires.own c.args.held.now.seat.row
+    c.args.held.now.seat.plain in
     let few = c.args.self.now.words.few in omega arith
 
 pub returns-clause-asked : goal.returns-clause-asked
