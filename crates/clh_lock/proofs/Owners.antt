@@ -24,13 +24,16 @@ use Rattle.clh_lock.proofs.Nodes.{Once, hits_self, is_within, at_most_one, free_
 use Rattle.clh_lock.proofs.Queue.{disciplined}
 use Rattle.clh_lock.proofs.Stands.{hit, stands_has, has_stands}
 
+no_hit : (a k : ℕ) → ¬ (k ≡ a) → hits a k ≡ 0
+no_hit a k ne = dite (ℕ_discrete (hits a k) 0) (λ z. z) (λ some_hit. absurd (ne (sym (hit a k (omega arith)))))
+
 module _ (n : ℕ) (views : List View) (free : ℕ) (once : Once n views free) where
   one_owner : (k : ℕ) → k ≤ n → ¬ (k ≡ free) → HasOneOwner k views
   one_owner k within other =
       let c : ℕ = cond (nat_le k n) 1 0 in
       let is_one : c ≡ 1 = grind (arith, nat_tests) in
       let o : sum_by (stands_in by_node k) views + hits free k ≡ c = once k in
-      let not_free : hits free k ≡ 0 = dite (ℕ_discrete (hits free k) 0) (λ z. z) (λ ne. absurd (other (sym (hit free k (omega arith))))) in
+      let not_free = no_hit free k other in
       let one : sum_by (stands_in by_node k) views ≡ 1 = omega (arith, o, is_one, not_free) in
       let p = some_part (stands_in by_node k) views (omega (arith, one)) in
       let h = stands_has by_node k p.1 p.3 in record {
