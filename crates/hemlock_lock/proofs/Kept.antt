@@ -55,9 +55,6 @@ other_phase v e f = let no : Idle ≡ Leaving = sym e ∙ f in absurd cc
 queued_stays : (v : View) → v.phase ≡ Queued → ¬ (v.phase ≡ Leaving)
 queued_stays v e f = let no : Queued ≡ Leaving = sym e ∙ f in absurd cc
 
-holding_stays : (v : View) → v.phase ≡ Holding → ¬ (v.phase ≡ Leaving)
-holding_stays v e f = let no : Holding ≡ Leaving = sym e ∙ f in absurd cc
-
 module _ {V : Type 0} (fit : V → Type 0) (tag_of : V → Tag) (parked : V → Bool) (n : ℕ) (tag : Tag) where
   abbrev pub Rule : State (Option V) View → Type 0
   Rule = IsLock hemlock_discipline fit tag_of parked n tag
@@ -76,6 +73,15 @@ module _ {V : Type 0} (fit : V → Type 0) (tag_of : V → Tag) (parked : V → 
       (λ (t : (j ≢ id) × (get_elem? views j ≡ some u)). q.core.owing j u t.1 held some_name)
       (at_set views id j w u e)
 
+  -- and who names none
+  nameless_set : (words seats : List ℕ) (views : List View) (id : ℕ) (w : View) (q : Q words seats views)
+      → (is_busy false w.phase ≡ false → w.predecessor ≡ 0)
+      → (j : ℕ) (u : View) → get_elem? (set views id w) j ≡ some u → is_busy false u.phase ≡ false → u.predecessor ≡ 0
+  nameless_set words seats views id w q none j u e free = ⊎_elim
+      (λ (t : (j ≡ id) × (w ≡ u)). ap (λ (x : View). x.predecessor) (sym t.1) ∙ none (ap (λ (x : View). is_busy false x.phase) t.1 ∙ free))
+      (λ (t : (j ≢ id) × (get_elem? views j ≡ some u)). q.core.nameless j u t.1 free)
+      (at_set views id j w u e)
+
   -- names and grants, where a step leaves all words and its seat's names
   same_grants : (words seats : List ℕ) (views : List View) (id : ℕ) (v w : View) (q : Q words seats views) → get_elem? views id ≡ some v
       → w.number ≡ v.number → w.predecessor ≡ v.predecessor
@@ -89,11 +95,7 @@ module _ {V : Type 0} (fit : V → Type 0) (tag_of : V → Tag) (parked : V → 
     given = q.core.given;
     kept = q.core.kept;
     leaver = λ ne. leaver_stays views id v w q.core.named at number leaves (q.core.leaver ne);
-    nameless = λ j u e free. ⊎_elim
-        (λ (t : (j ≡ id) × (w ≡ u)). ap (λ (x : View). x.predecessor) (sym t.1) ∙ predecessor
-        ∙ q.core.nameless id v at (sym busy ∙ ap (λ (x : View). is_busy false x.phase) t.1 ∙ free))
-        (λ (t : (j ≢ id) × (get_elem? views j ≡ some u)). q.core.nameless j u t.1 free)
-        (at_set views id j w u e);
+    nameless = nameless_set words seats views id w q (λ free. predecessor ∙ q.core.nameless id v at (sym busy ∙ free));
     owing = owing_set words seats views id w q owes;
   }
 
@@ -141,10 +143,7 @@ module _ {V : Type 0} (fit : V → Type 0) (tag_of : V → Tag) (parked : V → 
         kept = λ name some_name within apart. wrote_else words tail (grant name) (own_name v) (not_tail name (λ z. omega arith))
             ∙ q.core.kept name some_name within apart;
         leaver = λ z. leaver_stays views id v w q.core.named at refl (λ l _. absurd (other_phase v idle l)) (q.core.leaver z);
-        nameless = λ j u e free. ⊎_elim
-            (λ (t : (j ≡ id) × (w ≡ u)). absurd (no_true (ap (λ (x : View). is_busy false x.phase) t.1 ∙ free)))
-            (λ (t : (j ≢ id) × (get_elem? views j ≡ some u)). q.core.nameless j u t.1 free)
-            (at_set views id j w u e);
+        nameless = nameless_set words seats views id w q (λ busy. absurd (no_true busy));
         owing = owing_set words seats views id w q (λ h _. absurd (queued_not_held h));
       }
 
@@ -172,10 +171,7 @@ module _ {V : Type 0} (fit : V → Type 0) (tag_of : V → Tag) (parked : V → 
         kept = λ name some_name within _. wrote_else words tail (grant name) (own_name v) (not_tail name (λ z. omega arith))
             ∙ q.core.kept name some_name within (λ e. omega arith);
         leaver = λ z. absurd (z refl);
-        nameless = λ j u e free. ⊎_elim
-            (λ (t : (j ≡ id) × (w ≡ u)). absurd (no_true (ap (λ (x : View). is_busy false x.phase) t.1 ∙ free)))
-            (λ (t : (j ≢ id) × (get_elem? views j ≡ some u)). q.core.nameless j u t.1 free)
-            (at_set views id j w u e);
+        nameless = nameless_set words seats views id w q (λ busy. absurd (no_true busy));
         owing = owing_set words seats views id w q (λ _ z. absurd (z refl));
       }
 
@@ -287,10 +283,7 @@ module _ {V : Type 0} (fit : V → Type 0) (tag_of : V → Tag) (parked : V → 
             (λ ne. wrote_else words (grant v.predecessor) (grant name) 0 (not_other name v.predecessor ne)
             ∙ q.core.kept name some_one within (λ e. ne (e ∙ sym here)));
         leaver = λ z. absurd (z refl);
-        nameless = λ j u e free. ⊎_elim
-            (λ (t : (j ≡ id) × (w ≡ u)). ap (λ (x : View). x.predecessor) (sym t.1))
-            (λ (t : (j ≢ id) × (get_elem? views j ≡ some u)). q.core.nameless j u t.1 free)
-            (at_set views id j w u e);
+        nameless = nameless_set words seats views id w q (λ _. refl);
         owing = owing_set words seats views id w q (λ _ z. absurd (z refl));
       }
 
@@ -376,10 +369,7 @@ module _ {V : Type 0} (fit : V → Type 0) (tag_of : V → Tag) (parked : V → 
         kept = λ name some_name within _. wrote_else words tail (grant name) 0 (not_tail name (λ z. omega arith))
             ∙ q.core.kept name some_name within (λ e. omega arith);
         leaver = λ z. absurd (z refl);
-        nameless = λ j u e free. ⊎_elim
-            (λ (t : (j ≡ id) × (w ≡ u)). ap (λ (x : View). x.predecessor) (sym t.1) ∙ clear)
-            (λ (t : (j ≢ id) × (get_elem? views j ≡ some u)). q.core.nameless j u t.1 free)
-            (at_set views id j w u e);
+        nameless = nameless_set words seats views id w q (λ _. clear);
         owing = owing_set words seats views id w q (λ _ z. absurd (z clear));
       }
 
@@ -452,10 +442,7 @@ module _ {V : Type 0} (fit : V → Type 0) (tag_of : V → Tag) (parked : V → 
         kept = λ name some_name below apart. wrote_else words (grant (own_name v)) (grant name) 1 (not_other name (own_name v) apart)
             ∙ q.core.kept name some_name below (λ e. omega arith);
         leaver = λ _. record { seat = id; view = w; at = set_at views id v w at; leaves = refl; is = refl };
-        nameless = λ j u e free. ⊎_elim
-            (λ (t : (j ≡ id) × (w ≡ u)). ap (λ (x : View). x.predecessor) (sym t.1) ∙ clear)
-            (λ (t : (j ≢ id) × (get_elem? views j ≡ some u)). q.core.nameless j u t.1 free)
-            (at_set views id j w u e);
+        nameless = nameless_set words seats views id w q (λ _. clear);
         owing = owing_set words seats views id w q (λ _ z. absurd (z clear));
       }
 

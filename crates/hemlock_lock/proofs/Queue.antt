@@ -78,6 +78,10 @@ ungranted_some : (words : List ℕ) (p : ℕ) → slice_index words (grant (suc 
 ungranted_some words p e = let t : (slice_index words (grant (suc p)) == 0) ≡ true = eq-eqb (slice_index words (grant (suc p))) 0 e in
     rw t refl
 
+no_passes : (words : List ℕ) (views : List View) (count : ℕ) → passes_to words views count 0 ≡ []
+no_passes words views zero = refl
+no_passes words views (suc count) = refl
+
 -- there are no more busy seats than seats
 busy_few : (views : List View) → sum_by (busy false) views ≤ length views
 busy_few [] = omega arith
@@ -111,14 +115,10 @@ module _ (n : ℕ) (tag : Tag) (words seats : List ℕ) (views : List View) (q :
       let same : p ≡ v.number = omega arith in
       let stop : ungranted words (named_by views p) ≡ 0 = ap (λ (x : ℕ). ungranted words (named_by views x)) same
       ∙ ap (ungranted words) (ahead zero j v e at ∙ q.core.chained.first j v e at) ∙ granted_none words q.core.named q.core.given in
-      let none : (c : ℕ) → passes_to words views c 0 ≡ [] = no_passes in
-      (λ k. passes_to words views count (stop k) ++ same k ∷ []) ∙ (λ k. none count k ++ v.number ∷ [])
+      let none = no_passes words views count in
+      (λ k. passes_to words views count (stop k) ++ same k ∷ []) ∙ (λ k. none k ++ v.number ∷ [])
       ∙ (λ k. sym (number_is views j v at) k ∷ [])
       ∙ sym (before_next (number_at views) seats zero j e)
-    where
-      no_passes : (c : ℕ) → passes_to words views c 0 ≡ []
-      no_passes zero = refl
-      no_passes (suc c) = refl
   passes_are (suc i) j v (suc count) (suc p) e at h is =
       let b = at_below seats (suc i) j e in
       let t = there seats i (omega arith) in
@@ -140,7 +140,7 @@ module _ (n : ℕ) (tag : Tag) (words seats : List ℕ) (views : List View) (q :
   queue_is = dite (ℕ_discrete (length seats) 0)
       (λ none.
       let empty : seats ≡ [] = no_seats seats none in
-      let end : passes_to words views (length views) 0 ≡ [] = no_passes (length views) in
+      let end = no_passes words views (length views) in
       ap (passes_to words views (length views)) (q.core.chained.none_last none) ∙ end ∙ sym (ap (map (number_at views)) empty))
       (λ some_seat.
       let l = last_seat n tag words seats views q (omega arith) in
@@ -151,10 +151,6 @@ module _ (n : ℕ) (tag : Tag) (words seats : List ℕ) (views : List View) (q :
       ∙ before_all seats) in
       passes_are l.0 l.1 l.2 (length views) (slice_index words tail) l.4 l.5 count (q.core.chained.last l.0 l.1 l.2 l.3 l.4 l.5)
       ∙ ap (map (number_at views)) all)
-    where
-      no_passes : (c : ℕ) → passes_to words views c 0 ≡ []
-      no_passes zero = refl
-      no_passes (suc c) = refl
 
   -- a pass that is leaving is so behind a split
   split_leaver : (id : ℕ) (v : View) (name : ℕ) → get_elem? views id ≡ some v → IsLeaving views name

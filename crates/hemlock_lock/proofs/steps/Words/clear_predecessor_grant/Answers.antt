@@ -3,9 +3,6 @@ use Rattle.hemlock_lock.specs.Rule.{grant}
 use Rattle.hemlock_lock.proofs.Kept.{clears}
 use Rattle.hemlock_lock.proofs.steps.Words.clear_predecessor_grant.Goals as goal
 
-pub grant_of-requires : goal.grant_of-requires
-grant_of-requires g c = let few = c.args.self.now.few in let within = c.requires.within in omega arith
-
 pub store-requires : goal.store-requires
 store-requires g c =
     let words = ap (λ t. t.shared.table_id.words) c.deref.ensures ∙ c.args.self.now.sized.row in
