@@ -1,6 +1,8 @@
 ghost use Rattle.topo_tree.specs.Objects.{IsLayer};
+ghost use Rattle.calc_query.specs.Selection.{HaveLayers};
 
 use super::*;
+use byte_text::Words;
 use cpu_set::CpuSet;
 use std::alloc::Global;
 use std::process::Abort;
@@ -31,15 +33,28 @@ fn selected(
     numbering: Numbering,
 ) -> Result<CpuSet, Fail> {
     let mut terms = Vec::new(alloc);
-    for word in words.split(|byte| *byte == b' ') {
-        if !word.is_empty() {
-            match read_term(alloc, topology, word, 0) {
-                Ok(term) => terms.push(term)?,
-                Err(_) => panic!(rt; "not a term"),
-            }
-        }
+    let mut reader = Words::new(words);
+    while let Some(word) = reader.next() {
+        push_term(rt, alloc, topology, &mut terms, word)?;
     }
     Ok(select(topology, terms.as_slice(), numbering))
+}
+
+// Appends the term that a word is.
+fn push_term(
+    rt: &impl Abort,
+    alloc: Global,
+    topology: &Topology,
+    terms: &mut Vec<Term>,
+    word: &[u8],
+) -> Result<(), Fail>
+    requires { HaveLayers topology.now terms.old.items }
+    ensures { HaveLayers topology.now terms.new.items }
+{
+    match read_term(alloc, topology, word, 0) {
+        Ok(term) => Ok(terms.push(term)?),
+        Err(_) => panic!(rt; "not a term"),
+    }
 }
 
 // What stands before and behind the `=` of a line.
