@@ -121,11 +121,12 @@ module _ (n : ℕ) (tag : Tag) (words seats : List ℕ) (views : List View) (q :
 
   -- the last seat, where there is one
   pub last_seat : 0 < length seats → (i : ℕ) × (j : ℕ) × (v : View) × (length seats ≡ i + 1) × (get_elem? seats i ≡ some j)
-      × (get_elem? views j ≡ some v)
+      × (get_elem? views j ≡ some v) × (v.spent ≡ false)
   last_seat some_seat =
       let t = there seats (length seats - 1) (omega arith) in
       let p = q.each_place (length seats - 1) t.0 t.1 in
-      (length seats - 1, t.0, p.view, omega arith, t.1, p.at)
+      let live = lives hemlock_discipline n tag words seats views q t.0 p.view p.at p.is in
+      (length seats - 1, t.0, p.view, omega arith, t.1, p.at, live)
 
   -- `tail` is 0 exactly where the queue is empty
   pub none_queued : slice_index words tail ≡ 0 → length seats ≡ 0
@@ -140,10 +141,7 @@ module _ (n : ℕ) (tag : Tag) (words seats : List ℕ) (views : List View) (q :
       (λ ne.
       let l = last_seat (omega arith) in
       let named : slice_index words tail ≡ own_name l.2 = q.core.chained.last l.0 l.1 l.2 l.3 l.4 l.5 in
-      let x = q.each_place l.0 l.1 l.4 in
-      let same : x.view ≡ l.2 = some-injective x.view l.2 (sym x.at ∙ l.5) in
-      let busy : is_busy false l.2.phase ≡ true = ap (λ (y : View). is_busy false y.phase) (sym same) ∙ x.is in
-      let within = name_within l.1 l.2 l.5 (lives hemlock_discipline n tag words seats views q l.1 l.2 l.5 busy) in omega arith)
+      let within = name_within l.1 l.2 l.5 l.6 in omega arith)
 
   -- a pass that waits names another
   pub queued_names : (j : ℕ) (v : View) → get_elem? views j ≡ some v → v.phase ≡ Queued → v.predecessor ≢ 0

@@ -17,7 +17,7 @@ use Rattle.lock_rules.specs.declared.view.View.{View}
 use Rattle.lock_tables.specs.Happened.{MayRest, missed_view, tested_view}
 use Rattle.lock_tables.specs.Rule.{is_busy, is_holder, IsQueued, IsLock}
 use Rattle.lock_tables.proofs.Lists.{set_at, at_end, at_below, head_cut, there, no_true, wrote_here, wrote_else}
-use Rattle.lock_tables.proofs.Queues.{IsLike, no_place, wrong_phase, lives, one_seat_of}
+use Rattle.lock_tables.proofs.Queues.{IsLike, no_place, wrong_phase, one_seat_of}
 use Rattle.lock_tables.proofs.Steps.{stays, loads, enters, enters_and_takes, takes_head, leaves}
 use Rattle.hemlock_lock.specs.Kinds.{own_name, queued_view, entered_view, granted_view, cleared_view, followed_view, left_view}
 use Rattle.hemlock_lock.specs.Kinds.{granting_view, done_view, others_wait}
@@ -337,11 +337,7 @@ module _ {V : Type 0} (fit : V → Type 0) (tag_of : V → Tag) (parked : V → 
       let l = last_seat n tag words seats views q (omega arith) in
       let named : slice_index words tail ≡ own_name l.2 = q.core.chained.last l.0 l.1 l.2 l.3 l.4 l.5 in
       let number : l.2.number ≡ v.number = omega arith in
-      let x = q.each_place l.0 l.1 l.4 in
-      let same_view : x.view ≡ l.2 = some-injective x.view l.2 (sym x.at ∙ l.5) in
-      let busy : is_busy false l.2.phase ≡ true = ap (λ (y : View). is_busy false y.phase) (sym same_view) ∙ x.is in
-      let live' = lives hemlock_discipline n tag words seats views q l.1 l.2 l.5 busy in
-      let same : l.1 ≡ id = one_seat_of hemlock_discipline n tag words seats views q id l.1 v l.2 at l.5 live live' number in
+      let same : l.1 ≡ id = one_seat_of hemlock_discipline n tag words seats views q id l.1 v l.2 at l.5 live l.6 number in
       let zero_th : l.0 ≡ 0 = q.once l.0 0 id (l.4 ∙ ap some same) first in
       let one : length seats ≡ 1 = (let a = l.3 in omega arith) in
       let cut = head_cut seats id first in

@@ -23,7 +23,7 @@ use Rattle.lock_tables.proofs.Lists.{number_is, set_at, at_below, at_end, there}
 use Rattle.lock_tables.proofs.Queues.{WasAt, lives, one_seat_of, after_split, after_join, placed_before_split, placed_before_join}
 use Rattle.hemlock_lock.specs.Kinds.{own_name}
 use Rattle.hemlock_lock.specs.Rule.{tail, grant, named_by, ungranted, passes_to, queue_of, IsLeaving, hemlock_discipline}
-use Rattle.hemlock_lock.proofs.Chains.{WasNamed, no_seats, chained_stays, busy_ungranted, last_seat}
+use Rattle.hemlock_lock.proofs.Chains.{WasNamed, no_seats, chained_stays, leaver_stays, busy_ungranted, last_seat}
 
 -- the name that the view of an unspent seat has, where its pass has one seat
 named_by_is : (views : List View) (j : ℕ) (v : View) → get_elem? views j ≡ some v → v.spent ≡ false
@@ -155,50 +155,22 @@ module _ (n : ℕ) (tag : Tag) (words seats : List ℕ) (views : List View) (q :
   -- a pass that is leaving is so behind a split
   split_leaver : (id : ℕ) (v : View) (name : ℕ) → get_elem? views id ≡ some v → IsLeaving views name
       → IsLeaving (set views id (without_next v) ++ next_split v ∷ []) name
-  split_leaver id v name at l = dite (ℕ_discrete l.seat id)
-      (λ e.
-      let same : l.view ≡ v = some-injective l.view v (sym l.at ∙ ap (get_elem? views) e ∙ at) in record {
-        seat = id;
-        view = without_next v;
-        at = at_longer (set views id (without_next v)) (next_split v ∷ []) id (without_next v) (set_at views id v (without_next v) at);
-        leaves = ap (λ (x : View). x.phase) (sym same) ∙ l.leaves;
-        is = (λ i. (sym same i).number + 1) ∙ l.is;
-      })
-      (λ ne. record {
-        seat = l.seat;
-        view = l.view;
-        at = at_longer (set views id (without_next v)) (next_split v ∷ []) l.seat l.view (set_else views id l.seat (without_next v) ne
-            ∙ l.at);
-        leaves = l.leaves;
-        is = l.is;
-      })
+  split_leaver id v name at l =
+      let m = leaver_stays views id v (without_next v) name at refl (λ e _. e) l in
+      let there_still = at_longer (set views id (without_next v)) (next_split v ∷ []) m.seat m.view m.at in
+      record { seat = m.seat; view = m.view; at = there_still; leaves = m.leaves; is = m.is }
 
   -- and behind a join
-  join_leaver : (id : ℕ) (v : View) (other : ℕ) (w : View) (name : ℕ) → get_elem? views id ≡ some v → ¬ (other ≡ id)
-      → get_elem? (set views id (joined_view v w)) other ≡ some w → w.phase ≡ Idle
-      → IsLeaving views name → IsLeaving (set (set views id (joined_view v w)) other spent_view) name
-  join_leaver id v other w name at apart at' idle l =
-      let both : View = joined_view v w in
-      let was : get_elem? views other ≡ some w = sym (set_else views id other both apart) ∙ at' in
-      let not_other : l.seat ≢ other = λ e. (
-      let same : l.view ≡ w = some-injective l.view w (sym l.at ∙ ap (get_elem? views) e ∙ was) in
-      let no : Leaving ≡ Idle = sym l.leaves ∙ ap (λ (x : View). x.phase) same ∙ idle in absurd cc) in
-      dite (ℕ_discrete l.seat id)
-      (λ e.
-      let same : l.view ≡ v = some-injective l.view v (sym l.at ∙ ap (get_elem? views) e ∙ at) in record {
-        seat = id;
-        view = both;
-        at = set_else (set views id both) other id spent_view (λ x. apart (sym x)) ∙ set_at views id v both at;
-        leaves = ap (λ (x : View). x.phase) (sym same) ∙ l.leaves;
-        is = (λ i. (sym same i).number + 1) ∙ l.is;
-      })
-      (λ ne. record {
-        seat = l.seat;
-        view = l.view;
-        at = set_else (set views id both) other l.seat spent_view not_other ∙ set_else views id l.seat both ne ∙ l.at;
-        leaves = l.leaves;
-        is = l.is;
-      })
+  join_leaver : (id : ℕ) (v : View) (other : ℕ) (w : View) (name : ℕ) → get_elem? views id ≡ some v
+      → get_elem? (set views id (joined_view v w)) other ≡ some w → w.phase ≡ Idle → IsLeaving views name
+      → IsLeaving (set (set views id (joined_view v w)) other spent_view) name
+  join_leaver id v other w name at at' idle l =
+      let m = leaver_stays views id v (joined_view v w) name at refl (λ e _. e) l in
+      let not_other : m.seat ≢ other = λ e. (
+      let same : m.view ≡ w = some-injective m.view w (sym m.at ∙ ap (get_elem? (set views id (joined_view v w))) e ∙ at') in
+      let no : Leaving ≡ Idle = sym m.leaves ∙ ap (λ (x : View). x.phase) same ∙ idle in absurd cc) in
+      let there_still = set_else (set views id (joined_view v w)) other m.seat spent_view not_other ∙ m.at in
+      record { seat = m.seat; view = m.view; at = there_still; leaves = m.leaves; is = m.is }
 
 was_named : (views : List View) (j : ℕ) (u : View) → WasAt views j u → WasNamed views j u
 was_named views j u w = record {
@@ -268,7 +240,7 @@ disciplined = record {
         (placed_before_join hemlock_discipline n tag words seats views q id v other w at at' apart idle i j u e e'));
     given = q.core.given;
     kept = q.core.kept;
-    leaver = λ ne. join_leaver n tag words seats views q id v other w q.core.named at apart at' idle (q.core.leaver ne);
+    leaver = λ ne. join_leaver n tag words seats views q id v other w q.core.named at at' idle (q.core.leaver ne);
     nameless = λ j u e free. ⊎_elim (λ (t : (j ≢ other) × WasAt views j u). still_nameless views j u q.core.nameless t.1 free)
         (λ (t : (j ≡ other) × (spent_view ≡ u)). ap (λ (x : View). x.predecessor) (sym t.1)) (after_join views id v other w at j u e);
     owing = λ j u e held some_name. ⊎_elim (λ (t : (j ≢ other) × WasAt views j u). still_owing n views j u q.core.owing t.1 held some_name)

@@ -1,5 +1,5 @@
 -- What the tokens of a Hemlock know of its table.
-use Rattle.std.proofs.Common.{◌≡◌, ◌≢◌, ℕ, ◌≤◌, Bool, refl, ap, sym, ◌∙◌, arith, Option}
+use Rattle.std.proofs.Common.{◌≡◌, ◌≢◌, ℕ, ◌+◌, ◌≤◌, Bool, refl, ap, sym, ◌∙◌, arith, Option}
 use Rattle.atomic_table.specs.Seated.{TableId}
 use Rattle.atomic_table.specs.Table.{Act}
 use Rattle.lock_rules.specs.Passes.{IsOf}
@@ -19,6 +19,10 @@ use Rattle.hemlock_lock.specs.Rule.{tail, queue_of, hemlock_discipline}
 use Rattle.hemlock_lock.proofs.Chains.{tail_within, queued_names}
 use Rattle.std.specs.Prelude.{List, slice_index}
 
+-- the mark of a token is its pass's number
+pub number_is : (z : TableId) (tag : Tag) (y : TableId) (v : View) → IsOf (lock_name Hemlock z) tag (place_of y v) → mark_of v ≡ v.number
+number_is z tag y v own = own_mark Hemlock z tag y v own v refl
+
 module _ (z : TableId) (tag : Tag) (passes : ℕ) (sized : IsSized Hemlock passes z) (y : TableId) (v : View)
     (own : IsOf (lock_name Hemlock z) tag (place_of y v)) (row : IsRowOf v y) where
   -- how many passes a token's lock has
@@ -34,12 +38,11 @@ module _ (z : TableId) (tag : Tag) (passes : ℕ) (sized : IsSized Hemlock passe
     pub own_within : own_name v ≤ passes
     own_within = let c = count_is in let b = plain.below in omega arith
 
+    pub mark_within : (x : ℕ) → x ≡ mark_of v → x + 1 ≤ passes
+    mark_within x is = let number = is ∙ number_is z tag y v own in let within = own_within in omega arith
+
     pub predecessor_within : v.predecessor ≤ passes
     predecessor_within = let c = count_is in let b = plain.predecessor_within in omega arith
-
--- the mark of a token is its pass's number
-pub number_is : (z : TableId) (tag : Tag) (y : TableId) (v : View) → IsOf (lock_name Hemlock z) tag (place_of y v) → mark_of v ≡ v.number
-number_is z tag y v own = own_mark Hemlock z tag y v own v refl
 
 module _ {V : Type 0} (fit : V → Type 0) (tag_of : V → Tag) (parked : V → Bool) where
   -- a name that a swap of `tail` found is one of the lock's

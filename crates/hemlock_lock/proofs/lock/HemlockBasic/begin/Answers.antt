@@ -3,14 +3,13 @@ use Rattle.lock_rules.specs.Tokens.{view_of}
 use Rattle.lock_rules.specs.Views.{IsPlain}
 use Rattle.lock_rules.proofs.Names.{own_table}
 use Rattle.hemlock_lock.specs.Kinds.{queued_view}
-use Rattle.hemlock_lock.proofs.Tokens.{own_within, number_is, swapped_within, queued_plain}
+use Rattle.hemlock_lock.proofs.Tokens.{mark_within, number_is, swapped_within, queued_plain}
 use Rattle.hemlock_lock.proofs.lock.HemlockBasic.begin.Goals as goal
 
 pub overflow_add-number : goal.overflow_add-number
 overflow_add-number g c =
-    let number = c.into_parts-seat.ensures.mark ∙ number_is _ _ _ (view_of c.args.pass.badge) c.requires.own in
-    let within = own_within _ _ _ c.args.self.now.words.sized _ (view_of c.args.pass.badge) c.requires.own c.args.pass.idle.row
-    c.args.pass.idle.plain in
+    let within = mark_within _ _ _ c.args.self.now.words.sized _ (view_of c.args.pass.badge) c.requires.own c.args.pass.idle.row
+    c.args.pass.idle.plain _ c.into_parts-seat.ensures.mark in
     let few = c.args.self.now.words.few in omega arith
 
 pub swap_tail-predecessor-requires-clause-table : goal.swap_tail-predecessor-requires-clause-table

@@ -6,7 +6,7 @@ use Rattle.lock_rules.proofs.Names.{own_table}
 use Rattle.lock_tables.specs.Happened.{missed_view}
 use Rattle.hemlock_lock.specs.Kinds.{own_name, followed_view, granting_view}
 use Rattle.hemlock_lock.proofs.Releases.{left_is, granted_is, waited_is, done_is}
-use Rattle.hemlock_lock.proofs.Tokens.{own_within, number_is, followed_plain, waited_plain}
+use Rattle.hemlock_lock.proofs.Tokens.{mark_within, number_is, followed_plain, waited_plain}
 use Rattle.hemlock_lock.proofs.lock.HemlockBasic.begin_release.Goals as goal
 
 pub put-requires-clause-table : goal.put-requires-clause-table
@@ -15,9 +15,8 @@ put-requires-clause-table g c = ap (λ s. s.table_id) c.into_parts-seat.ensures.
 
 pub overflow_add-own : goal.overflow_add-own
 overflow_add-own g c =
-    let number = c.into_parts-seat.ensures.marks.0 ∙ c.args.held.seat.marked ∙ number_is _ _ _ (held_view c.args.held) c.requires.own in
-    let within = own_within _ _ _ c.args.self.now.words.sized _ (held_view c.args.held) c.requires.own c.args.held.seat.row
-    c.args.held.seat.plain in
+    let within = mark_within _ _ _ c.args.self.now.words.sized _ (held_view c.args.held) c.requires.own c.args.held.seat.row
+    c.args.held.seat.plain _ (c.into_parts-seat.ensures.marks.0 ∙ c.args.held.seat.marked) in
     let few = c.args.self.now.words.few in omega arith
 
 pub exchange_tail-requires-clause-table : goal.exchange_tail-requires-clause-table
@@ -55,9 +54,8 @@ store_grant-requires-clause-name g c =
 
 pub store_grant-requires-clause-within : goal.store_grant-requires-clause-within
 store_grant-requires-clause-within g c =
-    let number = c.into_parts-seat.ensures.marks.0 ∙ c.args.held.seat.marked ∙ number_is _ _ _ (held_view c.args.held) c.requires.own in
-    let within = own_within _ _ _ c.args.self.now.words.sized _ (held_view c.args.held) c.requires.own c.args.held.seat.row
-    c.args.held.seat.plain in omega arith
+    let within = mark_within _ _ _ c.args.self.now.words.sized _ (held_view c.args.held) c.requires.own c.args.held.seat.row
+    c.args.held.seat.plain _ (c.into_parts-seat.ensures.marks.0 ∙ c.args.held.seat.marked) in omega arith
 
 pub load_grant-requires-clause-table : goal.load_grant-requires-clause-table
 load_grant-requires-clause-table g c =
@@ -75,9 +73,8 @@ load_grant-requires-clause-name g c =
 
 pub load_grant-requires-clause-within : goal.load_grant-requires-clause-within
 load_grant-requires-clause-within g c =
-    let number = c.into_parts-seat.ensures.marks.0 ∙ c.args.held.seat.marked ∙ number_is _ _ _ (held_view c.args.held) c.requires.own in
-    let within = own_within _ _ _ c.args.self.now.words.sized _ (held_view c.args.held) c.requires.own c.args.held.seat.row
-    c.args.held.seat.plain in omega arith
+    let within = mark_within _ _ _ c.args.self.now.words.sized _ (held_view c.args.held) c.requires.own c.args.held.seat.row
+    c.args.held.seat.plain _ (c.into_parts-seat.ensures.marks.0 ∙ c.args.held.seat.marked) in omega arith
 
 pub returns-then-exchange_tail-own-clause-released : goal.returns-then-exchange_tail-own-clause-released
 returns-then-exchange_tail-own-clause-released g c =
