@@ -1,3 +1,6 @@
 pub mod Picks
 pub mod Candidates
 pub mod Selection
+pub mod Readings
+pub mod Answers
+pub mod Laws

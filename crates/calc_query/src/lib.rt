@@ -2,10 +2,22 @@
 //! hwloc-calc answers them, in this project's profile.
 #![tactic(auto)]
 
+mod answers;
 mod candidates;
+mod fault;
+mod indexes;
+mod laws;
 mod picks;
 mod query;
+mod reading;
 mod selecting;
 
+pub use answers::{hierarchical, intersecting, largest};
+pub use fault::CalcFault;
+pub use laws::{no_terms_select_nothing, paths_are_chains};
 pub use query::{Location, Numbering, Op, Part, Path, Pick, Step2, Term};
+pub use reading::{read_location, read_term};
 pub use selecting::select;
+
+#[cfg(test)]
+mod tests;

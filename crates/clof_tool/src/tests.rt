@@ -389,6 +389,39 @@ fn takes_values_and_keys_up_to_their_limits(rt: HostRuntime) -> Result<(), Fail>
     serves(&rt, alloc, b"set k 0 0 4294967295\r\nx\r\n", &[], 25)
 }
 
+// The section that stores 2,000 keys, asks for each by itself, and then for all in one line.
+fn many_commands(alloc: Global) -> Result<Vec<u8>, Fail> {
+    let (mut section, mut last) = (Vec::new(alloc), Vec::new(alloc));
+    last.extend_from_slice(b"get")?;
+    for number in 1_000..3_000_u64 {
+        let mut key = Vec::new(alloc);
+        key.extend_from_slice(b" k")?;
+        byte_text::push_decimal(&mut key, number)?;
+        last.extend_from_slice(&key)?;
+        section.extend_from_slice(b"set")?;
+        section.extend_from_slice(&key)?;
+        section.extend_from_slice(b" 0 0 1\r\nx\r\nget")?;
+        section.extend_from_slice(&key)?;
+        section.extend_from_slice(b"\r\n")?;
+    }
+    last.extend_from_slice(b"\r\n")?;
+    section.extend_from_slice(&last)?;
+    Ok(section)
+}
+
+// Many commands are no excuse, nor are many keys.
+#[test]
+fn serves_many_commands_and_keys(rt: HostRuntime) -> Result<(), Fail> {
+    let alloc = rt.alloc();
+    let mut input = Vec::new(alloc);
+    push_input(&mut input, &many_commands(alloc)?)?;
+    let ended = call(&rt, alloc, &["run"], input)?;
+    assert_eq!(rt; ended.status, Status::Ok);
+    let end = b"VALUE k2999 0 1\\r\\nx\\r\\nEND\\r\\n\"\ncaller 0 pu 0 commands 4001 rest 0\n";
+    assert!(rt; ended.out.ends_with(end));
+    Ok(())
+}
+
 #[test]
 fn takes_an_input_up_to_its_limit(rt: HostRuntime) -> Result<(), Fail> {
     let alloc = rt.alloc();

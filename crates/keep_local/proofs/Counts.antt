@@ -1,5 +1,6 @@
 -- How often callers stand in lists and tallies.
-use Rattle.std.proofs.Common.{◌≡◌, ◌≢◌, ℕ, suc, ◌+◌, ◌<◌, ◌≤◌, Bool, true, false, cond, ◌&&◌, List, [], ◌∷◌, ◌++◌, map, length, get_or, nat_le, nat_lt, ◌==◌, eq-eqb, ne_eqb, refl, ap, sym, subst, arith}
+use Rattle.std.proofs.Common.{◌≡◌, ◌≢◌, ℕ, suc, ◌+◌, ◌<◌, ◌≤◌, Bool, true, false, cond, ◌&&◌, List, [], ◌∷◌, ◌++◌, map, length, get_or}
+use Rattle.std.proofs.Common.{nat_le, nat_lt, ◌==◌, eq-eqb, ne_eqb, refl, ap, sym, subst, arith}
 use Rattle.std.specs.Prelude.{slice_index, sum, All}
 use Rattle.std.specs.List.{count_by, enumerate_from}
 use Rattle.std.proofs.lemmas.List.Sums.{sum_by-cons, sum_by-append, sum_by_push}
@@ -16,10 +17,12 @@ pub times_push : (k : ℕ) (xs : List ℕ) (x : ℕ) → times k (xs ++ x ∷ []
 times_push k xs x = sum_by_push (λ (y : ℕ). one_if (y == k)) xs x
 
 pub times_same : (k : ℕ) (xs : List ℕ) (x : ℕ) → x ≡ k → times k (xs ++ x ∷ []) ≡ times k xs + 1
-times_same k xs x e = let b : (x == k) ≡ true = eq-eqb x k e in let p = times_push k xs x in let q : one_if (x == k) ≡ 1 = ap one_if b in omega (arith, p, q)
+times_same k xs x e = let b : (x == k) ≡ true = eq-eqb x k e in let p = times_push k xs x in let q : one_if (x == k) ≡ 1 = ap one_if b in
+    omega (arith, p, q)
 
 pub times_other : (k : ℕ) (xs : List ℕ) (x : ℕ) → x ≢ k → times k (xs ++ x ∷ []) ≡ times k xs
-times_other k xs x n = let b : (x == k) ≡ false = ne_eqb x k n in let p = times_push k xs x in let q : one_if (x == k) ≡ 0 = ap one_if b in omega (arith, p, q)
+times_other k xs x n = let b : (x == k) ≡ false = ne_eqb x k n in let p = times_push k xs x in
+    let q : one_if (x == k) ≡ 0 = ap one_if b in omega (arith, p, q)
 
 -- the callers from a number on are those of this number and those behind it
 abbrev from : ℕ → List ℕ → ℕ
@@ -46,9 +49,11 @@ from_past k (x ∷ xs) h =
 
 from_zero : (xs : List ℕ) → from 0 xs ≡ length xs
 from_zero [] = refl
-from_zero (x ∷ xs) = let a = sum_by-cons (λ (y : ℕ). one_if (nat_le 0 y)) x xs in let d : one_if (nat_le 0 x) ≡ 1 = grind (arith, nat_tests) in omega (arith, a, d, from_zero xs)
+from_zero (x ∷ xs) = let a = sum_by-cons (λ (y : ℕ). one_if (nat_le 0 y)) x xs in
+    let d : one_if (nat_le 0 x) ≡ 1 = grind (arith, nat_tests) in omega (arith, a, d, from_zero xs)
 
-fit_from : (k : ℕ) (quotas callers : List ℕ) → All (λ x. x < k + length quotas) callers → ((i : ℕ) → i < length quotas → times (k + i) callers ≤ slice_index quotas i) → from k callers ≤ sum quotas
+fit_from : (k : ℕ) (quotas callers : List ℕ) → All (λ x. x < k + length quotas) callers
+    → ((i : ℕ) → i < length quotas → times (k + i) callers ≤ slice_index quotas i) → from k callers ≤ sum quotas
 fit_from k [] callers known within =
     let none : All (λ x. x < k) callers = λ i d h. let p : get_or callers i d < k + 0 = known i d h in omega arith in
     let p = from_past k callers none in
@@ -58,14 +63,18 @@ fit_from k (q ∷ quotas) callers known within =
     let here : times k callers ≤ q = subst (λ (n : ℕ). times n callers ≤ q) zero_more (within 0 (omega arith)) in
     let later : from (k + 1) callers ≤ sum quotas = fit_from (k + 1) quotas callers
     (λ i d h. let p : get_or callers i d < k + length (q ∷ quotas) = known i d h in omega arith)
-    (λ i h. let p : times (k + suc i) callers ≤ slice_index quotas i = within (suc i) (omega arith) in let e : k + suc i ≡ k + 1 + i = omega arith in rw (← e) p) in
+    (λ i h. let p : times (k + suc i) callers ≤ slice_index quotas i = within (suc i) (omega arith) in
+    let e : k + suc i ≡ k + 1 + i = omega arith in rw (← e) p) in
     let s = sum_by-cons (λ (x : ℕ). x) q quotas in
     omega (arith, here, later, s, from_next k callers)
 
 -- where no caller has more turns than its quota, there are no more turns than the quotas add up to
-pub turns_fit : (quotas callers : List ℕ) → All (λ x. x < length quotas) callers → ((k : ℕ) → k < length quotas → times k callers ≤ slice_index quotas k) → length callers ≤ sum quotas
+pub turns_fit : (quotas callers : List ℕ) → All (λ x. x < length quotas) callers
+    → ((k : ℕ) → k < length quotas → times k callers ≤ slice_index quotas k) → length callers ≤ sum quotas
 turns_fit quotas callers known within =
-    let all : from 0 callers ≤ sum quotas = fit_from 0 quotas callers (λ i d h. let p : get_or callers i d < length quotas = known i d h in omega arith) (λ i h. let e : 0 + i ≡ i = omega arith in rw e (within i h)) in
+    let all : from 0 callers ≤ sum quotas =
+    fit_from 0 quotas callers (λ i d h. let p : get_or callers i d < length quotas = known i d h in
+    omega arith) (λ i h. let e : 0 + i ≡ i = omega arith in rw e (within i h)) in
     omega (arith, all, from_zero callers)
 
 -- how often a number is that of a tally
@@ -89,15 +98,18 @@ none_tallied k [] e = λ i d h. absurd (omega arith)
 none_tallied k (t ∷ ts) e =
     let p = tallied-cons k t ts in
     All-cons (λ (u : Tally). u.caller ≢ k) t ts
-    (λ same. let b : (t.caller == k) ≡ true = eq-eqb t.caller k same in let q : one_if (t.caller == k) ≡ 1 = ap one_if b in omega (arith, p, q, e))
+    (λ same. let b : (t.caller == k) ≡ true = eq-eqb t.caller k same in let q : one_if (t.caller == k) ≡ 1 = ap one_if b in
+    omega (arith, p, q, e))
     (none_tallied k ts (omega (arith, p, e)))
 
 -- the callers who have made no turn have each number in a span once
-pub span_tallied : (k from : ℕ) (quotas : List ℕ) → tallied k (map new_tally (enumerate_from from quotas)) ≡ one_if (nat_le from k && nat_lt k (from + length quotas))
+pub span_tallied : (k from : ℕ) (quotas : List ℕ)
+    → tallied k (map new_tally (enumerate_from from quotas)) ≡ one_if (nat_le from k && nat_lt k (from + length quotas))
 span_tallied k from [] = let d : one_if (nat_le from k && nat_lt k (from + 0)) ≡ 0 = grind (arith, nat_tests) in sym d
 span_tallied k from (q ∷ quotas) =
     let p = tallied-cons k (new_tally (from, q)) (map new_tally (enumerate_from (from + 1) quotas)) in
     let r = span_tallied k (from + 1) quotas in
     let n : ℕ = length quotas in
-    let d : one_if (nat_le from k && nat_lt k (from + suc n)) ≡ one_if (from == k) + one_if (nat_le (from + 1) k && nat_lt k (from + 1 + n)) = grind (arith, nat_tests) in
+    let d : one_if (nat_le from k && nat_lt k (from + suc n)) ≡ one_if (from == k) + one_if
+    (nat_le (from + 1) k && nat_lt k (from + 1 + n)) = grind (arith, nat_tests) in
     omega (arith, p, r, d)

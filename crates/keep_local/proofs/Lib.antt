@@ -1,3 +1,4 @@
+pub mod Sums
 pub mod Counts
 pub mod Tied
 pub mod Seated
@@ -8,3 +9,4 @@ pub mod Logs
 pub mod Steps
 pub mod Lawful
 pub mod Checked
+pub mod Noting

@@ -1,5 +1,6 @@
 -- Runs and lawful turns, one turn after another.
-use Rattle.std.proofs.Common.{◌≡◌, ◌≢◌, ℕ, ◌+◌, ◌-◌, ◌<◌, ◌≤◌, Bool, true, false, cond, not, List, [], ◌∷◌, ◌++◌, length, drop, ◌==◌, nat_lt, eq-eqb, ne_eqb, refl, ap, sym, ◌∙◌, subst, arith, length-append, append_assoc}
+use Rattle.std.proofs.Common.{◌≡◌, ◌≢◌, ℕ, ◌+◌, ◌-◌, ◌<◌, ◌≤◌, Bool, true, false, cond, not, List, [], ◌∷◌, ◌++◌, length, drop, ◌==◌}
+use Rattle.std.proofs.Common.{nat_lt, eq-eqb, ne_eqb, refl, ap, sym, ◌∙◌, subst, arith, length-append, append_assoc}
 use Rattle.std.specs.Prelude.{All}
 use Rattle.std.specs.List.{sum_by, count_by, after_last, suffix_len, prefix_len}
 use Rattle.std.proofs.lemmas.List.{reverse-append, drop-append-le, append-nil, length-drop}
@@ -15,7 +16,8 @@ use Rattle.keep_local.specs.Turns.{run, Follows, FollowEachOther, IsLawful}
 
 module _ {A : Type 0} where
   drop_whole : (xs : List A) → drop (length xs - 0) xs ≡ []
-  drop_whole xs = let e : length xs - 0 ≡ length xs = omega arith in ap (λ (n : ℕ). drop n xs) e ∙ ap (drop (length xs)) (sym (append-nil xs)) ∙ drop-append_seam xs []
+  drop_whole xs = let e : length xs - 0 ≡ length xs = omega arith in
+      ap (λ (n : ℕ). drop n xs) e ∙ ap (drop (length xs)) (sym (append-nil xs)) ∙ drop-append_seam xs []
 
   -- what stands behind the last element that passes, with one more element
   pub after_last-push : (p : A → Bool) (xs : List A) (x : A) → after_last p (xs ++ x ∷ []) ≡ cond (p x) [] (after_last p xs ++ x ∷ [])
@@ -49,7 +51,8 @@ module _ (level : ℕ) where
   run_more : (turns : List Turn) (t : Turn) → above t ≡ false → run level (turns ++ t ∷ []) ≡ run level turns + here t
   unfolding run
   run_more turns t e =
-      let same : after_last above (turns ++ t ∷ []) ≡ after_last above turns ++ t ∷ [] = after_last-push above turns t ∙ ap (λ (b : Bool). cond b [] (after_last above turns ++ t ∷ [])) e in
+      let same : after_last above (turns ++ t ∷ []) ≡ after_last above turns ++ t ∷ [] = after_last-push above turns t
+      ∙ ap (λ (b : Bool). cond b [] (after_last above turns ++ t ∷ [])) e in
       ap (sum_by here) same ∙ sum_by_push here (after_last above turns) t
 
   -- one more turn that left at this level
@@ -84,17 +87,24 @@ run-le-length level turns =
     omega (arith, a, b)
 
 -- a lawful list with one more turn
-pub follow_push : (shape : Shape) (before turns : List Turn) (t : Turn) → FollowEachOther shape before turns → Follows shape (before ++ turns) t → FollowEachOther shape before (turns ++ t ∷ [])
+pub follow_push : (shape : Shape) (before turns : List Turn) (t : Turn) → FollowEachOther shape before turns
+    → Follows shape (before ++ turns) t → FollowEachOther shape before (turns ++ t ∷ [])
 follow_push shape before [] t all last = (subst (λ (b : List Turn). Follows shape b t) (append-nil before) last, tt)
-follow_push shape before (u ∷ us) t all last = (all.0, follow_push shape (before ++ u ∷ []) us t all.1 (subst (λ (b : List Turn). Follows shape b t) (sym (append_assoc before (u ∷ []) us)) last))
+follow_push shape before (u ∷ us) t all last = (
+  all.0,
+  follow_push shape (before ++ u ∷ []) us t all.1
+      (subst (λ (b : List Turn). Follows shape b t) (sym (append_assoc before (u ∷ []) us)) last),
+)
 
-pub lawful_push : (shape : Shape) (turns : List Turn) (t : Turn) → IsLawful shape turns → Follows shape turns t → IsLawful shape (turns ++ t ∷ [])
+pub lawful_push : (shape : Shape) (turns : List Turn) (t : Turn) → IsLawful shape turns → Follows shape turns t
+    → IsLawful shape (turns ++ t ∷ [])
 lawful_push shape turns t all last = follow_push shape [] turns t all last
 
 -- no turn of a lawful list left above the top
 lefts_within : (shape : Shape) (before turns : List Turn) → FollowEachOther shape before turns → All (λ t. t.left ≤ top_of shape) turns
 lefts_within shape before [] all = All-nil (λ (t : Turn). t.left ≤ top_of shape)
-lefts_within shape before (t ∷ ts) all = All-cons (λ (u : Turn). u.left ≤ top_of shape) t ts all.0.ends.left.within (lefts_within shape (before ++ t ∷ []) ts all.1)
+lefts_within shape before (t ∷ ts) all =
+    All-cons (λ (u : Turn). u.left ≤ top_of shape) t ts all.0.ends.left.within (lefts_within shape (before ++ t ∷ []) ts all.1)
 
 none_left : (level : ℕ) (turns : List Turn) → All (λ t. t.left < level) turns → count_by (λ t. t.left == level) turns ≡ 0
 none_left level [] h = refl
@@ -109,5 +119,8 @@ none_left level (t ∷ ts) h =
 pub run_above : (shape : Shape) (level : ℕ) (turns : List Turn) → IsLawful shape turns → top_of shape < level → run level turns ≡ 0
 unfolding run
 run_above shape level turns lawful above =
-    let lower : All (λ t. t.left < level) turns = All-weaker (λ (t : Turn). t.left ≤ top_of shape) (λ (t : Turn). t.left < level) (λ t h. omega arith) turns (lefts_within shape [] turns lawful) in
-    none_left level (after_last (λ t. nat_lt level t.left) turns) (All-drop (λ (t : Turn). t.left < level) (length turns - suffix_len (λ t. not (nat_lt level t.left)) turns) turns lower)
+    let lower : All (λ t. t.left < level) turns =
+    All-weaker (λ (t : Turn). t.left ≤ top_of shape) (λ (t : Turn). t.left < level) (λ t h. omega arith) turns
+    (lefts_within shape [] turns lawful) in
+    none_left level (after_last (λ t. nat_lt level t.left) turns)
+    (All-drop (λ (t : Turn). t.left < level) (length turns - suffix_len (λ t. not (nat_lt level t.left)) turns) turns lower)

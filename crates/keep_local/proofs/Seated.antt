@@ -19,16 +19,20 @@ pub view_is : (a b : Badge View) (v w : View) → a ≡ b → b.views ≡ v ∷ 
 view_is a b v w same is was = ap view_or (sym was ∙ ap (λ (x : Badge View). x.views) same ∙ is)
 
 -- the seat of a share is at the trail's table
-pub at_table : (a b : Badge View) (z : TableId) (share share' : ShareState) (tie tie' : TieState) → z ≡ a.table_id → a ≡ b → b.table_id ≡ share.name → share ≡ share' → share'.name ≡ tie'.name → tie ≡ tie' → z ≡ tie.name
-at_table a b z share share' tie tie' e same named s own t = e ∙ ap (λ (x : Badge View). x.table_id) same ∙ named ∙ ap (λ (x : ShareState). x.name) s ∙ own ∙ sym (ap (λ (x : TieState). x.name) t)
+pub at_table : (a b : Badge View) (z : TableId) (share share' : ShareState) (tie tie' : TieState) → z ≡ a.table_id → a ≡ b
+    → b.table_id ≡ share.name → share ≡ share' → share'.name ≡ tie'.name → tie ≡ tie' → z ≡ tie.name
+at_table a b z share share' tie tie' e same named s own t = e ∙ ap (λ (x : Badge View). x.table_id) same ∙ named
+    ∙ ap (λ (x : ShareState). x.name) s ∙ own ∙ sym (ap (λ (x : TieState). x.name) t)
 
 -- the home seat with a share's tally
-pub joined_is : (before after : Seated) (w : View) (quotas callers : List ℕ) (t : Tally) → after ≡ (joined_view before.0 w, before.1) → before ≡ (home_view quotas callers [], []) → w ≡ share_view t
+pub joined_is : (before after : Seated) (w : View) (quotas callers : List ℕ) (t : Tally) → after ≡ (joined_view before.0 w, before.1)
+    → before ≡ (home_view quotas callers [], []) → w ≡ share_view t
     → after ≡ (home_view quotas callers (t ∷ []), [])
 joined_is before after w quotas callers t e b s = e ∙ (λ i. (joined_view (b i).0 (s i), (b i).1))
 
 -- what the home seat is told of a share's tally
-pub tally_is : (me : Seated) (found : ℕ) (quotas callers : List ℕ) (t : Tally) → me ≡ (home_view quotas callers (t ∷ []), []) → IsTold me.0 found → IsTallyOf quotas callers t
+pub tally_is : (me : Seated) (found : ℕ) (quotas callers : List ℕ) (t : Tally) → me ≡ (home_view quotas callers (t ∷ []), [])
+    → IsTold me.0 found → IsTallyOf quotas callers t
 tally_is me found quotas callers t e told =
     let v : View = home_view quotas callers (t ∷ []) in
     let told' : IsTold v found = subst (λ (m : Seated). IsTold m.0 found) e told in

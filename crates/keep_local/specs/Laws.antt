@@ -7,10 +7,12 @@ use Rattle.keep_local.specs.declared.turn.Turn.{Turn}
 use Rattle.keep_local.specs.Shapes.{top_of}
 use Rattle.keep_local.specs.Turns.{run, climb_after, Follows, IsLawful}
 
--- Among lawful turns, any that stand together without one that left higher than a level have at most as many that left at this level as it keeps:
+-- Among lawful turns, any that stand together without one that left higher than a level have at most as many that left at this level as
+-- it keeps:
 -- so between two turns that left higher, and before the first
 abbrev pub KeepsAtMost : Type 0
-KeepsAtMost = (shape : Shape) (level : ℕ) (before between after : List Turn) → IsLawful shape (before ++ (between ++ after)) → level < top_of shape
+KeepsAtMost = (shape : Shape) (level : ℕ) (before between after : List Turn) → IsLawful shape (before ++ (between ++ after))
+    → level < top_of shape
     → All (λ t. t.left ≤ level) between → count_by (λ t. t.left == level) between ≤ slice_index shape.keeps level
 
 -- the least level whose test is set and whose run is below its keep, or the top
@@ -19,7 +21,8 @@ left_of shape before tests = position_or_len (λ at. bit_at tests at.0 == 1 && n
 
 -- the turn that this caller makes behind these turns, with these tests
 abbrev pub turn_after : Shape → List Turn → ℕ → ℕ → Turn
-turn_after shape before caller tests = record { caller = caller; climb = climb_after shape before; tests = tests; left = left_of shape before tests }
+turn_after shape before caller tests =
+    record { caller = caller; climb = climb_after shape before; tests = tests; left = left_of shape before tests }
 
 -- a turn that follows others is fixed by the shape, these, its caller and its tests
 abbrev pub TurnIsFixed : Type 0

@@ -29,4 +29,5 @@ pub record IsWellFormed (shape : Shape) : Type 0 where
   -- there is one node at the top
   pub one_top : (w : ℕ) → w < callers_of shape → node_of shape w (top_of shape) ≡ 0
   -- two callers with one node at a level have one node at every higher level
-  pub nested : (v w j k : ℕ) → v < callers_of shape → w < callers_of shape → j < k → k ≤ top_of shape → node_of shape v j ≡ node_of shape w j → node_of shape v k ≡ node_of shape w k
+  pub nested : (v w j k : ℕ) → v < callers_of shape → w < callers_of shape → j < k → k ≤ top_of shape
+      → node_of shape v j ≡ node_of shape w j → node_of shape v k ≡ node_of shape w k

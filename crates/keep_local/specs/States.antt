@@ -1,5 +1,6 @@
 -- What a trail and a share are seen as.
-use Rattle.std.specs.Prelude.{◌≡◌, ℕ, ◌+◌, ◌^◌, ◌<◌, ◌≤◌, Bool, if◌then◌else◌, List, [], ◌∷◌, ◌++◌, length, map, min, sum, slice_index, All, IfSome, IfNone, Option, Some, None, bit_or}
+use Rattle.std.specs.Prelude.{◌≡◌, ℕ, ◌+◌, ◌^◌, ◌<◌, ◌≤◌, Bool, if◌then◌else◌, List, [], ◌∷◌, ◌++◌, length, map, min, sum, slice_index}
+use Rattle.std.specs.Prelude.{All, IfSome, IfNone, Option, Some, None, bit_or}
 use Rattle.std.specs.Int.{bit_at}
 use Rattle.std.specs.List.{enumerate_from}
 use Rattle.atomic_table.specs.Seated.{TableId}
@@ -9,7 +10,8 @@ use Rattle.keep_local.specs.Views.{times}
 use Rattle.keep_local.specs.Shapes.{top_of, callers_of, IsWellFormed}
 use Rattle.keep_local.specs.Turns.{turns_of, IsLeft, IsLawfulTrail}
 
--- A trail: what tells its table from all others, its shape, the callers' quotas, the closed turns, the open turn, and how many levels were noted for it
+-- A trail: what tells its table from all others, its shape, the callers' quotas, the closed turns, the open turn, and how many levels
+-- were noted for it
 pub record TrailState : Type 0 where
   pub name : TableId
   pub shape : Shape
@@ -38,7 +40,8 @@ new_share name at = record { name = name; caller = at.0; made = 0; quota = at.1 
 abbrev pub new_shares : TableId → List ℕ → List ShareState
 new_shares name quotas = map (new_share name) (enumerate_from 0 quotas)
 
--- what the table's rule says of a share: its caller is one of those with quotas, its quota is that one, and it has made as many turns as its number stands in the list
+-- what the table's rule says of a share: its caller is one of those with quotas, its quota is that one, and it has made as many turns as
+-- its number stands in the list
 pub record IsCounted (t : TieState) (share : ShareState) : Type 0 where
   pub own : share.name ≡ t.name
   pub known : share.caller < length t.quotas
@@ -56,7 +59,8 @@ all_turns s = s.closed ++ option_list s.current
 abbrev pub callers_in : List Turn → List ℕ
 callers_in turns = map (λ t. t.caller) turns
 
--- a share of this trail: its caller is one of the shape's, with its quota, and `made` is the number of this caller's turns, an open one included
+-- a share of this trail: its caller is one of the shape's, with its quota, and `made` is the number of this caller's turns, an open one
+-- included
 pub record IsShareOf (s : TrailState) (share : ShareState) : Type 0 where
   pub own : share.name ≡ s.name
   pub known : share.caller < callers_of s.shape

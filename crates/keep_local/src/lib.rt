@@ -1,4 +1,8 @@
-//! Turns, and the shares by which callers make them.
+//! The record of all holds of a lock of several levels: a `Trail` of turns, and the `Share`s by which callers make them.
+//!
+//! A turn is lawful where it keeps the keep-local rule of CLoF (Chehab and others, "CLoF: A Compositional Lock Framework for Multi-level
+//! NUMA Systems", SOSP 2021): a level hands the lock over to its own callers while somebody is queued there, at most as often as its keep.
+//! `is_lawful` is a plain and slow program that computes this.
 #![tactic(auto)]
 
 mod checker;
@@ -6,6 +10,8 @@ mod laws;
 mod plays;
 mod shape;
 mod share;
+#[cfg(test)]
+mod tests;
 mod tie;
 mod trail;
 mod tree;

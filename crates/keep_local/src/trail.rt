@@ -1,8 +1,10 @@
 //! The record of all holds of a lock.
-ghost use Rattle.std.specs.Prelude.{◌≡◌, ℕ, ◌+◌, ◌^◌, ◌<◌, ◌≤◌, ◌↔◌, [], ◌∷◌, ◌++◌, length, sum, slice_index, IfOk, IfSome, IsSome, IsTrue, None, Some, option_map};
+ghost use Rattle.std.specs.Prelude.{◌≡◌, ℕ, ◌+◌, ◌^◌, ◌<◌, ◌≤◌, ◌↔◌, [], ◌∷◌, ◌++◌, length, sum, slice_index, IfOk, IfSome, IsSome};
+ghost use Rattle.std.specs.Prelude.{IsTrue, None, Some, option_map};
 ghost use Rattle.keep_local.specs.Shapes.{IsWellFormed, top_of, callers_of};
 ghost use Rattle.keep_local.specs.Turns.{run, Begins};
-ghost use Rattle.keep_local.specs.States.{IsTrail, IsShareOf, MayLeave, all_turns, left_at, new_shares, new_trail, opened, option_list, tested, with_test as set_where_queued};
+ghost use Rattle.keep_local.specs.States.{IsTrail, IsShareOf, MayLeave, all_turns, left_at, new_shares, new_trail, opened, option_list};
+ghost use Rattle.keep_local.specs.States.{tested, with_test as set_where_queued};
 
 use crate::shape::Shape;
 use crate::share::Share;
@@ -46,7 +48,8 @@ impl Model for Trail {
 }
 
 impl Trail {
-    /// A trail without turns, for callers with these paths, and a share for each caller with its quota, in order. It takes the room for every turn.
+    /// A trail without turns, for callers with these paths, and a share for each caller with its quota, in order. It takes the room for
+    /// every turn.
     pub fn reserve(
         alloc: Global,
         shape: Shape,
@@ -115,7 +118,12 @@ impl Trail {
     pub fn leave(&mut self, level: u32)
         requires open { IsSome self.old.current }
         requires may { IfSome self.old.current (MayLeave self.old level) }
-        ensures left { self.new ≡ record self.old { closed = self.old.closed ++ option_list (option_map (λ t. left_at t level) self.old.current); current = None; noted = 0 } }
+        ensures left { self.new ≡ record self.old {
+          closed =
+              self.old.closed ++ option_list (option_map (λ t. left_at t level) self.old.current);
+          current = None;
+          noted = 0;
+        } }
         ensures lawful { IsTrail self.new }
     {
         let log = &mut *self.log;

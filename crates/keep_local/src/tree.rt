@@ -5,8 +5,8 @@ ghost use Rattle.keep_local.specs.Shapes.{HasNode, IsWellFormed, top_of, callers
 use crate::shape::Shape;
 
 impl Shape {
-    /// Whether a trail can be reserved for it: at most 32 levels below the top, paths with a node for each level, nodes that are numbered from 0 without
-    /// gaps at each level, one node at the top, and callers that stay under one node once they are.
+    /// Whether a trail can be reserved for it: at most 32 levels below the top, paths with a node for each level, nodes that are
+    /// numbered from 0 without gaps at each level, one node at the top, and callers that stay under one node once they are.
     pub fn is_well_formed(&self) -> bool
         ensures { IsTrue result ↔ IsWellFormed self.now }
     {
@@ -57,7 +57,8 @@ fn has_one_top(shape: &Shape) -> bool
 // Whether no level has a gap in the numbers of its nodes.
 fn has_no_gaps(shape: &Shape) -> bool
     requires { top_of shape.now ≤ 32 }
-    ensures { IsTrue result ↔ ((w : ℕ) → w < callers_of shape.now → (k : ℕ) → k ≤ top_of shape.now → (n : ℕ) → n < node_of shape.now w k → HasNode shape.now k n) }
+    ensures { IsTrue result ↔ ((w : ℕ) → w < callers_of shape.now → (k : ℕ) → k ≤ top_of shape.now → (n : ℕ)
+        → n < node_of shape.now w k → HasNode shape.now k n) }
 {
     for w in 0..shape.callers() {
         if !has_no_gaps_beside(shape, w) {
@@ -107,7 +108,8 @@ fn has_node(shape: &Shape, k: usize, n: u32) -> bool
 // Whether any two callers under one node stay so at every higher level.
 fn is_nested(shape: &Shape) -> bool
     requires { top_of shape.now ≤ 32 }
-    ensures { IsTrue result ↔ ((v w j k : ℕ) → v < callers_of shape.now → w < callers_of shape.now → j < k → k ≤ top_of shape.now → node_of shape.now v j ≡ node_of shape.now w j → node_of shape.now v k ≡ node_of shape.now w k) }
+    ensures { IsTrue result ↔ ((v w j k : ℕ) → v < callers_of shape.now → w < callers_of shape.now → j < k → k ≤ top_of shape.now
+        → node_of shape.now v j ≡ node_of shape.now w j → node_of shape.now v k ≡ node_of shape.now w k) }
 {
     for v in 0..shape.callers() {
         if !is_nested_with(shape, v) {
@@ -120,7 +122,8 @@ fn is_nested(shape: &Shape) -> bool
 // The same of one caller and any other.
 fn is_nested_with(shape: &Shape, v: usize) -> bool
     requires { top_of shape.now ≤ 32 }
-    ensures { IsTrue result ↔ ((w j k : ℕ) → w < callers_of shape.now → j < k → k ≤ top_of shape.now → node_of shape.now v j ≡ node_of shape.now w j → node_of shape.now v k ≡ node_of shape.now w k) }
+    ensures { IsTrue result ↔ ((w j k : ℕ) → w < callers_of shape.now → j < k → k ≤ top_of shape.now
+        → node_of shape.now v j ≡ node_of shape.now w j → node_of shape.now v k ≡ node_of shape.now w k) }
 {
     for w in 0..shape.callers() {
         if !are_nested(shape, v, w) {
@@ -133,7 +136,8 @@ fn is_nested_with(shape: &Shape, v: usize) -> bool
 // The same of two callers.
 fn are_nested(shape: &Shape, v: usize, w: usize) -> bool
     requires { top_of shape.now ≤ 32 }
-    ensures { IsTrue result ↔ ((j k : ℕ) → j < k → k ≤ top_of shape.now → node_of shape.now v j ≡ node_of shape.now w j → node_of shape.now v k ≡ node_of shape.now w k) }
+    ensures { IsTrue result ↔ ((j k : ℕ) → j < k → k ≤ top_of shape.now → node_of shape.now v j ≡ node_of shape.now w j
+        → node_of shape.now v k ≡ node_of shape.now w k) }
 {
     for k in 0..shape.top() as usize + 1 {
         if shape.node(v, k) != shape.node(w, k) && has_met_below(shape, v, w, k) {

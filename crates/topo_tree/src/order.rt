@@ -35,11 +35,7 @@ impl Topology {
     }
 
     // Appends all objects that have their first PU at a position, from the outermost in.
-    fn push_objects_at(
-        &self,
-        objects: &mut Vec<Object>,
-        position: u32,
-    ) -> Result<(), AllocError>
+    fn push_objects_at(&self, objects: &mut Vec<Object>, position: u32) -> Result<(), AllocError>
         requires position { position < pu_count self.now }
         requires objects { All (IsObject self.now) objects.old.items }
         ensures order { OnOk result (objects.new.items ≡ objects.old.items ++ objects_at self.now position) }

@@ -159,3 +159,73 @@ fn sets_of_objects(rt: HostRuntime) {
         assert!(rt; found.inside(&wanted) && wanted.inside(&found));
     }
 }
+
+// Of every two objects, whether the one's set is inside the other's, and whether two of a depth meet.
+#[test]
+fn sets_by_positions(rt: HostRuntime) {
+    let topology = built(&rt, rt.alloc(), b"Package:2 Core:2 PU:2(indexes=2*4:1*2)");
+    for depth in 0..4u32 {
+        let count = count(&rt, &topology, Layer::Depth(depth));
+        for index in 0..count {
+            let own = set(&rt, &topology, Layer::Depth(depth), index);
+            assert_eq!(&rt; own.weight(), 8 >> depth);
+            for other in 0..count {
+                let beside = set(&rt, &topology, Layer::Depth(depth), other);
+                assert_eq!(&rt; own.meets(&beside), index == other);
+            }
+            for (above, outer) in [(0, 0), (1, 0), (1, 1), (2, 0), (2, 3)] {
+                let wider = set(&rt, &topology, Layer::Depth(above), outer);
+                let inside = above <= depth && index >> (depth - above) == outer;
+                assert_eq!(&rt; own.inside(&wider), inside);
+            }
+        }
+    }
+}
+
+#[test]
+fn order_of_the_tree(rt: HostRuntime) -> Result<(), Fail> {
+    let topology = built(&rt, rt.alloc(), b"[numa] Group:2 Core:1 Group:1 PU:2");
+    let wanted = [
+        (0, 0),
+        (1, 0),
+        (2, 0),
+        (3, 0),
+        (4, 0),
+        (4, 1),
+        (1, 1),
+        (2, 1),
+        (3, 1),
+        (4, 2),
+        (4, 3),
+    ];
+    let order = topology.tree_order(rt.alloc())?;
+    assert_eq!(&rt; order.len(), wanted.len());
+    for (object, place) in order.iter().zip(wanted) {
+        let (depth, index) = place;
+        let layer = Layer::Depth(depth);
+        assert_eq!(&rt; *object, Object { layer, index });
+    }
+    for (depth, number) in [(0, 0), (1, 0), (2, 1), (3, 1), (4, 2)] {
+        assert!(&rt; depth < topology.depths());
+        assert_eq!(&rt; topology.group_number(depth), number);
+    }
+    Ok(())
+}
+
+#[test]
+fn depths_by_name(rt: HostRuntime) {
+    let topology = built(&rt, rt.alloc(), b"Package:2 [numa] Core:3 PU:2");
+    let cases: [(&[u8], Option<u32>); 6] = [
+        (b"machine", Some(0)),
+        (b"node", Some(1)),
+        (b"package", Some(1)),
+        (b"PU", Some(3)),
+        (b"l3", None),
+        (b"group0", None),
+    ];
+    for (word, depth) in cases {
+        assert_eq!(&rt; topology.depth_named(word), depth);
+    }
+    let bare = built(&rt, rt.alloc(), b"Core:2 PU:2");
+    assert_eq!(&rt; bare.depth_named(b"numa"), None);
+}

@@ -13,7 +13,8 @@ returns-in-None c =
 pub returns-then-turn-last : goal.returns-then-turn-last
 returns-then-turn-last c =
     let last = sym c.in-Some.ensures.value in (
-      (λ e. let node : c.node.result ≡ c.node-then-turn-last.result = grind (arith, nat_tests) in begins_behind _ _ _ _ last c.if-turn-last.true (sym c.node.ensures ∙ node ∙ c.node-then-turn-last.ensures)),
+      (λ e. let node : c.node.result ≡ c.node-then-turn-last.result = grind (arith, nat_tests) in
+          begins_behind _ _ _ _ last c.if-turn-last.true (sym c.node.ensures ∙ node ∙ c.node-then-turn-last.ensures)),
       (λ is. eq-eqb _ _ (c.node.ensures ∙ near_behind _ _ _ _ last is ∙ sym c.node-then-turn-last.ensures)),
     )
 

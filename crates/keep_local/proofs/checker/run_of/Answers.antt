@@ -17,10 +17,14 @@ loop-turn-preserved c =
     let few = c.loop-turn.invariant.few in
     let was = c.loop-turn.invariant.run in
     elim c.if-turn-level.branch [
-      | then-turn-level w ↦ let count = w.count-is in let r = run_higher c.args.level front turn w.if-turn-level.true in record { few = omega (arith, count); run = omega (arith, count, more, r) }
-      | else-turn-level+then-turn-level-2 w ↦ let count = w.count-is in let r = run_same c.args.level front turn w.if-turn-level-2.true in record { few = omega (arith, count, few); run = omega (arith, count, was, more, r) }
+      | then-turn-level w ↦ let count = w.count-is in let r = run_higher c.args.level front turn w.if-turn-level.true in
+          record { few = omega (arith, count); run = omega (arith, count, more, r) }
+      | else-turn-level+then-turn-level-2 w ↦ let count = w.count-is in
+          let r = run_same c.args.level front turn w.if-turn-level-2.true in
+          record { few = omega (arith, count, few); run = omega (arith, count, was, more, r) }
       | else-turn-level+else-turn-level-2 w ↦
           let count = w.count-is in
-          let r = run_lower c.args.level front turn (let within = w.if-turn-level.false in let other = w.if-turn-level-2.false in omega (arith, within, other)) in
+          let r = run_lower c.args.level front turn (let within = w.if-turn-level.false in let other = w.if-turn-level-2.false in
+          omega (arith, within, other)) in
           record { few = omega (arith, count, few); run = omega (arith, count, was, more, r) }
     ]

@@ -13,7 +13,9 @@ loop-caller-preserved c =
     let name = c.into_badge-badge.ensures.0 ∙ c.split_seat.ensures.3 ∙ c.loop-caller.invariant.own in record {
       own = c.split_seat.ensures.0 ∙ c.loop-caller.invariant.own;
       seat = home_dealt _ _ _ _ c.loop-caller-test.true c.loop-caller.invariant.seat c.split_seat.ensures.2;
-      listed = rw c.push_reserved.ensures.items ((λ k. c.loop-caller.invariant.listed k ++ new_share (name k) (c.loop-caller.caller, slice_index c.args.quotas.now c.loop-caller.caller) ∷ [])
+      listed = rw c.push_reserved.ensures.items
+          ((λ k. c.loop-caller.invariant.listed k ++ new_share (name k)
+          (c.loop-caller.caller, slice_index c.args.quotas.now c.loop-caller.caller) ∷ [])
           ∙ sym (shares_dealt _ _ _ c.loop-caller-test.true));
       count = rw c.push_reserved.ensures.items (grind (arith, common_steps, c.loop-caller.invariant.count));
       room = grind (arith, common_steps);

@@ -33,4 +33,10 @@ returns-clause-told c =
     let view = view_is _ _ _ _ c.replace-badge.ensures.value c.share.invariant.seated c.into_seat.ensures.2 in
     let me = joined_is c.self.inside.home.me c.join_seat.new.seat.me _ _ _ t c.join_seat.ensures.2 c.self.invariant.seated view in
     let tally = tally_is _ _ _ _ t me c.load.ensures.2.told in
-    rw (← c.self.view_is, ← c.share.view_is) (record { own = ap (λ s. s.name) c.share.view_is ∙ c.requires.own ∙ sym (ap (λ s. s.name) c.self.view_is); known = tally.known; quota = tally.quota; made = tally.made })
+    rw (← c.self.view_is, ← c.share.view_is)
+    (record {
+      own = ap (λ s. s.name) c.share.view_is ∙ c.requires.own ∙ sym (ap (λ s. s.name) c.self.view_is);
+      known = tally.known;
+      quota = tally.quota;
+      made = tally.made;
+    })

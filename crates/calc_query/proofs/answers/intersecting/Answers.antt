@@ -1,0 +1,28 @@
+use Rattle.std.proofs.Common.{◌≡◌, ℕ, Bool, [], ◌∷◌, ◌++◌, sym, ap, ◌∙◌, arith}
+use Rattle.std.specs.List.{filter, range_with_len}
+use Rattle.cpu_set.specs.Tests.{meets}
+use Rattle.topo_tree.specs.Coverage.{set_of}
+use Rattle.calc_query.specs.Answers.{intersecting}
+use Rattle.calc_query.proofs.ChainLaws.{filter_in_range, filter_out_range}
+use Rattle.calc_query.proofs.answers.intersecting.Goals as goal
+use Rattle.calc_query.proofs.answers.intersecting.Goals.{then-meets+in_ok-push, else-meets}
+
+pub loop-index-preserved : goal.loop-index-preserved
+loop-index-preserved c =
+    let set = c.args.set.now in
+    let index = c.loop-index.index in
+    let sets = set_of c.args.topology.now c.args.layer in
+    let test : ℕ → Bool = λ i. meets (sets i) set in
+    let tested = ap (λ own. meets own set) (sym c.set.ensures) ∙ sym c.meets.ensures in
+    elim c.if-meets.branch [
+      | then-meets+in_ok-push w ↦
+          ap (λ v. v.items) w.indexes-is ∙ w.in_ok-push.ensures.items ∙ ap (λ is. is ++ index ∷ []) c.loop-index.invariant
+          ∙ filter_in_range test index (tested ∙ w.if-meets.true)
+      | else-meets w ↦ ap (λ v. v.items) w.indexes-is ∙ c.loop-index.invariant ∙ filter_out_range test index (tested ∙ w.if-meets.false)
+    ]
+
+pub returns : goal.returns
+unfolding intersecting
+returns c =
+    let all : c.loop-index.index ≡ c.count-index-end.result = omega arith in
+    c.loop-index.invariant ∙ ap (λ count. filter (λ i. meets (set_of c.args.topology.now c.args.layer i) c.args.set.now) (range_with_len 0 count)) (all ∙ c.count-index-end.ensures.count)

@@ -1,0 +1,15 @@
+use Rattle.std.proofs.Common.{◌≡◌, ◌++◌, map}
+use Rattle.std.specs.List.{All, filter, range_with_len}
+use Rattle.cpu_set.specs.Tests.{meets}
+use Rattle.topo_tree.specs.Objects.{IsObject}
+use Rattle.topo_tree.specs.Coverage.{set_of}
+use Rattle.calc_query.specs.Answers.{end_of}
+use Rattle.calc_query.proofs.ChainLaws.{steps_through}
+use Rattle.calc_query.proofs.answers.push_extended.Given as goal
+
+abbrev pub invariant-loop-position : goal.invariant-loop-position
+invariant-loop-position l =
+    record {
+      paths : l.out.items ≡ l.fn.out.items ++ steps_through l.topology l.set l.layer l.path l.run.first l.run.count l.position;
+      ends : All (λ path. IsObject l.topology (end_of path)) l.out.items;
+    }

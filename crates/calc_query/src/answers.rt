@@ -1,0 +1,154 @@
+// What is answered of a set.
+ghost use Rattle.std.specs.Prelude.{◌≡◌, ◌++◌, All, IfOk, OnOk};
+ghost use Rattle.std.specs.List.{AllByRecursion, flat_map};
+ghost use Rattle.topo_tree.specs.Objects.{IsLayer, IsObject};
+ghost use Rattle.calc_query.specs.Answers.{intersecting, end_of, with_step, extended, chains, is_largest, largest};
+
+use crate::candidates::inside;
+use crate::query::{Path, Step2};
+use cpu_set::CpuSet;
+use edge_io::OutOfMemory;
+use std::alloc::{AllocError, Global};
+use synth_text::Sequence;
+use topo_tree::{Layer, Object, Topology};
+
+/// The objects of a layer that have a PU of a set, by their indexes, in logical order.
+pub fn intersecting(
+    alloc: Global,
+    topology: &Topology,
+    set: &CpuSet,
+    layer: Layer,
+) -> Result<Vec<u32>, OutOfMemory>
+    requires { IsLayer topology.now layer }
+    ensures { IfOk result (λ indexes. indexes.items ≡ intersecting topology.now set.now layer) }
+{
+    let mut indexes = Vec::new(alloc);
+    for index in 0..topology.count(layer) {
+        if topology.set(Object { layer, index }).meets(set) {
+            indexes.push(index)?;
+        }
+    }
+    Ok(indexes)
+}
+
+/// The chains of objects of such layers, each inside the one before, all of which have a PU of a set. They come in the
+/// order of their first objects, then of their second ones, and so on.
+pub fn hierarchical(
+    alloc: Global,
+    topology: &Topology,
+    set: &CpuSet,
+    layers: &[Layer],
+) -> Result<Vec<Path>, OutOfMemory>
+    requires { AllByRecursion (IsLayer topology.now) layers.now }
+    ensures { IfOk result (λ paths. paths.items ≡ chains topology.now set.now layers.now) }
+{
+    let mut paths = Vec::new(alloc);
+    paths.push(Path {
+        steps: Sequence::from_vec(Vec::new(alloc)),
+    })?;
+    for layer in layers {
+        paths = longer(alloc, topology, set, *layer, &paths)?;
+    }
+    Ok(paths)
+}
+
+// Each path, once more for each object of a layer inside its end that has a PU of a set.
+fn longer(
+    alloc: Global,
+    topology: &Topology,
+    set: &CpuSet,
+    layer: Layer,
+    paths: &[Path],
+) -> Result<Vec<Path>, AllocError>
+    requires layer { IsLayer topology.now layer }
+    requires ends { All (λ path. IsObject topology.now (end_of path)) paths.now }
+    ensures paths { IfOk result (λ longer. longer.items ≡ flat_map (extended topology.now set.now layer) paths.now) }
+    ensures ends { IfOk result (λ longer. All (λ path. IsObject topology.now (end_of path)) longer.items) }
+{
+    let mut out = Vec::new(alloc);
+    for path in paths {
+        push_extended(alloc, &mut out, topology, set, layer, path)?;
+    }
+    Ok(out)
+}
+
+// Appends a path, once for each object of a layer inside its end that has a PU of a set.
+fn push_extended(
+    alloc: Global,
+    out: &mut Vec<Path>,
+    topology: &Topology,
+    set: &CpuSet,
+    layer: Layer,
+    path: &Path,
+) -> Result<(), AllocError>
+    requires layer { IsLayer topology.now layer }
+    requires end { IsObject topology.now (end_of path.now) }
+    requires ends { All (λ path. IsObject topology.now (end_of path)) out.old.items }
+    ensures paths { OnOk result (out.new.items ≡ out.old.items ++ extended topology.now set.now layer path.now) }
+    ensures ends { OnOk result (All (λ path. IsObject topology.now (end_of path)) out.new.items) }
+{
+    let run = inside(topology, end_of(path), layer);
+    for position in 0..run.count {
+        let object = Object {
+            layer,
+            index: run.first + position,
+        };
+        if topology.set(object).meets(set) {
+            out.push(with_step(alloc, path, Step2 { object, position })?)?;
+        }
+    }
+    Ok(())
+}
+
+// The object that a path ends with.
+fn end_of(path: &Path) -> Object
+    ensures { result ≡ end_of path.now }
+{
+    match path.steps.as_slice().last() {
+        Some(step) => step.object,
+        None => Object {
+            layer: Layer::Depth(0),
+            index: 0,
+        },
+    }
+}
+
+// A path with one more step.
+fn with_step(alloc: Global, path: &Path, step: Step2) -> Result<Path, AllocError>
+    ensures { IfOk result (λ longer. longer ≡ with_step path.now step) }
+{
+    let before = path.steps.as_slice();
+    let mut steps = Vec::with_capacity(alloc, before.len() + 1)?;
+    steps.extend_from_slice(before)?;
+    steps.push(step)?;
+    Ok(Path {
+        steps: Sequence::from_vec(steps),
+    })
+}
+
+/// The objects of a depth that a set has all PUs of, while it hasn't all of the object above; in tree order.
+pub fn largest(alloc: Global, topology: &Topology, set: &CpuSet) -> Result<Vec<Object>, OutOfMemory>
+    ensures { IfOk result (λ objects. objects.items ≡ largest topology.now set.now) }
+{
+    let mut objects = Vec::new(alloc);
+    for object in &topology.tree_order(alloc)? {
+        if is_largest(topology, set, *object) {
+            objects.push(*object)?;
+        }
+    }
+    Ok(objects)
+}
+
+// Whether a set has all PUs of an object, and not all of the object above.
+fn is_largest(topology: &Topology, set: &CpuSet, object: Object) -> bool
+    requires { IsObject topology.now object }
+    ensures { result ≡ is_largest topology.now set.now object }
+{
+    if !topology.set(object).inside(set) {
+        return false;
+    }
+    match topology.parent(object) {
+        Some(above) => !topology.set(above).inside(set),
+        None => true,
+    }
+}

@@ -1,0 +1,60 @@
+// Indexes of parts, read.
+ghost use Rattle.std.specs.Prelude.{◌≡◌, option_map};
+ghost use Rattle.std.specs.Option.{option_and_then};
+ghost use Rattle.calc_query.specs.Readings.{index_number, span_from, wrap_from, pick_of};
+
+use crate::query::Pick;
+use synth_text::{cut_at, number_between};
+
+/// What an index says; `None` where it has none of the forms.
+#[tactic(auto, unfolding(crate::specs::Readings::pick_of))]
+pub fn read_pick(text: &[u8]) -> Option<Pick>
+    ensures { result ≡ pick_of text.now }
+{
+    if text == b"all".as_slice() {
+        return Some(Pick::Every);
+    }
+    if text == b"odd".as_slice() {
+        return Some(Pick::Odd);
+    }
+    if text == b"even".as_slice() {
+        return Some(Pick::Even);
+    }
+    if let Some((first, count)) = cut_at(text, b':') {
+        return read_wrap(first, count);
+    }
+    match cut_at(text, b'-') {
+        Some((first, last)) => read_span(first, last),
+        None => Some(Pick::One(read_number(text)?)),
+    }
+}
+
+// `a:n`, from its two ends.
+fn read_wrap(first: &[u8], count: &[u8]) -> Option<Pick>
+    ensures { result ≡ option_and_then (wrap_from count.now) (index_number first.now) }
+{
+    let first = read_number(first)?;
+    let count = read_number(count)?;
+    Some(Pick::Wrap { first, count })
+}
+
+// `a-b` or `a-`, from its two ends.
+fn read_span(first: &[u8], last: &[u8]) -> Option<Pick>
+    ensures { result ≡ option_and_then (span_from last.now) (index_number first.now) }
+{
+    let first = read_number(first)?;
+    if last.is_empty() {
+        return Some(Pick::From(first));
+    }
+    let last = read_number(last)?;
+    Some(Pick::Span { first, last })
+}
+
+// A decimal number below 2^32.
+#[tactic(auto, unfolding(crate::specs::Readings::index_number))]
+fn read_number(text: &[u8]) -> Option<u32>
+    ensures { result ≡ index_number text.now }
+{
+    let number = number_between(0, u64::from(u32::MAX), text)?;
+    Some(number as u32)
+}

@@ -1,0 +1,10 @@
+use Rattle.std.proofs.Common.{◌≡◌}
+use Rattle.keep_local.proofs.Noting.{IsReleasing}
+use Rattle.keep_local.proofs.tests.release.Given as goal
+
+abbrev pub invariant-loop-level : goal.invariant-loop-level
+invariant-loop-level l = record {
+  name : l.trail.name ≡ l.fn.trail.name;
+  shape : l.trail.shape ≡ l.fn.trail.shape;
+  releasing : IsReleasing l.trail l.level;
+}
