@@ -2,14 +2,14 @@
 # Times crates/lock_bench beside the same work over Concurrency Kit (Debian's libck-dev), both in turn, five times each, and prints a table:
 # lock, threads, nanoseconds a hold (the median) of each, and the ratio. It needs a built lock_bench (rt run in crates/lock_bench).
 #
-#   bench/locks.sh [LOCK..]       the locks that both have, by default: ticket
+#   bench/locks.sh [LOCK..]       the locks that both have, by default: ticket mcs
 set -eu
 cd "$(dirname "$0")/.."
 ours=crates/lock_bench/out/lock_bench
 [ -x "$ours" ] || { echo "there is no $ours: run 'rt run' in crates/lock_bench first" >&2; exit 1; }
 theirs=$(mktemp -d)/ck_locks
 cc -O2 -pthread -o "$theirs" bench/ck_locks.c
-[ $# -gt 0 ] || set -- ticket
+[ $# -gt 0 ] || set -- ticket mcs
 
 # the nanoseconds of one run
 nanoseconds() {
