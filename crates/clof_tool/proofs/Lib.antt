@@ -1,5 +1,6 @@
 pub mod Askings
 pub mod Codes
+pub mod DistribCommands
 pub mod Lists
 pub mod Stops
 pub mod Topologies
