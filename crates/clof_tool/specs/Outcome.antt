@@ -118,6 +118,16 @@ IsRefusal statuses.ReadFault = ⊥
 IsRefusal (statuses.WriteFault written) = ⊥
 IsRefusal statuses.OutOfMemory = ⊥
 
+-- the statuses with which a command ends before it reads or writes: something is refused, or memory ran out
+abbrev pub EndsEarly : Status → Type 0
+EndsEarly statuses.Ok = ⊥
+EndsEarly statuses.Usage = ⊥
+EndsEarly (statuses.Malformed fault) = Unit {0}
+EndsEarly (statuses.Limit fault) = Unit {0}
+EndsEarly statuses.ReadFault = ⊥
+EndsEarly (statuses.WriteFault written) = ⊥
+EndsEarly statuses.OutOfMemory = Unit {0}
+
 -- the statuses after which something may have been written
 abbrev pub HasWritten : Status → Type 0
 HasWritten statuses.Ok = Unit {0}

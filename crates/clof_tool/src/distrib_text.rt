@@ -7,7 +7,7 @@ ghost use Rattle.clof_tool.specs.declared.status.Status.{Status as AnyStatus};
 ghost use Rattle.clof_tool.specs.Asked.{plain_name, plain_depths, plain_distribution};
 ghost use Rattle.clof_tool.specs.DistribText.{mask_text, mask_line, mask_lines, depth_of, span_of, distrib_status, answer_on};
 ghost use Rattle.clof_tool.specs.DistribText.{PrintsDistrib, DistribRefuses};
-ghost use Rattle.clof_tool.specs.Outcome.{IsRefusal};
+ghost use Rattle.clof_tool.specs.Outcome.{EndsEarly};
 
 use crate::distrib_words::{Depths, Distribution};
 use crate::topology::topology;
@@ -26,9 +26,15 @@ pub(crate) fn distrib_text(alloc: Global, asked: &Distribution<'_>) -> Result<Ve
         (result ≡ Err status) ⊎ (result ≡ Err Status.OutOfMemory) }
     ensures complete { (printed : List ℕ) → PrintsDistrib (plain_distribution asked.now) printed →
         IsOk result ⊎ (result ≡ Err Status.OutOfMemory) }
+    ensures early { IfErr result EndsEarly }
 {
-    let topology = topology(alloc, asked.description)?;
-    answer_on(alloc, &topology, asked)
+    match topology(alloc, asked.description) {
+        Ok(topology) => match answer_on(alloc, &topology, asked) {
+            Ok(text) => Ok(text),
+            Err(status) => Err(status),
+        },
+        Err(status) => Err(status),
+    }
 }
 
 // The masks of a topology, one a line, or the status with which they are refused.
@@ -37,6 +43,7 @@ fn answer_on(alloc: Global, topology: &Topology, asked: &Distribution<'_>) -> Re
     ensures ok { IfOk result (λ printed. answer_on topology.now (plain_distribution asked.now) ≡ Ok printed.items) }
     ensures err { IfErr result (λ status. (status ≡ Status.OutOfMemory)
         ⊎ (answer_on topology.now (plain_distribution asked.now) ≡ Err status)) }
+    ensures early { IfErr result EndsEarly }
 {
     let (from, to) = span(topology, asked.depths)?;
     match distrib(alloc, topology, asked.masks, from, to, asked.reverse) {
@@ -50,10 +57,11 @@ fn answer_on(alloc: Global, topology: &Topology, asked: &Distribution<'_>) -> Re
 
 // The depths of the start and the end.
 fn span(topology: &Topology, depths: Depths<'_>) -> Result<(u32, u32), Status>
-    ensures ok { IfOk result (λ span. span_of topology.now (plain_depths depths) ≡ Ok (span.0, span.1)) }
-    ensures err { IfErr result (λ status. span_of topology.now (plain_depths depths) ≡ Err status) }
+    ensures ok { IfOk result (λ span. span_of topology.now (plain_depths depths.entry) ≡ Ok (span.0, span.1)) }
+    ensures err { IfErr result (λ status. span_of topology.now (plain_depths depths.entry) ≡ Err status) }
     ensures from { IfOk result (λ span. span.0 < depth_count topology.now) }
     ensures to { IfOk result (λ span. span.1 < depth_count topology.now) }
+    ensures early { IfErr result EndsEarly }
 {
     match depths {
         Depths::Between { from, to } => {
@@ -71,9 +79,10 @@ fn span(topology: &Topology, depths: Depths<'_>) -> Result<(u32, u32), Status>
 // The depth that an option names, where it was given.
 fn depth(topology: &Topology, option: OptionName, default: u32, name: Option<&[u8]>) -> Result<u32, Status>
     requires { default < depth_count topology.now }
-    ensures ok { IfOk result (λ depth. depth_of topology.now option default (plain_name name) ≡ Ok depth) }
-    ensures err { IfErr result (λ status. depth_of topology.now option default (plain_name name) ≡ Err status) }
+    ensures ok { IfOk result (λ depth. depth_of topology.now option default (plain_name name.entry) ≡ Ok depth) }
+    ensures err { IfErr result (λ status. depth_of topology.now option default (plain_name name.entry) ≡ Err status) }
     ensures fit { IfOk result (λ depth. depth < depth_count topology.now) }
+    ensures early { IfErr result EndsEarly }
 {
     match name {
         None => Ok(default),
@@ -86,7 +95,8 @@ fn depth(topology: &Topology, option: OptionName, default: u32, name: Option<&[u
 
 // The status of a fault: too many masks are over a limit.
 fn distrib_status(fault: DistribFault) -> Status
-    ensures { result ≡ distrib_status fault }
+    ensures status { result ≡ distrib_status fault }
+    ensures early { EndsEarly result }
 {
     match fault {
         DistribFault::TooManyMasks => Status::Limit(Fault::Distrib(fault)),

@@ -102,7 +102,7 @@ fn number(text: &[u8]) -> Option<u32>
 // Where a distribution starts and ends.
 fn start_and_end<'a>(from: Option<&'a [u8]>, to: Option<&'a [u8]>, at: Option<&'a [u8]>) -> Option<Depths<'a>>
     ensures { option_map plain_depths result
-        ≡ depths_of (plain_name from) (plain_name to) (plain_name at) }
+        ≡ depths_of (plain_name from.entry) (plain_name to.entry) (plain_name at.entry) }
 {
     match (from, to, at) {
         (_, _, None) => Some(Depths::Between { from, to }),

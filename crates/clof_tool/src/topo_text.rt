@@ -16,10 +16,12 @@ pub(crate) fn topo_text(alloc: Global, export: bool, text: &[u8]) -> Result<Vec<
     ensures refused { (status : AnyStatus) → TopoRefuses text.now status → (result ≡ Err status) ⊎ (result ≡ Err Status.OutOfMemory) }
     ensures complete { (printed : List ℕ) → PrintsTopo export text.now printed → IsOk result ⊎ (result ≡ Err Status.OutOfMemory) }
 {
-    let topology = topology(alloc, text)?;
-    match text_of(alloc, export, &topology) {
-        Ok(printed) => Ok(printed),
-        Err(OutOfMemory) => Err(Status::OutOfMemory),
+    match topology(alloc, text) {
+        Ok(topology) => match text_of(alloc, export, &topology) {
+            Ok(printed) => Ok(printed),
+            Err(OutOfMemory) => Err(Status::OutOfMemory),
+        },
+        Err(status) => Err(status),
     }
 }
 

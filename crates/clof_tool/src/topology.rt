@@ -5,6 +5,7 @@ ghost use Rattle.synth_text.specs.Descriptions.{Describes};
 ghost use Rattle.topo_tree.specs.Building.{build_fault};
 ghost use Rattle.clof_tool.specs.declared.status.Status.{Status as AnyStatus};
 ghost use Rattle.clof_tool.specs.TopoText.{synth_status, build_status, IsBuilt, TopoRefuses};
+ghost use Rattle.clof_tool.specs.Outcome.{EndsEarly};
 
 use crate::{Fault, Status};
 use std::alloc::Global;
@@ -18,6 +19,7 @@ pub(crate) fn topology(alloc: Global, text: &[u8]) -> Result<Topology, Status>
     ensures err { IfErr result (λ status. (status ≡ Status.OutOfMemory) ⊎ TopoRefuses text.now status) }
     ensures refused { (status : AnyStatus) → TopoRefuses text.now status → (result ≡ Err status) ⊎ (result ≡ Err Status.OutOfMemory) }
     ensures complete { (described : Described) → IsBuilt text.now described → IsOk result ⊎ (result ≡ Err Status.OutOfMemory) }
+    ensures early { IfErr result EndsEarly }
 {
     let description = match read(alloc, text) {
         Ok(description) => description,
@@ -31,7 +33,8 @@ pub(crate) fn topology(alloc: Global, text: &[u8]) -> Result<Topology, Status>
 
 // The status of a fault of reading: two of them are limits.
 fn synth_status(fault: SynthFault) -> Status
-    ensures { result ≡ synth_status fault }
+    ensures status { result ≡ synth_status fault }
+    ensures early { EndsEarly result }
 {
     match fault {
         SynthFault::TooManyLevels | SynthFault::TooManyObjects => {
@@ -44,7 +47,8 @@ fn synth_status(fault: SynthFault) -> Status
 
 // The status of a fault of building.
 fn build_status(fault: BuildFault) -> Status
-    ensures { result ≡ build_status fault }
+    ensures status { result ≡ build_status fault }
+    ensures early { EndsEarly result }
 {
     match fault {
         BuildFault::OutOfMemory => Status::OutOfMemory,

@@ -1,5 +1,5 @@
 // The words of the command line.
-ghost use Rattle.std.specs.Prelude.{◌≡◌, ◌≢◌, ◌⊎◌, ◌↔◌, [], ◌∷◌, IsTrue, IfOk, IfErr, MatchOption, Some, map, string_bytes, slice_get};
+ghost use Rattle.std.specs.Prelude.{◌≡◌, ◌≢◌, ◌⊎◌, ◌↔◌, [], ◌∷◌, IsTrue, IfOk, IfErr, MatchOption, Some, codes, map, string_bytes, slice_get};
 ghost use Rattle.clof_tool.specs.Words.{Asked as PlainAsked, Says, IsWritten, IsTabled, IsPlain, IsUsage};
 ghost use Rattle.clof_tool.specs.Asked.{plain};
 
@@ -29,9 +29,15 @@ pub(crate) fn read_words(alloc: Global, words: &[String]) -> Result<Asked<'_>, S
         ⊎ ((status ≡ Status.Usage) × IsUsage words.now)) }
 {
     if is_tabled(words) {
-        Ok(Asked::Distrib(read_distribution(alloc, words)?))
+        match read_distribution(alloc, words) {
+            Ok(asked) => Ok(Asked::Distrib(asked)),
+            Err(status) => Err(status),
+        }
     } else {
-        read_written(words).ok_or(Status::Usage)
+        match read_written(words) {
+            Some(asked) => Ok(asked),
+            None => Err(Status::Usage),
+        }
     }
 }
 
@@ -40,9 +46,15 @@ fn is_tabled(words: &[String]) -> bool
     ensures { IsTrue result ↔ IsTabled (map string_bytes words.now) }
 {
     match words.first() {
-        Some(command) => command.as_str().as_bytes() == b"distrib".as_slice(),
+        Some(command) => is_distrib(command.as_str().as_bytes()),
         None => false,
     }
+}
+
+fn is_distrib(command: &[u8]) -> bool
+    ensures { IsTrue result ↔ (command.now ≡ codes "distrib") }
+{
+    command == b"distrib".as_slice()
 }
 
 // What the words of a command that is written in one way ask for.

@@ -5,26 +5,26 @@ use Rattle.clof_tool.proofs.topology.topology.Goals as goal
 pub returns-in-Err-clause-refused : goal.returns-in-Err-clause-refused
 returns-in-Err-clause-refused c status refuses =
     elim (read_refused c.args.text.now c.in-Err.fault c.in-Err.ensures.every_description c.in-Err.ensures.every_refusal status refuses) [
-      | inl same ↦ inl (ap Err (c.synth_status.ensures ∙ same))
-      | inr memory ↦ inr (ap Err (c.synth_status.ensures ∙ memory))
+      | inl same ↦ inl (ap Err (c.synth_status.ensures.status ∙ same))
+      | inr memory ↦ inr (ap Err (c.synth_status.ensures.status ∙ memory))
     ]
 
 pub returns-in-Err-clause-complete : goal.returns-in-Err-clause-complete
 returns-in-Err-clause-complete c described built =
-    inr (ap Err (c.synth_status.ensures
+    inr (ap Err (c.synth_status.ensures.status
     ∙ read_built c.args.text.now described c.in-Err.fault c.in-Err.ensures.every_description built))
 
 pub returns-in-Err-build-clause-refused : goal.returns-in-Err-build-clause-refused
 returns-in-Err-build-clause-refused c status refuses =
     elim (build_refused c.args.text.now c.in-Ok.description c.in-Err-build.fault c.in-Ok.ensures.every_description
     c.in-Ok.ensures.every_refusal c.in-Err-build.ensures.refused status refuses) [
-      | inl same ↦ inl (ap Err (c.build_status.ensures ∙ same))
-      | inr memory ↦ inr (ap Err (c.build_status.ensures ∙ memory))
+      | inl same ↦ inl (ap Err (c.build_status.ensures.status ∙ same))
+      | inr memory ↦ inr (ap Err (c.build_status.ensures.status ∙ memory))
     ]
 
 pub returns-in-Err-build-clause-complete : goal.returns-in-Err-build-clause-complete
 returns-in-Err-build-clause-complete c described built =
-    inr (ap Err (c.build_status.ensures
+    inr (ap Err (c.build_status.ensures.status
     ∙ build_built c.args.text.now described c.in-Ok.description c.in-Err-build.fault c.in-Ok.ensures.every_description
     c.in-Err-build.ensures.refused built))
 
