@@ -1,6 +1,5 @@
 -- The codes of statuses.
-use Rattle.std.proofs.Common.{◌≡◌, ℕ, refl, sym, ap, ◌∙◌}
-use Rattle.std.specs.Prelude.{◌↔◌}
+use Rattle.std.proofs.Common.{◌≡◌, ◌⊎◌, ℕ, refl, sym, ap, ◌∙◌, inl, inr}
 use Rattle.clof_tool.specs.Status.{code_of}
 use Rattle.clof_tool.specs.declared.status.Status.{Status}
 use Rattle.clof_tool.specs.declared.status.Status.TheVariants.{Ok, Usage, Malformed, Limit, ReadFault, WriteFault, OutOfMemory}
@@ -15,8 +14,16 @@ usage_alone ReadFault is = cc
 usage_alone (WriteFault written) is = cc
 usage_alone OutOfMemory is = cc
 
--- what holds exactly at Usage holds exactly where the process ends with its code
+-- what holds at Usage holds where the process ends with its code
 pub usage_ends : (status : Status) (code ended : ℕ) (P : Type 0) → code ≡ code_of status → ended ≡ code
-    → (status ≡ Usage) ↔ P → (ended ≡ 2) ↔ P
-usage_ends status code ended P code_is ended_is exactly =
-    (λ two. exactly.0 (usage_alone status (sym code_is ∙ sym ended_is ∙ two)), λ p. ended_is ∙ code_is ∙ ap code_of (exactly.1 p))
+    → (status ≡ Usage → P) → ended ≡ 2 → P
+usage_ends status code ended P code_is ended_is holds two = holds (usage_alone status (sym code_is ∙ sym ended_is ∙ two))
+
+-- the process ends with the code of Usage, or of wanted memory
+pub usage_else_ends : (status : Status) (code ended : ℕ) (P Q : Type 0) → code ≡ code_of status → ended ≡ code
+    → (P → (status ≡ Usage) ⊎ ((status ≡ OutOfMemory) × Q)) → P → (ended ≡ 2) ⊎ ((ended ≡ 7) × Q)
+usage_else_ends status code ended P Q code_is ended_is ends p =
+    elim (ends p) [
+      | inl usage ↦ inl (ended_is ∙ code_is ∙ ap code_of usage)
+      | inr memory ↦ inr (ended_is ∙ code_is ∙ ap code_of memory.0, memory.1)
+    ]

@@ -1,5 +1,8 @@
 pub mod Askings
 pub mod Codes
+pub mod DistribCommands
+pub mod Distributions
 pub mod Lists
+pub mod Masks
 pub mod Stops
 pub mod Topologies

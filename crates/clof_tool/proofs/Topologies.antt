@@ -1,4 +1,4 @@
--- How `topo` ends: by what its text describes, by the first rule that the text breaks, or by the first that the numbers break.
+-- How a description is read and built: by what its text describes, by the first rule that the text breaks, or by the first that the numbers break.
 use Rattle.std.proofs.Common.{◌≡◌, ◌⊎◌, ℕ, List, Bool, Option, Some, None, Ok, Err, inl, inr, refl, sym, ap, subst, ◌∙◌}
 use Rattle.std.specs.Prelude.{Result}
 use Rattle.synth_text.specs.declared.description.Description.{Description}
@@ -11,7 +11,7 @@ use Rattle.topo_tree.specs.declared.fault.BuildFault.TheVariants as build
 use Rattle.topo_tree.specs.Building.{build_fault, IsFaultUnlessMemory}
 use Rattle.clof_tool.specs.declared.status.Status.{Status}
 use Rattle.clof_tool.specs.declared.status.Status.TheVariants.{OutOfMemory}
-use Rattle.clof_tool.specs.TopoText.{synth_status, build_status, PrintsTopo, TopoRefuses}
+use Rattle.clof_tool.specs.TopoText.{synth_status, build_status, IsBuilt, TopoRefuses}
 
 -- a fault of reading is want of memory, or it is what the reading says
 memory_or_read : {A : Type 0} (fault : SynthFault) (reading : Result A SynthFault) → FailsWith fault reading
@@ -51,11 +51,11 @@ read_refused text fault each every status (inr refuses) =
       | inr same ↦ cc
     ]
 
-pub read_prints : (text : List ℕ) (export : Bool) (printed : List ℕ) (fault : SynthFault)
-    → ((described : Description) → Describes text described → FailsWith fault (Ok described)) → PrintsTopo export text printed
+pub read_built : (text : List ℕ) (described : Description) (fault : SynthFault)
+    → ((other : Description) → Describes text other → FailsWith fault (Ok other)) → IsBuilt text described
     → synth_status fault ≡ OutOfMemory
-read_prints text export printed fault each prints =
-    elim (memory_or_read {A = Description} fault (Ok prints.described) (each prints.described prints.describes)) [
+read_built text described fault each built =
+    elim (memory_or_read {A = Description} fault (Ok described) (each described built.describes)) [
       | inl memory ↦ memory
       | inr same ↦ cc
     ]
@@ -76,13 +76,18 @@ build_refused text found fault each every first status (inr refuses) =
       | inr is ↦ let one : fault ≡ refuses.fault = cc in inl (ap build_status one ∙ sym refuses.status_is)
     ]
 
-pub build_prints : (text : List ℕ) (export : Bool) (printed : List ℕ) (found : Description) (fault : BuildFault)
-    → ((described : Description) → Describes text described → Answers (Ok found) (Ok described))
-    → IsFaultUnlessMemory (build_fault found) fault → PrintsTopo export text printed → build_status fault ≡ OutOfMemory
-build_prints text export printed found fault each first prints =
-    let same : prints.described ≡ found = let answer = each prints.described prints.describes in cc in
-    let none : build_fault found ≡ None = subst (λ described. build_fault described ≡ None) same prints.builds in
+pub build_built : (text : List ℕ) (described found : Description) (fault : BuildFault)
+    → ((other : Description) → Describes text other → Answers (Ok found) (Ok other))
+    → IsFaultUnlessMemory (build_fault found) fault → IsBuilt text described → build_status fault ≡ OutOfMemory
+build_built text described found fault each first built =
+    let same : described ≡ found = let answer = each described built.describes in cc in
+    let none : build_fault found ≡ None = subst (λ other. build_fault other ≡ None) same built.builds in
     elim (memory_or_built fault (build_fault found) first) [ inl memory ↦ memory | inr is ↦ cc ]
+
+-- the text describes one thing
+pub only_described : (text : List ℕ) (found described : Description)
+    → ((other : Description) → Describes text other → Answers (Ok found) (Ok other)) → Describes text described → described ≡ found
+only_described text found described each describes = let answer = each described describes in cc
 
 -- what is built is not refused
 pub built_not_refused : (text : List ℕ) (found : Description)

@@ -1,4 +1,7 @@
 pub mod Asked
+pub mod CommandLine
+pub mod DistribText
+pub mod DistribWords
 pub mod Line
 pub mod Outcome
 pub mod Process

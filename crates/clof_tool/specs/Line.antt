@@ -2,6 +2,8 @@
 use Rattle.std.specs.Prelude.{ℕ, List, [], ◌∷◌, ◌++◌, codes, decimal}
 use Rattle.cpu_set.specs.declared.fault.SetFault.{SetFault}
 use Rattle.cpu_set.specs.declared.fault.SetFault.TheVariants as set
+use Rattle.distrib_rules.specs.declared.fault.DistribFault.{DistribFault}
+use Rattle.distrib_rules.specs.declared.fault.DistribFault.TheVariants as distrib
 use Rattle.placed_runner.specs.declared.fault.SectionFault.{SectionFault}
 use Rattle.placed_runner.specs.declared.fault.SectionFault.TheVariants as section
 use Rattle.synth_text.specs.declared.fault.SynthFault.{SynthFault}
@@ -10,6 +12,8 @@ use Rattle.topo_tree.specs.declared.fault.BuildFault.{BuildFault}
 use Rattle.topo_tree.specs.declared.fault.BuildFault.TheVariants as build
 use Rattle.clof_tool.specs.declared.status.Fault.{Fault}
 use Rattle.clof_tool.specs.declared.status.Fault.TheVariants as faults
+use Rattle.clof_tool.specs.declared.status.OptionName.{OptionName}
+use Rattle.clof_tool.specs.declared.status.OptionName.TheVariants as options
 use Rattle.clof_tool.specs.declared.status.Status.{Status}
 use Rattle.clof_tool.specs.declared.status.Status.TheVariants as statuses
 
@@ -40,6 +44,18 @@ build_message (build.IndexRange number) = with_number (codes "build IndexRange")
 build_message (build.IndexTwice number) = with_number (codes "build IndexTwice") number
 build_message build.OutOfMemory = codes "out of memory"
 
+-- the option whose type is refused
+abbrev pub type_message : OptionName → List ℕ
+type_message options.From = codes "type --from"
+type_message options.To = codes "type --to"
+type_message options.At = codes "type --at"
+
+abbrev pub distrib_message : DistribFault → List ℕ
+distrib_message distrib.ZeroMasks = codes "distrib ZeroMasks"
+distrib_message distrib.TooManyMasks = codes "distrib TooManyMasks"
+distrib_message distrib.Reversed = codes "distrib Reversed"
+distrib_message distrib.OutOfMemory = codes "out of memory"
+
 abbrev pub section_message : SectionFault → List ℕ
 section_message section.NotYet = codes "section NotYet"
 
@@ -48,6 +64,8 @@ abbrev pub fault_message : Fault → List ℕ
 fault_message (faults.Set fault) = set_message fault
 fault_message (faults.Synth fault) = synth_message fault
 fault_message (faults.Build fault) = build_message fault
+fault_message (faults.TypeOf option) = type_message option
+fault_message (faults.Distrib fault) = distrib_message fault
 fault_message (faults.Section fault) = section_message fault
 fault_message faults.Input = codes "input"
 

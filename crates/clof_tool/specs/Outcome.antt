@@ -6,10 +6,11 @@ use Rattle.placed_runner.specs.declared.fault.SectionFault.TheVariants.{NotYet}
 use Rattle.clof_tool.specs.declared.status.Fault.TheVariants.{Set as SetOf, Section, Input}
 use Rattle.clof_tool.specs.declared.status.Status.{Status}
 use Rattle.clof_tool.specs.declared.status.Status.TheVariants as statuses
-use Rattle.clof_tool.specs.Words.{Asked, Run, Set, Topo}
+use Rattle.clof_tool.specs.Words.{Asked, Run, Set, Topo, Distrib}
 use Rattle.cpu_set.specs.declared.fault.SetFault.{SetFault}
 use Rattle.clof_tool.specs.Run.{input_limit, Prints, IsNotYet}
 use Rattle.clof_tool.specs.SetText.{PrintsSet, IsRefused}
+use Rattle.clof_tool.specs.DistribText.{PrintsDistrib, DistribRefuses}
 use Rattle.clof_tool.specs.TopoText.{PrintsTopo, TopoRefuses}
 
 -- what is asked for depends on the input
@@ -17,12 +18,14 @@ abbrev pub ReadsInput : Asked → Type 0
 ReadsInput Run = Unit {0}
 ReadsInput (Set list text) = ⊥
 ReadsInput (Topo export text) = ⊥
+ReadsInput (Distrib asked) = ⊥
 
 -- the input of what is asked for: all that the source had left, or any text where it doesn't depend on one
 abbrev pub IsInput : Asked → Option (List ℕ) → List ℕ → Type 0
 IsInput Run left input = left ≡ Some input
 IsInput (Set list text) left input = Unit {0}
 IsInput (Topo export text) left input = Unit {0}
+IsInput (Distrib asked) left input = Unit {0}
 
 -- a source gave this input and came to its end: as many bytes as its count of given ones rose by, which are what it had
 -- left, where it tells that
@@ -35,12 +38,14 @@ abbrev pub HasRead : Asked → Option (List ℕ) → ℕ → ℕ → List ℕ �
 HasRead Run left given given_now input = WasRead left given given_now input
 HasRead (Set list text) left given given_now input = Unit {0}
 HasRead (Topo export text) left given given_now input = Unit {0}
+HasRead (Distrib asked) left given given_now input = Unit {0}
 
 -- the text that is printed
 abbrev pub IsAnswer : Asked → List ℕ → List ℕ → Type 0
 IsAnswer Run input printed = (length input ≤ input_limit) × Prints input printed
 IsAnswer (Set list text) input printed = PrintsSet list text printed
 IsAnswer (Topo export text) input printed = PrintsTopo export text printed
+IsAnswer (Distrib asked) input printed = PrintsDistrib asked printed
 
 -- why `set` refuses its text: by the leftmost rule that it breaks
 abbrev pub SetRefuses : Bool → List ℕ → Status → Type 0
@@ -57,6 +62,7 @@ abbrev pub WordsRefused : Asked → Status → Type 0
 WordsRefused Run status = ⊥
 WordsRefused (Set list text) status = SetRefuses list text status
 WordsRefused (Topo export text) status = TopoRefuses text status
+WordsRefused (Distrib asked) status = DistribRefuses asked status
 
 -- why `run` refuses an input: it is too long, or it is no section that can be served yet
 abbrev pub RunRefuses : List ℕ → Status → Type 0
@@ -73,6 +79,7 @@ abbrev pub InputRefused : Asked → List ℕ → Status → Type 0
 InputRefused Run input status = RunRefuses input status
 InputRefused (Set list text) input status = ⊥
 InputRefused (Topo export text) input status = ⊥
+InputRefused (Distrib asked) input status = ⊥
 
 -- the source had more left than an input may have, where it tells that, and one byte more than that was read
 pub record WasTooLong (left : Option (List ℕ)) (given given_now : ℕ) : Type 0 where
@@ -95,6 +102,7 @@ abbrev pub WasFound : Asked → Option (List ℕ) → ℕ → ℕ → Status →
 WasFound Run left given given_now status = RunFound left given given_now status
 WasFound (Set list text) left given given_now status = ⊥
 WasFound (Topo export text) left given given_now status = ⊥
+WasFound (Distrib asked) left given given_now status = ⊥
 
 -- the cause of a refusal: the words, or what was read
 abbrev pub HasCause : Asked → Option (List ℕ) → ℕ → ℕ → Status → Type 0
@@ -109,6 +117,16 @@ IsRefusal (statuses.Limit fault) = Unit {0}
 IsRefusal statuses.ReadFault = ⊥
 IsRefusal (statuses.WriteFault written) = ⊥
 IsRefusal statuses.OutOfMemory = ⊥
+
+-- the statuses with which a command ends before it reads or writes: something is refused, or memory ran out
+abbrev pub EndsEarly : Status → Type 0
+EndsEarly statuses.Ok = ⊥
+EndsEarly statuses.Usage = ⊥
+EndsEarly (statuses.Malformed fault) = Unit {0}
+EndsEarly (statuses.Limit fault) = Unit {0}
+EndsEarly statuses.ReadFault = ⊥
+EndsEarly (statuses.WriteFault written) = ⊥
+EndsEarly statuses.OutOfMemory = Unit {0}
 
 -- the statuses after which something may have been written
 abbrev pub HasWritten : Status → Type 0

@@ -10,6 +10,7 @@ ghost use Rattle.clof_tool.specs.Run.{input_limit};
 ghost use Rattle.clof_tool.specs.Outcome.{ReadsInput, IsInput, WasRead, WasTooLong, HasRead, IsAnswer, WordsRefused, InputRefused};
 ghost use Rattle.clof_tool.specs.Outcome.{HasCause, IsRefusal, HasWritten};
 
+use crate::distrib_text::distrib_text;
 use crate::running::run_text;
 use crate::set_text::set_text;
 use crate::topo_text::topo_text;
@@ -55,6 +56,7 @@ pub(crate) fn answer<S: Source>(
         Asked::Run => run_text(alloc, &read_input(alloc, source)?),
         Asked::Set { list, text } => set_text(alloc, list, text),
         Asked::Topo { export, text } => topo_text(alloc, export, text),
+        Asked::Distrib(asked) => distrib_text(alloc, &asked),
     }
 }
 

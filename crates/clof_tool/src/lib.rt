@@ -2,6 +2,9 @@
 #![tactic(auto)]
 
 mod answer;
+mod command_line;
+mod distrib_text;
+mod distrib_words;
 mod line;
 mod process;
 mod report;
@@ -10,10 +13,11 @@ mod set_text;
 mod status;
 mod top_call;
 mod topo_text;
+mod topology;
 mod words;
 
 pub use process::Process;
-pub use status::{Fault, Status};
+pub use status::{Fault, OptionName, Status};
 pub use top_call::top;
 
 #[cfg(test)]

@@ -1,11 +1,12 @@
 // The line that tells of a status, in room on the stack.
 ghost use Rattle.std.specs.Prelude.{◌≡◌, ◌≤◌, ◌+◌, ◌++◌, codes, length};
 ghost use Rattle.arrayvec.specs.ArrayString.{array_string_len};
-ghost use Rattle.clof_tool.specs.Line.{with_number, set_message, synth_message, build_message, fault_message, line_with, line_of};
+ghost use Rattle.clof_tool.specs.Line.{with_number, set_message, synth_message, build_message, type_message, distrib_message, fault_message, line_with, line_of};
 
-use crate::{Fault, Status};
+use crate::{Fault, OptionName, Status};
 use arrayvec::ArrayString;
 use cpu_set::SetFault;
+use distrib_rules::DistribFault;
 use itoa::Buffer;
 use placed_runner::SectionFault;
 use synth_text::SynthFault;
@@ -40,6 +41,8 @@ fn fault_line(fault: &Fault) -> Line
         Fault::Set(fault) => set_line(fault),
         Fault::Synth(fault) => synth_line(fault),
         Fault::Build(fault) => build_line(fault),
+        Fault::TypeOf(option) => type_line(option),
+        Fault::Distrib(fault) => distrib_line(fault),
         Fault::Section(SectionFault::NotYet) => saying("section NotYet"),
         Fault::Input => saying("input"),
     }
@@ -82,6 +85,27 @@ fn build_line(fault: &BuildFault) -> Line
         BuildFault::IndexRange { number } => saying_number("build IndexRange", u64::from(*number)),
         BuildFault::IndexTwice { number } => saying_number("build IndexTwice", u64::from(*number)),
         BuildFault::OutOfMemory => saying("out of memory"),
+    }
+}
+
+fn type_line(option: &OptionName) -> Line
+    ensures { result.bytes ≡ line_with (type_message option.now) }
+{
+    match option {
+        OptionName::From => saying("type --from"),
+        OptionName::To => saying("type --to"),
+        OptionName::At => saying("type --at"),
+    }
+}
+
+fn distrib_line(fault: &DistribFault) -> Line
+    ensures { result.bytes ≡ line_with (distrib_message fault.now) }
+{
+    match fault {
+        DistribFault::ZeroMasks => saying("distrib ZeroMasks"),
+        DistribFault::TooManyMasks => saying("distrib TooManyMasks"),
+        DistribFault::Reversed => saying("distrib Reversed"),
+        DistribFault::OutOfMemory => saying("out of memory"),
     }
 }
 

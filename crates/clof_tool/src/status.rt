@@ -2,10 +2,22 @@
 ghost use Rattle.std.specs.Prelude.{◌≡◌};
 
 use cpu_set::SetFault;
+use distrib_rules::DistribFault;
 use placed_runner::SectionFault;
 use synth_text::SynthFault;
 use thiserror::Error;
 use topo_tree::BuildFault;
+
+/// An option whose value is a type.
+#[derive(Clone, Copy, Debug, PartialEq, Eq)]
+pub enum OptionName {
+    /// `--from`
+    From,
+    /// `--to`
+    To,
+    /// `--at`
+    At,
+}
 
 /// Why a well-formed command line is refused.
 #[derive(Clone, Copy, Debug, PartialEq, Eq, Error)]
@@ -19,6 +31,12 @@ pub enum Fault {
     /// The physical numbers of a description.
     #[error("the topology: {0}")]
     Build(BuildFault),
+    /// The type of an option names no layer.
+    #[error("the type of an option")]
+    TypeOf(OptionName),
+    /// The numbers of a distribution.
+    #[error("the distribution: {0}")]
+    Distrib(DistribFault),
     /// The sections of the input.
     #[error("the sections: {0}")]
     Section(SectionFault),

@@ -1,4 +1,6 @@
 // The top call over sources and sinks in memory.
+mod distrib;
+
 use crate::report::report;
 use crate::{Fault, Status, top};
 use cpu_set::SetFault;

@@ -1,11 +1,11 @@
 // The top call.
-ghost use Rattle.std.specs.Prelude.{◌≡◌, ◌≢◌, ◌<◌, ◌⊎◌, ◌↔◌, ℕ, List, Some, length, take, IfErr, IfOk, IfSome};
+ghost use Rattle.std.specs.Prelude.{◌≡◌, ◌≢◌, ◌<◌, ◌⊎◌, ◌↔◌, ℕ, List, Some, length, map, string_bytes, take, IfErr, IfOk, IfSome};
 ghost use Rattle.edge_io.specs.Counts.{Rose};
 ghost use Rattle.edge_io.specs.Contents.{Gains, IsDrained};
 ghost use Rattle.edge_io.specs.Reading.{HasGiven};
 ghost use Rattle.clof_tool.specs.declared.status.Status.{Status as AnyStatus};
 ghost use Rattle.clof_tool.specs.Line.{line_of};
-ghost use Rattle.clof_tool.specs.Words.{Asked, Says, IsUsage};
+ghost use Rattle.clof_tool.specs.Words.{Asked, Says, IsTabled, IsUsage};
 ghost use Rattle.clof_tool.specs.Run.{input_limit};
 ghost use Rattle.clof_tool.specs.Outcome.{ReadsInput, IsInput, HasRead, IsAnswer, WordsRefused, InputRefused, HasCause, IsRefusal};
 ghost use Rattle.clof_tool.specs.Outcome.{HasWritten};
@@ -36,8 +36,10 @@ pub fn top<R: Threads + Wait + Sync, S: Source, K: Sink, E: Sink>(
     err: &mut E,
 ) -> Status
     // The words.
-    ensures usage { (result ≡ Status.Usage) ↔ IsUsage words.now }
-    ensures unread { result ≡ Status.Usage → source.new ≡ source.old }
+    ensures usage { result ≡ Status.Usage → IsUsage words.now }
+    ensures usage_else { IsUsage words.now →
+        (result ≡ Status.Usage) ⊎ ((result ≡ Status.OutOfMemory) × IsTabled (map string_bytes words.now)) }
+    ensures unread { IsUsage words.now → source.new ≡ source.old }
     ensures unread_else { (asked : Asked) → Says words.now asked → (ReadsInput asked → ⊥) → source.new ≡ source.old }
 
     // What is refused by the words alone, whatever the input is.
@@ -92,9 +94,12 @@ pub fn top<R: Threads + Wait + Sync, S: Source, K: Sink, E: Sink>(
     ensures told_in_part { result ≢ Status.Ok → (written : ℕ) × Gains (E.held err.old) (E.held err.new) (take written (line_of result)) }
 {
     let _runtime = rt;
-    let Some(asked) = read_words(words) else {
-        report(err, &Status::Usage);
-        return Status::Usage;
+    let asked = match read_words(alloc, words) {
+        Ok(asked) => asked,
+        Err(status) => {
+            report(err, &status);
+            return status;
+        }
     };
     let status = print(answer(alloc, asked, source), out);
     report(err, &status);

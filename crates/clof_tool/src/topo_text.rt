@@ -1,13 +1,13 @@
 // What `topo` prints.
 ghost use Rattle.std.specs.Prelude.{◌≡◌, ◌⊎◌, List, ℕ, IfErr, IfOk, IsOk};
 ghost use Rattle.clof_tool.specs.declared.status.Status.{Status as AnyStatus};
-ghost use Rattle.clof_tool.specs.TopoText.{text_of, synth_status, build_status, PrintsTopo, TopoRefuses};
+ghost use Rattle.clof_tool.specs.TopoText.{text_of, PrintsTopo, TopoRefuses};
 
-use crate::{Fault, Status};
+use crate::Status;
+use crate::topology::topology;
 use edge_io::OutOfMemory;
 use std::alloc::Global;
-use synth_text::{SynthFault, read};
-use topo_tree::{BuildFault, Topology};
+use topo_tree::Topology;
 
 /// The tree of the description that a text tells, or its canonical text, or the status with which it is refused.
 pub(crate) fn topo_text(alloc: Global, export: bool, text: &[u8]) -> Result<Vec<u8>, Status>
@@ -16,40 +16,12 @@ pub(crate) fn topo_text(alloc: Global, export: bool, text: &[u8]) -> Result<Vec<
     ensures refused { (status : AnyStatus) → TopoRefuses text.now status → (result ≡ Err status) ⊎ (result ≡ Err Status.OutOfMemory) }
     ensures complete { (printed : List ℕ) → PrintsTopo export text.now printed → IsOk result ⊎ (result ≡ Err Status.OutOfMemory) }
 {
-    let description = match read(alloc, text) {
-        Ok(description) => description,
-        Err(fault) => return Err(synth_status(fault)),
-    };
-    let topology = match Topology::build(alloc, description) {
-        Ok(topology) => topology,
-        Err(fault) => return Err(build_status(fault)),
-    };
-    match text_of(alloc, export, &topology) {
-        Ok(printed) => Ok(printed),
-        Err(OutOfMemory) => Err(Status::OutOfMemory),
-    }
-}
-
-// The status of a fault of reading: two of them are limits.
-fn synth_status(fault: SynthFault) -> Status
-    ensures { result ≡ synth_status fault }
-{
-    match fault {
-        SynthFault::TooManyLevels | SynthFault::TooManyObjects => {
-            Status::Limit(Fault::Synth(fault))
-        }
-        SynthFault::OutOfMemory => Status::OutOfMemory,
-        _ => Status::Malformed(Fault::Synth(fault)),
-    }
-}
-
-// The status of a fault of building.
-fn build_status(fault: BuildFault) -> Status
-    ensures { result ≡ build_status fault }
-{
-    match fault {
-        BuildFault::OutOfMemory => Status::OutOfMemory,
-        _ => Status::Malformed(Fault::Build(fault)),
+    match topology(alloc, text) {
+        Ok(topology) => match text_of(alloc, export, &topology) {
+            Ok(printed) => Ok(printed),
+            Err(OutOfMemory) => Err(Status::OutOfMemory),
+        },
+        Err(status) => Err(status),
     }
 }
 

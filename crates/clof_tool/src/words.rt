@@ -1,7 +1,11 @@
 // The words of the command line.
-ghost use Rattle.std.specs.Prelude.{◌≡◌, ◌≢◌, ◌↔◌, [], ◌∷◌, IsTrue, MatchOption, Some, slice_get};
-ghost use Rattle.clof_tool.specs.Words.{Asked as PlainAsked, Says, Spells, IsPlain, IsUsage};
+ghost use Rattle.std.specs.Prelude.{◌≡◌, ◌≢◌, ◌⊎◌, ◌↔◌, [], ◌∷◌, IsTrue, IfOk, IfErr, MatchOption, Some, codes, map, string_bytes, slice_get};
+ghost use Rattle.clof_tool.specs.Words.{Asked as PlainAsked, Says, IsWritten, IsTabled, IsPlain, IsUsage};
 ghost use Rattle.clof_tool.specs.Asked.{plain};
+
+use crate::Status;
+use crate::distrib_words::{Distribution, read_distribution};
+use std::alloc::Global;
 
 /// What the words ask for.
 #[derive(Clone, Copy)]
@@ -12,11 +16,52 @@ pub(crate) enum Asked<'a> {
     Set { list: bool, text: &'a [u8] },
     /// Print the tree of a description, or its canonical text.
     Topo { export: bool, text: &'a [u8] },
+    /// Print masks, shared out over the objects of a description.
+    Distrib(Distribution<'a>),
 }
 
-/// What the words ask for; `None` where they are no command line of the program.
-pub(crate) fn read_words(words: &[String]) -> Option<Asked<'_>>
-    ensures { MatchOption result (IsUsage words.now) (λ asked. Says words.now (plain asked)) }
+/// What the words ask for. Usage: they are no command line of the program. OutOfMemory: the words of a command with a table
+/// want memory.
+pub(crate) fn read_words(alloc: Global, words: &[String]) -> Result<Asked<'_>, Status>
+    ensures asked { IfOk result (λ asked. Says words.now (plain asked)) }
+    ensures only { IfOk result (λ asked. (other : PlainAsked) → Says words.now other → other ≡ plain asked) }
+    ensures refused { IfErr result (λ status. ((status ≡ Status.OutOfMemory) × IsTabled (map string_bytes words.now))
+        ⊎ ((status ≡ Status.Usage) × IsUsage words.now)) }
+{
+    if is_tabled(words) {
+        match read_distribution(alloc, words) {
+            Ok(asked) => Ok(Asked::Distrib(asked)),
+            Err(status) => Err(status),
+        }
+    } else {
+        match read_written(words) {
+            Some(asked) => Ok(asked),
+            None => Err(Status::Usage),
+        }
+    }
+}
+
+// Whether the first word names a command with a table.
+fn is_tabled(words: &[String]) -> bool
+    ensures { IsTrue result ↔ IsTabled (map string_bytes words.now) }
+{
+    match words.first() {
+        Some(command) => is_distrib(command.as_str().as_bytes()),
+        None => false,
+    }
+}
+
+fn is_distrib(command: &[u8]) -> bool
+    ensures { IsTrue result ↔ (command.now ≡ codes "distrib") }
+{
+    command == b"distrib".as_slice()
+}
+
+// What the words of a command that is written in one way ask for.
+fn read_written(words: &[String]) -> Option<Asked<'_>>
+    ensures { MatchOption result
+        ((asked : PlainAsked) → IsWritten (map string_bytes words.now) asked → ⊥)
+        (λ asked. IsWritten (map string_bytes words.now) (plain asked)) }
 {
     match words {
         [command] => read_alone(command.as_str().as_bytes()),
@@ -33,8 +78,8 @@ pub(crate) fn read_words(words: &[String]) -> Option<Asked<'_>>
 // A command without words behind it.
 fn read_alone(command: &[u8]) -> Option<Asked<'_>>
     ensures { MatchOption result
-        ((asked : PlainAsked) → Spells (command.now ∷ []) asked → ⊥)
-        (λ asked. Spells (command.now ∷ []) (plain asked)) }
+        ((asked : PlainAsked) → IsWritten (command.now ∷ []) asked → ⊥)
+        (λ asked. IsWritten (command.now ∷ []) (plain asked)) }
 {
     if command == b"run".as_slice() {
         Some(Asked::Run)
@@ -46,8 +91,8 @@ fn read_alone(command: &[u8]) -> Option<Asked<'_>>
 // A command with its text.
 fn read_text<'a>(command: &'a [u8], text: &'a [u8]) -> Option<Asked<'a>>
     ensures { MatchOption result
-        ((asked : PlainAsked) → Spells (command.now ∷ text.now ∷ []) asked → ⊥)
-        (λ asked. Spells (command.now ∷ text.now ∷ []) (plain asked)) }
+        ((asked : PlainAsked) → IsWritten (command.now ∷ text.now ∷ []) asked → ⊥)
+        (λ asked. IsWritten (command.now ∷ text.now ∷ []) (plain asked)) }
 {
     if !is_plain(text) {
         None
@@ -66,8 +111,8 @@ fn read_text<'a>(command: &'a [u8], text: &'a [u8]) -> Option<Asked<'a>>
 // A command with an option and its text.
 fn read_option<'a>(command: &'a [u8], option: &'a [u8], text: &'a [u8]) -> Option<Asked<'a>>
     ensures { MatchOption result
-        ((asked : PlainAsked) → Spells (command.now ∷ option.now ∷ text.now ∷ []) asked → ⊥)
-        (λ asked. Spells (command.now ∷ option.now ∷ text.now ∷ []) (plain asked)) }
+        ((asked : PlainAsked) → IsWritten (command.now ∷ option.now ∷ text.now ∷ []) asked → ⊥)
+        (λ asked. IsWritten (command.now ∷ option.now ∷ text.now ∷ []) (plain asked)) }
 {
     if !is_plain(text) {
         None

@@ -1,16 +1,14 @@
-use Rattle.std.proofs.Common.{◌≡◌, ℕ, List, subst, inl, inr}
-use Rattle.std.specs.Prelude.{map, string_bytes, IfErr}
+use Rattle.std.proofs.Common.{◌≡◌, ℕ, List, subst, sym, inl, inr}
+use Rattle.std.specs.Prelude.{IfErr}
 use Rattle.clof_tool.specs.Words.{Asked}
 use Rattle.clof_tool.specs.Asked.{plain}
 use Rattle.clof_tool.specs.Outcome.{WordsRefused, HasRead, IsAnswer}
-use Rattle.clof_tool.proofs.Askings.{one_asked}
 use Rattle.clof_tool.proofs.Stops.{stopped_text}
 use Rattle.clof_tool.proofs.top_call.top.Goals as goal
 
 pub returns-clause-words_refused : goal.returns-clause-words_refused
 returns-clause-words_refused g c asked status says refused =
-    let same : asked ≡ plain c.in-Some.asked =
-    one_asked (map string_bytes c.args.words.now) asked (plain c.in-Some.asked) says c.in-Some.ensures in
+    let same : asked ≡ plain c.in-Ok.asked = c.in-Ok.ensures.only asked says in
     elim (c.answer.ensures.words_refused status (subst (λ (a : Asked). WordsRefused a status) same refused)) [
       | inl is ↦ inl (subst (λ m. IfErr m (λ s. c.print-status.result ≡ s)) is c.print-status.ensures.refused)
       | inr is ↦ inr (subst (λ m. IfErr m (λ s. c.print-status.result ≡ s)) is c.print-status.ensures.refused)
@@ -20,8 +18,7 @@ pub returns-clause-cut_short : goal.returns-clause-cut_short
 returns-clause-cut_short g c asked written says is =
     let found = stopped_text c.answer.result c.print-status.result written _ _ is c.print-status.ensures.refused
     c.answer.ensures.silent (c.print-status.ensures.cut_short written is) c.answer.ensures.answer in
-    let same : plain c.in-Some.asked ≡ asked =
-    one_asked (map string_bytes c.args.words.now) (plain c.in-Some.asked) asked c.in-Some.ensures says in
+    let same : plain c.in-Ok.asked ≡ asked = sym (c.in-Ok.ensures.only asked says) in
     let source = g.S.Source in
     let read = subst (λ (a : Asked). (input : List ℕ)
     × HasRead a (source.left c.args.source.now) (source.given c.args.source.now) (source.given c.answer.new.source) input
