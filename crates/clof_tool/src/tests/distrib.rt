@@ -30,33 +30,26 @@ const TREE: &str = "Package:2 Core:2 PU:2";
 #[test]
 fn prints_masks(rt: HostRuntime) -> Result<(), Fail> {
     let cases: [(&[&str], &str); 14] = [
-        (&["3", TREE], "0x00000003\n0x0000000c\n0x000000f0\n"),
-        (&["--reverse", "3", TREE], "0x000000c0\n0x00000030\n0x0000000f\n"),
-        (&["3", TREE, "--reverse"], "0x000000c0\n0x00000030\n0x0000000f\n"),
-        (&["003", "--taskset", TREE], "0x3\n0xc\n0xf0\n"),
-        (&["--single", "3", TREE], "0x00000001\n0x00000004\n0x00000010\n"),
+        (&["distrib", "3", TREE], "0x00000003\n0x0000000c\n0x000000f0\n"),
+        (&["distrib", "--reverse", "3", TREE], "0x000000c0\n0x00000030\n0x0000000f\n"),
+        (&["distrib", "3", TREE, "--reverse"], "0x000000c0\n0x00000030\n0x0000000f\n"),
+        (&["distrib", "003", "--taskset", TREE], "0x3\n0xc\n0xf0\n"),
+        (&["distrib", "--single", "3", TREE], "0x00000001\n0x00000004\n0x00000010\n"),
         (
-            &["--single", "--taskset", "--reverse", "3", TREE],
+            &["distrib", "--single", "--taskset", "--reverse", "3", TREE],
             "0x40\n0x10\n0x1\n",
         ),
-        (&["1", "PU:2"], "0x00000003\n"),
-        (&["2", "Core:3 PU:1"], "0x00000001\n0x00000006\n"),
-        (&["--from", "pu", "1", "PU:2"], "0x00000003\n"),
-        (&["--to=package", "4", TREE], "0x0000000f\n0x0000000f\n0x000000f0\n0x000000f0\n"),
-        (&["--at", "core", "4", TREE], "0x00000003\n0x0000000c\n0x00000030\n0x000000c0\n"),
-        (&["--from=package", "--to=Core", "2", TREE], "0x0000000f\n0x000000f0\n"),
-        (&["--at", "numa", "2", "Package:2 [numa] PU:2"], "0x00000003\n0x0000000c\n"),
-        (&["--", "1", "PU:2"], "0x00000003\n"),
+        (&["distrib", "1", "PU:2"], "0x00000003\n"),
+        (&["distrib", "2", "Core:3 PU:1"], "0x00000001\n0x00000006\n"),
+        (&["distrib", "--from", "pu", "1", "PU:2"], "0x00000003\n"),
+        (&["distrib", "--to=package", "4", TREE], "0x0000000f\n0x0000000f\n0x000000f0\n0x000000f0\n"),
+        (&["distrib", "--at", "core", "4", TREE], "0x00000003\n0x0000000c\n0x00000030\n0x000000c0\n"),
+        (&["distrib", "--from=package", "--to=Core", "2", TREE], "0x0000000f\n0x000000f0\n"),
+        (&["distrib", "--at", "numa", "2", "Package:2 [numa] PU:2"], "0x00000003\n0x0000000c\n"),
+        (&["distrib", "--", "1", "PU:2"], "0x00000003\n"),
     ];
     for (words, out) in cases {
-        let mut all = [""; 8];
-        all[0] = "distrib";
-        let mut count = 1;
-        for word in words {
-            all[count] = *word;
-            count += 1;
-        }
-        ends(&rt, rt.alloc(), &all[..count], Status::Ok, out, "")?;
+        ends(&rt, rt.alloc(), words, Status::Ok, out, "")?;
     }
     Ok(())
 }
