@@ -2,14 +2,14 @@
 # Times crates/lock_bench beside the same work over Concurrency Kit (Debian's libck-dev), both in turn, five times each, and prints a table:
 # lock, threads, nanoseconds a hold (the median) of each, and the ratio. It needs a built lock_bench (rt run in crates/lock_bench).
 #
-#   bench/locks.sh [LOCK..]       the locks that both have, by default: ticket
+#   bench/locks.sh [LOCK..]       by default: ticket mcs clh hemlock. Concurrency Kit has no Hemlock: there it stands beside the MCS lock
 set -eu
 cd "$(dirname "$0")/.."
 ours=crates/lock_bench/out/lock_bench
 [ -x "$ours" ] || { echo "there is no $ours: run 'rt run' in crates/lock_bench first" >&2; exit 1; }
 theirs=$(mktemp -d)/ck_locks
 cc -O2 -pthread -o "$theirs" bench/ck_locks.c
-[ $# -gt 0 ] || set -- ticket
+[ $# -gt 0 ] || set -- ticket mcs clh hemlock
 
 # the nanoseconds of one run
 nanoseconds() {
@@ -23,12 +23,13 @@ median() { sort -n | sed -n 3p; }
 printf '%s, %s processors, load %s\n' "$(sed -n 's/^model name[^:]*: //p' /proc/cpuinfo | head -1)" "$(nproc)" "$(cut -d' ' -f1 /proc/loadavg)"
 printf '%-8s %7s %12s %12s %6s\n' lock threads 'ns here' 'ns ck' ratio
 for lock in "$@"; do
+  case $lock in hemlock) peer=mcs ;; *) peer=$lock ;; esac
   for threads in 1 2 4; do
     case $threads in 1) holds=10000000 ;; 2) holds=2000000 ;; *) holds=500000 ;; esac
     here=$(mktemp); there=$(mktemp)
     for _ in 1 2 3 4 5; do
       nanoseconds "$ours" "$lock" "$threads" "$holds" >> "$here"
-      nanoseconds "$theirs" "$lock" "$threads" "$holds" >> "$there"
+      nanoseconds "$theirs" "$peer" "$threads" "$holds" >> "$there"
     done
     awk -v l="$lock" -v t="$threads" -v n=$((threads * holds)) -v a="$(median < "$here")" -v b="$(median < "$there")" \
       'BEGIN { printf "%-8s %7d %12.1f %12.1f %6.2f\n", l, t, a / n, b / n, a / b }'

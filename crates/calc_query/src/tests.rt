@@ -1,12 +1,14 @@
 ghost use Rattle.topo_tree.specs.Objects.{IsLayer};
+ghost use Rattle.calc_query.specs.Selection.{HaveLayers};
 
 use super::*;
+use byte_text::Words;
 use cpu_set::CpuSet;
 use std::alloc::Global;
 use std::process::Abort;
 use std::test::Fail;
-use synth_text::read;
-use topo_tree::{Layer, Object, Topology};
+use synth_text::{cut_at, number_between, read};
+use topo_tree::{Layer, Topology};
 
 mod answers;
 mod faults;
@@ -22,22 +24,53 @@ fn built(rt: &impl Abort, alloc: Global, text: &[u8]) -> Topology {
     }
 }
 
-// The set that words select.
+// The set that words with spaces between them select.
 fn selected(
     rt: &impl Abort,
     alloc: Global,
     topology: &Topology,
-    words: &[&[u8]],
+    words: &[u8],
     numbering: Numbering,
 ) -> Result<CpuSet, Fail> {
     let mut terms = Vec::new(alloc);
-    for word in words {
-        match read_term(alloc, topology, word, 0) {
-            Ok(term) => terms.push(term)?,
-            Err(_) => panic!(rt; "not a term"),
-        }
+    let mut reader = Words::new(words);
+    while let Some(word) = reader.next() {
+        push_term(rt, alloc, topology, &mut terms, word)?;
     }
     Ok(select(topology, terms.as_slice(), numbering))
+}
+
+// Appends the term that a word is.
+fn push_term(
+    rt: &impl Abort,
+    alloc: Global,
+    topology: &Topology,
+    terms: &mut Vec<Term>,
+    word: &[u8],
+) -> Result<(), Fail>
+    requires { HaveLayers topology.now terms.old.items }
+    ensures { HaveLayers topology.now terms.new.items }
+{
+    match read_term(alloc, topology, word, 0) {
+        Ok(term) => Ok(terms.push(term)?),
+        Err(_) => panic!(rt; "not a term"),
+    }
+}
+
+// What stands before and behind the `=` of a line.
+fn halves<'a>(rt: &impl Abort, line: &'a [u8]) -> (&'a [u8], &'a [u8]) {
+    match cut_at(line, b'=') {
+        Some(parts) => parts,
+        None => panic!(rt; "no `=`"),
+    }
+}
+
+// A set in hexadecimal.
+fn hex(rt: &impl Abort, text: &[u8]) -> CpuSet {
+    match CpuSet::read_hex(text) {
+        Ok(set) => set,
+        Err(_) => panic!(rt; "not a set"),
+    }
 }
 
 // The layer that a word names.
@@ -48,15 +81,4 @@ fn layer(rt: &impl Abort, topology: &Topology, word: &[u8]) -> Layer
         Some(layer) => layer,
         None => panic!(rt; "not a layer"),
     }
-}
-
-// The numbers below 64 of a set, as bits.
-fn low_bits(set: &CpuSet) -> u64 {
-    let mut bits = 0;
-    for number in 0..64u32 {
-        if set.has(number) {
-            bits |= 1 << number;
-        }
-    }
-    bits
 }

@@ -1,11 +1,16 @@
-//! Holds of a lock by one, two or four threads, each of which adds one to a number. It prints counts alone; a script under bench/ takes the time.
+//! Holds of a lock by one, two or four threads, each of which adds one to a number. It prints counts alone; a script under bench/
+//! takes the time.
 //!
-//! The words are the lock (`ticket`, or `adds` for atomic additions without a lock), the number of threads, and how often each holds.
+//! The words are the lock (`ticket`, `mcs`, `clh`, `hemlock`, or `adds` for atomic additions without a lock), the number of threads,
+//! and how often each holds.
 #![tactic(auto)]
 
 use anyhow::{Context, bail};
+use clh_lock::Clh;
+use hemlock_lock::Hemlock;
 use lock_rules::Plain;
 use lock_trials::{count_alone, count_by_four, count_by_two};
+use mcs_lock::Mcs;
 use std::env;
 use std::sync::atomic::{AtomicU64, Ordering};
 use ticket_lock::Ticket;
@@ -31,8 +36,17 @@ fn main(rt: HostRuntime) -> anyhow::Result<()> {
         ("ticket", 1) => count_alone::<Ticket<Plain<u64>>, _>(&rt, alloc, (), holds),
         ("ticket", 2) => count_by_two::<Ticket<Plain<u64>>, _>(&rt, alloc, (), holds),
         ("ticket", 4) => count_by_four::<Ticket<Plain<u64>>, _>(&rt, alloc, (), holds),
+        ("mcs", 1) => count_alone::<Mcs<Plain<u64>>, _>(&rt, alloc, (), holds),
+        ("mcs", 2) => count_by_two::<Mcs<Plain<u64>>, _>(&rt, alloc, (), holds),
+        ("mcs", 4) => count_by_four::<Mcs<Plain<u64>>, _>(&rt, alloc, (), holds),
+        ("clh", 1) => count_alone::<Clh<Plain<u64>>, _>(&rt, alloc, (), holds),
+        ("clh", 2) => count_by_two::<Clh<Plain<u64>>, _>(&rt, alloc, (), holds),
+        ("clh", 4) => count_by_four::<Clh<Plain<u64>>, _>(&rt, alloc, (), holds),
+        ("hemlock", 1) => count_alone::<Hemlock<Plain<u64>>, _>(&rt, alloc, (), holds),
+        ("hemlock", 2) => count_by_two::<Hemlock<Plain<u64>>, _>(&rt, alloc, (), holds),
+        ("hemlock", 4) => count_by_four::<Hemlock<Plain<u64>>, _>(&rt, alloc, (), holds),
         _ => bail!(
-            "there is no {lock} with {threads} threads: ticket with 1, 2 or 4, or adds with 1"
+            "there is no {lock} with {threads} threads: name a lock with 1, 2 or 4, or adds with 1"
         ),
     };
     let count = count.context("there was no memory")?;

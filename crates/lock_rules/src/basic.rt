@@ -17,11 +17,12 @@ use std::sync::Wait;
 /// A lock that keeps one value and hands it to one of its passes at a time.
 ///
 /// `name` tells the lock from all others, `tag` is the tag of its value, and `count` is the number of passes that it was made with.
-/// A call that is handed a token asks that it is of this lock, and gives a token of the same lock, tag and number. Only `make` takes memory,
-/// and only `acquire` and `release` wait.
+/// A call that is handed a token asks that it is of this lock, and gives a token of the same lock, tag and number. Only `make` takes
+/// memory, and only `acquire` and `release` wait.
 ///
-/// The contract says what callers rely on, and not how a lock is made: a mutex round the value that is taken by `try_lock` could meet it with tokens that
-/// count its tries. That the four locks are the queue locks of their papers is said by the rules of their tables and by the clauses of their own calls.
+/// The contract says what callers rely on, and not how a lock is made: a mutex round the value that is taken by `try_lock` could meet it
+/// with tokens that count its tries. That the four locks are the queue locks of their papers is said by the rules of their tables and by
+/// the clauses of their own calls.
 pub trait Basic<V: Cargo>: Sized {
     type Recipe: Copy;
 
@@ -84,13 +85,15 @@ pub trait Basic<V: Cargo>: Sized {
         ensures loaded { (Self.Held.holder held.new).loads ≡ (Self.Held.holder held.old).loads + 1 }
         ensures noted { (Self.Held.holder held.new).tested ≡ answer_of result };
 
-    /// Puts the value back and leaves the queue. A parked value needs a yes of `waiter`, and a value that keeps an answer keeps the last one.
+    /// Puts the value back and leaves the queue. A parked value needs a yes of `waiter`, and a value that keeps an answer keeps the last
+    /// one.
     fn begin_release(&self, held: Self::Held) -> Step<Self::Leave, Self::Pass>
         requires own { IsOf (name self.now) (tag self.now) (Self.Held.holder held).place }
         requires fit { V.fit (Self.Held.holder held).value }
         requires tagged { V.tag (Self.Held.holder held).value ≡ tag self.now }
         requires relied_on { V.parked (Self.Held.holder held).value ≡ true → (Self.Held.holder held).tested ≡ Yes }
-        requires said { V.said (Self.Held.holder held).value ≢ Open → V.said (Self.Held.holder held).value ≡ (Self.Held.holder held).tested }
+        requires said { V.said (Self.Held.holder held).value ≢ Open
+            → V.said (Self.Held.holder held).value ≡ (Self.Held.holder held).tested }
         ensures leave { IfNot result (λ l. (Self.Leave.waiting l).place ≡ (Self.Held.holder held).place) }
         ensures loaded { IfNot result (λ l. (Self.Leave.waiting l).loads ≡ (Self.Held.holder held).loads + 1) }
         ensures unready { IfNot result (λ l. (Self.Leave.waiting l).ready ≡ false) }
@@ -158,7 +161,8 @@ pub trait Basic<V: Cargo>: Sized {
         requires fit { V.fit (Self.Held.holder held).value }
         requires tagged { V.tag (Self.Held.holder held).value ≡ tag self.now }
         requires relied_on { V.parked (Self.Held.holder held).value ≡ true → (Self.Held.holder held).tested ≡ Yes }
-        requires said { V.said (Self.Held.holder held).value ≢ Open → V.said (Self.Held.holder held).value ≡ (Self.Held.holder held).tested }
+        requires said { V.said (Self.Held.holder held).value ≢ Open
+            → V.said (Self.Held.holder held).value ≡ (Self.Held.holder held).tested }
         ensures pass { Self.Pass.place result ≡ (Self.Held.holder held).place }
     {
         let mut leave = match self.begin_release(held) {

@@ -8,8 +8,9 @@ ghost use Rattle.lock_rules.specs.declared.view.Phase.TheVariants.{Holding};
 use crate::view::View;
 use atomic_table::Seat;
 
-/// The seat of a holder, with the slot in hand. `mark` is the number by which the lock's words name the holder: its ticket, its pass's number or its
-/// node. `predecessor` is the word that its last swap of the tail found, which CLH makes the holder's own node at the release.
+/// The seat of a holder, with the slot in hand. `mark` is the number by which the lock's words name the holder: its ticket, its pass's
+/// number or its node. `predecessor` is the word that its last swap of the tail found, which CLH makes the holder's own node at the
+/// release.
 #[derive(Drop)]
 pub struct HeldSeat<V> {
     pub seat: Seat<Option<V>, View>,

@@ -5,8 +5,9 @@
 //! `acquire` and `release` wait. What a token means (which lock and pass it is of, what its last load showed) stands in traits of the
 //! tokens, so that no token names the type of a lock.
 //!
-//! For those who write a lock there are what its table's seats know (`View`), the tokens that all locks share (`Pass`, `Queue`, `Held`, `Left`), the key
-//! that its table is told (`Opening`), and how its words lie in lines (`specs/Rows`). The crate `lock_tables` has the rule that stands on these.
+//! For those who write a lock there are what its table's seats know (`View`), the tokens that all locks share (`Pass`, `Queue`, `Held`,
+//! `Left`), the key that its table is told (`Opening`), and how its words lie in lines (`specs/Rows`). The crate `lock_tables` has the rule
+//! that stands on these.
 #![tactic(auto)]
 
 mod basic;

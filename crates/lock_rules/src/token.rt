@@ -20,8 +20,8 @@ pub trait Queueing: Drop {
 pub trait Departing: Drop {
     ghost waiting: { Self → Waiting };
 
-    // What the release still owes: where the token has the lock's value in hand, it is fit, has the token's tag, and is parked only behind a yes of
-    // `waiter`. It is always true of a token that has no value in hand.
+    // What the release still owes: where the token has the lock's value in hand, it is fit, has the token's tag, and is parked only behind
+    // a yes of `waiter`. It is always true of a token that has no value in hand.
     ghost rests: { Self → Type 0 };
 }
 

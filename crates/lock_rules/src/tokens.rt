@@ -1,4 +1,5 @@
-//! The tokens of a pass that doesn't hold. None names the type of the value, and each is one for all locks whose token of that kind has no slot in hand.
+//! The tokens of a pass that doesn't hold. None names the type of the value, and each is one for all locks whose token of that kind has no
+//! slot in hand.
 ghost use Rattle.std.specs.Prelude.{◌≡◌, []};
 ghost use Rattle.lock_rules.specs.Rows.{IsRowOf};
 ghost use Rattle.lock_rules.specs.Tokens.{IsSeated, view_of, badge_place, badge_waiting};
@@ -9,7 +10,8 @@ use crate::token::{Departing, Placed, Queueing};
 use crate::view::View;
 use atomic_table::{Badge, Seat};
 
-/// A pass that isn't in use. `mark` is the number by which the lock's words name it, where they do: its number, its node (CLH), or its last ticket.
+/// A pass that isn't in use. `mark` is the number by which the lock's words name it, where they do: its number, its node (CLH), or its
+/// last ticket.
 #[derive(Drop)]
 pub struct Pass {
     pub badge: Badge<View>,
@@ -29,8 +31,8 @@ pub struct Queue {
     pub ghost behind: { predecessor ≡ (view_of badge).predecessor },
 }
 
-/// A pass that has left, for the locks whose release is done with its first call. They give none; the type has values because the contract of a call that takes
-/// one must be met by some call.
+/// A pass that has left, for the locks whose release is done with its first call. They give none; the type has values because the contract
+/// of a call that takes one must be met by some call.
 #[derive(Drop)]
 pub struct Left {
     pub pass: Pass,

@@ -34,17 +34,17 @@ impl Model for Tagged {
 
 /// What a seat at the table of a lock knows. It exists in proofs alone, and no value of it is made.
 ///
-/// One type serves all four locks, because each type that a token names is compared with all others where locks are nested: with a view, and so a
-/// holder's token, of its own for each lock, a composition of a few levels is out of the checker's reach. A field that a lock doesn't use stays as it
-/// was at the start. Words name a pass by its number plus 1, so that 0 names none.
+/// One type serves all four locks, because each type that a token names is compared with all others where locks are nested: with a view,
+/// and so a holder's token, of its own for each lock, a composition of a few levels is out of the checker's reach. A field that a lock
+/// doesn't use stays as it was at the start. Words name a pass by its number plus 1, so that 0 names none.
 pub struct View {
     /// Of all locks: which lock it is, and how many passes it has. No step changes these.
     pub algorithm: Algorithm,
     pub count: u64,
     /// Of all locks: the tag of the lock's value. No step changes it.
     pub tag: Tagged,
-    /// Of all locks: the seat's own pass, the passes from `from` up to `to` that were not split off yet, and those that it took over by joining.
-    /// A clause reads an array as a list, of any length.
+    /// Of all locks: the seat's own pass, the passes from `from` up to `to` that were not split off yet, and those that it took over by
+    /// joining. A clause reads an array as a list, of any length.
     pub number: u64,
     pub from: u64,
     pub to: u64,
@@ -66,7 +66,7 @@ pub struct View {
     /// Of CLH: the own node, and the nodes that were taken over by joining.
     pub node: u64,
     pub nodes: [u64; 0],
-    /// Of MCS, CLH and Hemlock: the word that the last swap of the tail found, a pass or (CLH) a node. Hemlock sets it to 0 by its store of 0.
+    /// Of MCS, CLH and Hemlock: the word that the last swap of the tail found, a pass or (CLH) a node. Hemlock's store of 0 sets it to 0.
     pub predecessor: u64,
     /// Of MCS: the own `next` was stored 0 for the swap to come.
     pub unlinked: bool,

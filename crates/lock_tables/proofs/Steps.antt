@@ -1,12 +1,15 @@
 -- Each kind of event keeps the rule of a lock's table, and is recorded.
-use Rattle.std.proofs.Common.{◌≡◌, ◌⊎◌, ℕ, suc, ◌+◌, ◌^◌, ◌<◌, Bool, true, false, cond, List, [], ◌∷◌, ◌++◌, length, map, set, slice_index, slice_get, refl, ap, sym, ◌∙◌, subst, inl, inr, ⊎_elim, arith, Option, Some, length-append}
+use Rattle.std.proofs.Common.{◌≡◌, ◌⊎◌, ℕ, suc, ◌+◌, ◌^◌, ◌<◌, Bool, true, false, cond, List, [], ◌∷◌, ◌++◌, length, map, set}
+use Rattle.std.proofs.Common.{slice_index, slice_get, refl, ap, sym, ◌∙◌, subst, inl, inr, ⊎_elim, arith, Option, Some}
+use Rattle.std.proofs.Common.{length-append}
 use Rattle.std.proofs.lemmas.List.{map-append}
 use Rattle.std.proofs.lemmas.List.Sums.{sum_by_push}
 use Rattle.std.proofs.Math.ListN.{length-set}
 use mathlib.Core.Option.{some, none, some-injective, some-ne-none}
 use lib.ListN.{get_elem?}
 use lib.Seq.{set-get_or}
-use Rattle.atomic_table.specs.Table.{State, Me, Act, keeps, takes, gives, stepped, put_back, Valid, carried_after, Splits, Joins, opening, Final, Seen}
+use Rattle.atomic_table.specs.Table.{State, Me, Act, keeps, takes, gives, stepped, put_back, Valid, carried_after, Splits, Joins}
+use Rattle.atomic_table.specs.Table.{opening, Final, Seen}
 use Rattle.lock_rules.specs.Tag.{Tag}
 use Rattle.lock_rules.specs.Views.{IsPlain, first_view, without_next, next_split, joined_view, spent_view}
 use Rattle.lock_rules.specs.declared.step.Answer.TheVariants.{Yes}

@@ -25,9 +25,9 @@ impl<V: Cargo, D: Disciplined> TableRule<Option<V>, View, Opening<V>> for QueueR
     ghost first = { λ key. first_view D.discipline.algorithm key.passes (V.tag key.value.value) };
 }
 
-/// The rule implies the rule of a basic lock: the queue has no repeats and consists of the passes that are queued or hold; a holder is its head; a value is at
-/// home or there is a holder; a parked value at home with no holder has a queue that isn't empty; a holder that tested yes has another pass behind it; one tag,
-/// and a fit value; each number below n has exactly one seat, and no other number has one.
+/// The rule implies the rule of a basic lock: the queue has no repeats and consists of the passes that are queued or hold; a holder is its
+/// head; a value is at home or there is a holder; a parked value at home with no holder has a queue that isn't empty; a holder that tested
+/// yes has another pass behind it; one tag, and a fit value; each number below n has exactly one seat, and no other number has one.
 pub fn rule_is_basic<V: Cargo, D: Disciplined>()
     ensures { RuleIsBasic D.discipline V.fit V.tag V.parked }
 {

@@ -74,7 +74,8 @@ pub fn deal<V: Cargo, D: Disciplined>(
     requires table { seat.table_id ≡ words.now.table_id }
     requires seat { seat.me ≡ (first_view D.discipline.algorithm passes (V.tag words.now.key.value.value), []) }
     requires room { (room.items ≡ []) × (passes ≤ vec_capacity room) }
-    ensures { AreAll (λ p. badge_place p.badge) (lock_name D.discipline.algorithm words.now.table_id) (V.tag words.now.key.value.value) passes result.items }
+    ensures { AreAll (λ p. badge_place p.badge) (lock_name D.discipline.algorithm words.now.table_id)
+        (V.tag words.now.key.value.value) passes result.items }
 {
     D::is_disciplined();
     let mut list = room;
@@ -97,7 +98,8 @@ pub fn gather<V: Cargo, D: Disciplined>(
 ) -> Seat<Option<V>, View>
     requires size { IsSized D.discipline.algorithm words.now.key.passes words.now.table_id }
     requires some { 0 < words.now.key.passes }
-    requires all { AreAll (λ p. badge_place p.badge) (lock_name D.discipline.algorithm words.now.table_id) (V.tag words.now.key.value.value) words.now.key.passes passes.items }
+    requires all { AreAll (λ p. badge_place p.badge) (lock_name D.discipline.algorithm words.now.table_id)
+        (V.tag words.now.key.value.value) words.now.key.passes passes.items }
     ensures table { result.table_id ≡ words.now.table_id }
     ensures idle { result.me.0.phase ≡ Idle }
     ensures all { passes_of result.me.0 ≡ words.now.key.passes }

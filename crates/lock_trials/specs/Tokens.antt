@@ -11,7 +11,8 @@ use Rattle.lock_trials.specs.declared.script.Token.TheVariants.{Idle, Queued, Ho
 abbrev pub IsNoted : {H V : Type 0} → (H → Meaning V) → Holder H → Type 0
 IsNoted held h = h.told_yes ≡ true → (held h.held).tested ≡ Yes
 
-module _ {P Q H L V : Type 0} (pass : P → Place) (queue : Q → Waiting) (held : H → Meaning V) (leave : L → Waiting) (rests : L → Type 0) where
+module _ {P Q H L V : Type 0} (pass : P → Place) (queue : Q → Waiting) (held : H → Meaning V) (leave : L → Waiting)
+    (rests : L → Type 0) where
   abbrev pub place_of_token : Token P Q H L → Place
   place_of_token (Idle p) = pass p
   place_of_token (Queued q) = (queue q).place

@@ -1,7 +1,7 @@
 //! Trials of a basic lock: functions over any lock that keeps the contract, which each lock's tests call at its type.
 //!
-//! `carry_out` makes calls of two passes on one thread, as a script says, and tells what each answered. `hold_by_four` has four threads hold the lock in
-//! turn. What these answer is compared by the tests of the locks; no clause says how threads take turns.
+//! `carry_out` makes calls of two passes on one thread, as a script says, and tells what each answered. `hold_by_four` has four threads
+//! hold the lock in turn. What these answer is compared by the tests of the locks; no clause says how threads take turns.
 #![tactic(auto)]
 
 mod counts;

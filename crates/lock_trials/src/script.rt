@@ -112,7 +112,8 @@ fn play_queued<B: Basic<Parcel>>(
     call: Call,
 ) -> Option<(Token<B::Pass, B::Queue, B::Held, B::Leave>, Told)>
     requires { IsOf (B.name lock.now) (B.tag lock.now) (B.Queue.waiting queue).place }
-    ensures { IfSome result (λ t. Stands B.Pass.place B.Queue.waiting B.Held.holder B.Leave.waiting B.Leave.rests (B.Queue.waiting queue).place t.0) }
+    ensures { IfSome result (λ t. Stands B.Pass.place B.Queue.waiting B.Held.holder B.Leave.waiting B.Leave.rests
+        (B.Queue.waiting queue).place t.0) }
 {
     let Call::Poll = call else { return None };
     match lock.poll(queue) {
@@ -128,7 +129,8 @@ fn release<B: Basic<Parcel>>(
     requires own { IsOf (B.name lock.now) (B.tag lock.now) (B.Held.holder holder.held).place }
     requires tag { B.tag lock.now ≡ leaf 0 }
     requires said { IsNoted B.Held.holder holder }
-    ensures { IfSome result (λ t. Stands B.Pass.place B.Queue.waiting B.Held.holder B.Leave.waiting B.Leave.rests (B.Held.holder holder.held).place t.0) }
+    ensures { IfSome result (λ t. Stands B.Pass.place B.Queue.waiting B.Held.holder B.Leave.waiting B.Leave.rests
+        (B.Held.holder holder.held).place t.0) }
 {
     let Holder { held, told_yes } = holder;
     if B::value(&held).parked && !told_yes {
@@ -182,7 +184,8 @@ fn play_holding<B: Basic<Parcel>>(
     requires own { IsOf (B.name lock.now) (B.tag lock.now) (B.Held.holder holder.held).place }
     requires tag { B.tag lock.now ≡ leaf 0 }
     requires said { IsNoted B.Held.holder holder }
-    ensures { IfSome result (λ t. Stands B.Pass.place B.Queue.waiting B.Held.holder B.Leave.waiting B.Leave.rests (B.Held.holder holder.held).place t.0) }
+    ensures { IfSome result (λ t. Stands B.Pass.place B.Queue.waiting B.Held.holder B.Leave.waiting B.Leave.rests
+        (B.Held.holder holder.held).place t.0) }
 {
     match call {
         Call::Waiter => {
@@ -206,7 +209,8 @@ fn play_leaving<B: Basic<Parcel>>(
 ) -> Option<(Token<B::Pass, B::Queue, B::Held, B::Leave>, Told)>
     requires own { IsOf (B.name lock.now) (B.tag lock.now) (B.Leave.waiting leave).place }
     requires rests { B.Leave.rests leave }
-    ensures { IfSome result (λ t. Stands B.Pass.place B.Queue.waiting B.Held.holder B.Leave.waiting B.Leave.rests (B.Leave.waiting leave).place t.0) }
+    ensures { IfSome result (λ t. Stands B.Pass.place B.Queue.waiting B.Held.holder B.Leave.waiting B.Leave.rests
+        (B.Leave.waiting leave).place t.0) }
 {
     let Call::PollRelease = call else {
         return None;
@@ -223,10 +227,12 @@ fn play<B: Basic<Parcel>>(
     token: Token<B::Pass, B::Queue, B::Held, B::Leave>,
     call: Call,
 ) -> Option<(Token<B::Pass, B::Queue, B::Held, B::Leave>, Told)>
-    requires own { IsOf (B.name lock.now) (B.tag lock.now) (place_of_token B.Pass.place B.Queue.waiting B.Held.holder B.Leave.waiting B.Leave.rests token) }
+    requires own { IsOf (B.name lock.now) (B.tag lock.now)
+        (place_of_token B.Pass.place B.Queue.waiting B.Held.holder B.Leave.waiting B.Leave.rests token) }
     requires sound { IsSound B.Pass.place B.Queue.waiting B.Held.holder B.Leave.waiting B.Leave.rests token }
     requires tag { B.tag lock.now ≡ leaf 0 }
-    ensures { IfSome result (λ t. Stands B.Pass.place B.Queue.waiting B.Held.holder B.Leave.waiting B.Leave.rests (place_of_token B.Pass.place B.Queue.waiting B.Held.holder B.Leave.waiting B.Leave.rests token) t.0) }
+    ensures { IfSome result (λ t. Stands B.Pass.place B.Queue.waiting B.Held.holder B.Leave.waiting B.Leave.rests
+        (place_of_token B.Pass.place B.Queue.waiting B.Held.holder B.Leave.waiting B.Leave.rests token) t.0) }
 {
     match token {
         Token::Idle(pass) => play_idle(lock, pass, call),
@@ -249,9 +255,11 @@ fn make_move<B: Basic<Parcel>>(
     pair: Pair<B::Pass, B::Queue, B::Held, B::Leave>,
     next: Move,
 ) -> Option<(Pair<B::Pass, B::Queue, B::Held, B::Leave>, Told)>
-    requires pair { ArePair B.Pass.place B.Queue.waiting B.Held.holder B.Leave.waiting B.Leave.rests (B.name lock.now) (B.tag lock.now) pair.first pair.second }
+    requires pair { ArePair B.Pass.place B.Queue.waiting B.Held.holder B.Leave.waiting B.Leave.rests (B.name lock.now)
+        (B.tag lock.now) pair.first pair.second }
     requires tag { B.tag lock.now ≡ leaf 0 }
-    ensures { IfSome result (λ t. ArePair B.Pass.place B.Queue.waiting B.Held.holder B.Leave.waiting B.Leave.rests (B.name lock.now) (B.tag lock.now) t.0.first t.0.second) }
+    ensures { IfSome result (λ t. ArePair B.Pass.place B.Queue.waiting B.Held.holder B.Leave.waiting B.Leave.rests (B.name lock.now)
+        (B.tag lock.now) t.0.first t.0.second) }
 {
     let Pair { first, second } = pair;
     match next.who {
@@ -273,7 +281,8 @@ fn make_moves<B: Basic<Parcel>>(
     moves: &[Move],
     told: &mut Vec<Told>,
 ) -> Option<(B::Pass, B::Pass)>
-    requires pair { ArePair B.Pass.place B.Queue.waiting B.Held.holder B.Leave.waiting B.Leave.rests (B.name lock.now) (B.tag lock.now) pair.first pair.second }
+    requires pair { ArePair B.Pass.place B.Queue.waiting B.Held.holder B.Leave.waiting B.Leave.rests (B.name lock.now)
+        (B.tag lock.now) pair.first pair.second }
     requires tag { B.tag lock.now ≡ leaf 0 }
     ensures passes { IfSome result (λ t. ArePasses B.Pass.place (B.name lock.now) (B.tag lock.now) t.0 t.1) }
     ensures told { IfSome result (λ _. vec_len told.new ≡ vec_len told.old + length moves.now) }
@@ -290,8 +299,8 @@ fn make_moves<B: Basic<Parcel>>(
     Some((first, second))
 }
 
-/// A lock with two passes, the moves of a script on it, and its end. The answer is `None` for want of memory, or where a move isn't one of a pass
-/// that stands so, or a pass isn't idle at the end.
+/// A lock with two passes, the moves of a script on it, and its end. The answer is `None` for want of memory, or where a move isn't one of
+/// a pass that stands so, or a pass isn't idle at the end.
 pub fn carry_out<B: Basic<Parcel> + Drop>(
     alloc: Global,
     recipe: B::Recipe,

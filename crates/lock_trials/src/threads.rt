@@ -14,8 +14,8 @@ use std::thread::{Threads, join};
 /// How often each thread holds the lock in the tests of the locks.
 pub const HOLDS: u32 = 100;
 
-/// Adds one to the number in the value. Where `parks` is true the value is unparked first, and is parked again where `waiter`, which is asked only then, says that
-/// somebody is queued behind.
+/// Adds one to the number in the value. Where `parks` is true the value is unparked first, and is parked again where `waiter`, which is
+/// asked only then, says that somebody is queued behind.
 fn hold<B: Basic<Parcel>, R: Wait>(rt: &R, lock: &B, pass: B::Pass, parks: bool) -> B::Pass
     requires own { IsOf (B.name lock.now) (B.tag lock.now) (B.Pass.place pass) }
     requires tag { B.tag lock.now ≡ leaf 0 }
@@ -49,8 +49,8 @@ fn hold_often<B: Basic<Parcel>, R: Wait>(
     pass
 }
 
-/// What a thread does with its pass. The checker doesn't yet send a closure to a thread whose body rests on a trait like `Basic`, where an associated
-/// type has a bound with a type argument, so the closures rest on this trait.
+/// What a thread does with its pass. The checker doesn't yet send a closure to a thread whose body rests on a trait like `Basic`, where an
+/// associated type has a bound with a type argument, so the closures rest on this trait.
 pub(crate) trait Works<P: Placed> {
     ghost allows: { Self → P → Type 0 };
 
@@ -153,7 +153,8 @@ pub(crate) fn apart<V: Cargo, B: Basic<V>>(
     Some(((first, second), (third, fourth)))
 }
 
-/// One pass holds the lock as often as asked and adds one to the number in the value. The answer is the value at the end, or `None` for want of memory.
+/// One pass holds the lock as often as asked and adds one to the number in the value. The answer is the value at the end, or `None` for
+/// want of memory.
 pub fn hold_alone<B: Basic<Parcel> + Drop, R: Wait>(
     rt: &R,
     alloc: Global,
@@ -199,8 +200,8 @@ where
     Some(lock.close(passes))
 }
 
-/// Four threads each hold the lock as often as asked and add one to the number in the value. Where `parks` is true each holder unparks the value, and parks it
-/// where somebody is queued behind. The answer is the value at the end, or `None` for want of memory.
+/// Four threads each hold the lock as often as asked and add one to the number in the value. Where `parks` is true each holder unparks the
+/// value, and parks it where somebody is queued behind. The answer is the value at the end, or `None` for want of memory.
 pub fn hold_by_four<B: Basic<Parcel> + Sync + Drop, R: Threads + Wait + Sync>(
     rt: &R,
     alloc: Global,

@@ -52,7 +52,8 @@ impl<V: Cargo> Basic<V> for Ticket<V> {
 
     /// The answer is always `Not`: a pass draws its ticket, and looks whether it is served by `poll` alone.
     fn begin(&self, pass: Pass) -> Step<Queue, Held<V>>
-        requires own { IsOwn V.tag ticket_algorithm (padded_value self.now.words.table).shared.table_id (padded_value self.now.words.table).shared.key (badge_place pass.badge) }
+        requires own { IsOwn V.tag ticket_algorithm (padded_value self.now.words.table).shared.table_id
+            (padded_value self.now.words.table).shared.key (badge_place pass.badge) }
         ensures always { IsNot result }
         ensures did { IfNot result (λ q. HasEntered V.fit V.tag V.parked pass.badge q.badge) }
         ensures queue { IfNot result (λ q. (badge_waiting q.badge).place ≡ badge_place pass.badge) }
@@ -69,7 +70,8 @@ impl<V: Cargo> Basic<V> for Ticket<V> {
 
     /// The answer is `Not` exactly where the loaded word isn't the pass's ticket. Else the value that was at home is the holder's.
     fn poll(&self, queue: Queue) -> Step<Queue, Held<V>>
-        requires own { IsOwn V.tag ticket_algorithm (padded_value self.now.words.table).shared.table_id (padded_value self.now.words.table).shared.key (badge_waiting queue.badge).place }
+        requires own { IsOwn V.tag ticket_algorithm (padded_value self.now.words.table).shared.table_id
+            (padded_value self.now.words.table).shared.key (badge_waiting queue.badge).place }
         ensures missed { IfNot result (λ q. HasMissed V.fit V.tag V.parked queue.badge q.badge) }
         ensures took { IfGot result (λ h. HasTaken V.fit V.tag V.parked queue.badge h) }
         ensures queue { IfNot result (λ q. (badge_waiting q.badge).place ≡ (badge_waiting queue.badge).place) }
@@ -90,7 +92,8 @@ impl<V: Cargo> Basic<V> for Ticket<V> {
 
     /// The answer is yes exactly where the loaded word isn't the ticket behind the holder's.
     fn waiter(&self, held: &mut Held<V>) -> bool
-        requires own { IsOwn V.tag ticket_algorithm (padded_value self.now.words.table).shared.table_id (padded_value self.now.words.table).shared.key (holder_of held.old).place }
+        requires own { IsOwn V.tag ticket_algorithm (padded_value self.now.words.table).shared.table_id
+            (padded_value self.now.words.table).shared.key (holder_of held.old).place }
         ensures asked { HasAsked V.fit V.tag V.parked held.old held.new result }
         ensures place { (holder_of held.new).place ≡ (holder_of held.old).place }
         ensures value { held.new.value ≡ held.old.value }
@@ -103,7 +106,8 @@ impl<V: Cargo> Basic<V> for Ticket<V> {
 
     /// The answer is never `Not`: the value is put back, and the next ticket is served.
     fn begin_release(&self, held: Held<V>) -> Step<Left, Pass>
-        requires own { IsOwn V.tag ticket_algorithm (padded_value self.now.words.table).shared.table_id (padded_value self.now.words.table).shared.key (holder_of held).place }
+        requires own { IsOwn V.tag ticket_algorithm (padded_value self.now.words.table).shared.table_id
+            (padded_value self.now.words.table).shared.key (holder_of held).place }
         requires fit { V.fit held.value }
         requires tagged { V.tag held.value ≡ V.tag (padded_value self.now.words.table).shared.key.value.value }
         requires relied_on { V.parked held.value ≡ true → (holder_of held).tested ≡ Yes }
@@ -125,7 +129,8 @@ impl<V: Cargo> Basic<V> for Ticket<V> {
 
     /// The answer is never `Not`.
     fn poll_release(&self, leave: Left) -> Step<Left, Pass>
-        requires own { IsOwn V.tag ticket_algorithm (padded_value self.now.words.table).shared.table_id (padded_value self.now.words.table).shared.key (badge_waiting leave.pass.badge).place }
+        requires own { IsOwn V.tag ticket_algorithm (padded_value self.now.words.table).shared.table_id
+            (padded_value self.now.words.table).shared.key (badge_waiting leave.pass.badge).place }
         ensures never { IsGot result }
         ensures leave { IfNot result (λ l. (badge_waiting l.pass.badge).place ≡ (badge_waiting leave.pass.badge).place) }
         ensures loaded { IfNot result (λ l. (badge_waiting l.pass.badge).loads ≡ (badge_waiting leave.pass.badge).loads + 1) }
@@ -138,7 +143,8 @@ impl<V: Cargo> Basic<V> for Ticket<V> {
     }
 
     fn close(self, passes: Vec<Pass>) -> V
-        requires all { AreAll (λ p. badge_place p.badge) (lock_name ticket_algorithm (padded_value self.words.table).shared.table_id) (V.tag (padded_value self.words.table).shared.key.value.value) (padded_value self.words.table).shared.key.passes passes.items }
+        requires all { AreAll (λ p. badge_place p.badge) (lock_name ticket_algorithm (padded_value self.words.table).shared.table_id)
+            (V.tag (padded_value self.words.table).shared.key.value.value) (padded_value self.words.table).shared.key.passes passes.items }
         ensures fit { V.fit result }
         ensures tagged { V.tag result ≡ V.tag (padded_value self.words.table).shared.key.value.value }
         ensures unparked { V.parked result ≡ false }

@@ -44,7 +44,8 @@ impl<V: Cargo> Words<V> {
         requires unparked { V.parked value ≡ false }
         ensures count { IfOk result (λ m. (padded_value m.0.table).shared.key.passes ≡ passes) }
         ensures value { IfOk result (λ m. (padded_value m.0.table).shared.key.value.value ≡ value) }
-        ensures passes { IfOk result (λ m. AreAll (λ p. badge_place p.badge) (lock_name ticket_algorithm (padded_value m.0.table).shared.table_id) (V.tag value) passes m.1.items) }
+        ensures passes { IfOk result (λ m. AreAll (λ p. badge_place p.badge)
+            (lock_name ticket_algorithm (padded_value m.0.table).shared.table_id) (V.tag value) passes m.1.items) }
         ensures refused { IfErr result (λ r. r.value ≡ value) }
     {
         let Ok(room) = Vec::with_capacity(alloc, passes as usize) else {
@@ -58,7 +59,8 @@ impl<V: Cargo> Words<V> {
 
     /// The value of a lock whose passes came back.
     pub(crate) fn close(self, passes: Vec<Pass>) -> V
-        requires all { AreAll (λ p. badge_place p.badge) (lock_name ticket_algorithm (padded_value self.table).shared.table_id) (V.tag (padded_value self.table).shared.key.value.value) (padded_value self.table).shared.key.passes passes.items }
+        requires all { AreAll (λ p. badge_place p.badge) (lock_name ticket_algorithm (padded_value self.table).shared.table_id)
+            (V.tag (padded_value self.table).shared.key.value.value) (padded_value self.table).shared.key.passes passes.items }
         ensures fit { V.fit result }
         ensures tagged { V.tag result ≡ V.tag (padded_value self.table).shared.key.value.value }
         ensures unparked { V.parked result ≡ false }

@@ -1,6 +1,9 @@
 use crate::Ticket;
-use lock_rules::Basic;
-use lock_trials::{Call, HOLDS, Move, Parcel, START, Told, Who, carry_out, hold_by_four};
+use lock_rules::{Basic, Plain};
+use lock_trials::{
+    Call, HOLDS, Move, Parcel, START, Told, Who, carry_out, count_alone, count_by_four,
+    count_by_two, hold_alone, hold_by_four, hold_by_two,
+};
 
 const fn first(call: Call) -> Move {
     Move {
@@ -113,4 +116,28 @@ fn one_pass_is_made_or_the_value_comes_back(rt: HostRuntime) {
             panic!(rt; "there was no memory")
         }
     }
+}
+
+#[test]
+fn every_hold_is_made(rt: HostRuntime) {
+    let holds = u64::from(HOLDS);
+    let Some(alone) = hold_alone::<Ticket<Parcel>, _>(&rt, rt.alloc(), (), HOLDS) else {
+        panic!(rt; "there was no memory")
+    };
+    assert!(rt; alone.count == holds);
+    let Some(by_two) = hold_by_two::<Ticket<Parcel>, _>(&rt, rt.alloc(), (), HOLDS) else {
+        panic!(rt; "there was no memory")
+    };
+    assert!(rt; by_two.count == 2 * holds);
+}
+
+#[test]
+fn every_count_is_made(rt: HostRuntime) {
+    let holds = u64::from(HOLDS);
+    let alone = count_alone::<Ticket<Plain<u64>>, _>(&rt, rt.alloc(), (), HOLDS);
+    assert!(rt; alone == Some(holds));
+    let by_two = count_by_two::<Ticket<Plain<u64>>, _>(&rt, rt.alloc(), (), HOLDS);
+    assert!(rt; by_two == Some(2 * holds));
+    let by_four = count_by_four::<Ticket<Plain<u64>>, _>(&rt, rt.alloc(), (), HOLDS);
+    assert!(rt; by_four == Some(4 * holds));
 }

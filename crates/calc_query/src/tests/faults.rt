@@ -1,68 +1,74 @@
-// Why words are refused.
+// Why words are refused. A line of a table has a word and, behind a `=`, the offset of the bad location, or `type` where a
+// name names no layer.
 use super::*;
 
 const WORD: u32 = 7;
 
-fn location(at: usize) -> CalcFault {
-    CalcFault::Location { word: WORD, at }
-}
-
-fn no_type() -> CalcFault {
-    CalcFault::NoSuchType { word: WORD }
+// The fault that a line tells.
+fn told(rt: &impl Abort, text: &[u8]) -> CalcFault {
+    if text == b"type".as_slice() {
+        return CalcFault::NoSuchType { word: WORD };
+    }
+    match number_between(0, 99, text) {
+        Some(at) => CalcFault::Location {
+            word: WORD,
+            at: at as usize,
+        },
+        None => panic!(rt; "not a fault"),
+    }
 }
 
 #[test]
 fn bad_terms(rt: HostRuntime) {
     let topology = built(&rt, rt.alloc(), b"Core:2 PU:2");
-    let cases: [(&[u8], CalcFault); 43] = [
-        (b"core:x", location(0)),
-        (b"core", location(0)),
-        (b"foo", no_type()),
-        (b"foo:0", no_type()),
-        (b"", location(0)),
-        (b"~", location(1)),
-        (b"x", location(1)),
-        (b"^", location(1)),
-        (b"^core:", location(1)),
-        (b"~core:0.pu:q", location(8)),
-        (b"core:1.foo:0", no_type()),
-        (b"core:1.pu", location(7)),
-        (b"core:x.foo:0", location(0)),
-        (b"foo:0.core:x", no_type()),
-        (b"core:0.", no_type()),
-        (b".core:0", no_type()),
-        (b"core:0..pu:0", no_type()),
-        (b"0x1,", location(0)),
-        (b"~0xg", location(1)),
-        (b"0x1.pu:0", location(0)),
-        (b"9g", location(0)),
-        (b"0xf...f", location(0)),
-        (b"ALL", no_type()),
-        (b"core:ALL", location(0)),
-        (b"core:+1", location(0)),
-        (b"core:-1", location(0)),
-        (b"core:1--2", location(0)),
-        (b"core:1-2-3", location(0)),
-        (b"core:1:", location(0)),
-        (b"core::1", location(0)),
-        (b"core:1:2:3", location(0)),
-        (b"core:1-2:3", location(0)),
-        (b"core:4294967296", location(0)),
-        (b"core:0-4294967296", location(0)),
-        (b"core:4294967296-", location(0)),
-        (b"core:0:4294967296", location(0)),
-        (b"core: 1", location(0)),
-        (b"core:0.pu:0.core:0.pu:z", location(19)),
-        (b"all.pu:0", no_type()),
-        (b"numa:0", no_type()),
-        (b"group:0", no_type()),
-        (b"x~core:0", no_type()),
-        (b"xx", no_type()),
-    ];
-    for (word, fault) in cases {
+    let table: &[u8] = b"core:x=0
+core=0
+foo=type
+foo:0=type
+=0
+~=1
+x=1
+^=1
+^core:=1
+~core:0.pu:q=8
+core:1.foo:0=type
+core:1.pu=7
+core:x.foo:0=0
+foo:0.core:x=type
+core:0.=type
+.core:0=type
+core:0..pu:0=type
+0x1,=0
+~0xg=1
+0x1.pu:0=0
+9g=0
+0xf...f=0
+ALL=type
+core:ALL=0
+core:+1=0
+core:-1=0
+core:1--2=0
+core:1-2-3=0
+core:1:=0
+core::1=0
+core:1:2:3=0
+core:1-2:3=0
+core:4294967296=0
+core:0-4294967296=0
+core:4294967296-=0
+core:0:4294967296=0
+core: 1=0
+core:0.pu:0.core:0.pu:z=19
+all.pu:0=type
+numa:0=type
+group:0=type
+x~core:0=type
+xx=type";
+    for line in table.split(|byte| *byte == b'\n') {
+        let (word, fault) = halves(&rt, line);
         match read_term(rt.alloc(), &topology, word, WORD) {
             Ok(_) => panic!(&rt; "a bad term was read"),
-            Err(found) => assert_eq!(&rt; found, fault),
+            Err(found) => assert_eq!(&rt; found, told(&rt, fault)),
         }
     }
 }
@@ -70,18 +76,17 @@ fn bad_terms(rt: HostRuntime) {
 #[test]
 fn bad_locations(rt: HostRuntime) {
     let topology = built(&rt, rt.alloc(), b"Core:2 PU:2");
-    let cases: [(&[u8], CalcFault); 6] = [
-        (b"~core:0", no_type()),
-        (b"x0x1", no_type()),
-        (b"^all", no_type()),
-        (b"", location(0)),
-        (b"core:0.pu:", location(7)),
-        (b"0x", location(0)),
-    ];
-    for (word, fault) in cases {
+    let table: &[u8] = b"~core:0=type
+x0x1=type
+^all=type
+=0
+core:0.pu:=7
+0x=0";
+    for line in table.split(|byte| *byte == b'\n') {
+        let (word, fault) = halves(&rt, line);
         match read_location(rt.alloc(), &topology, word, WORD) {
             Ok(_) => panic!(&rt; "a bad location was read"),
-            Err(found) => assert_eq!(&rt; found, fault),
+            Err(found) => assert_eq!(&rt; found, told(&rt, fault)),
         }
     }
 }
@@ -89,8 +94,10 @@ fn bad_locations(rt: HostRuntime) {
 #[test]
 fn good_locations(rt: HostRuntime) {
     let topology = built(&rt, rt.alloc(), b"Core:2 PU:2");
-    let cases: [&[u8]; 3] = [b"core:1.pu:0-", b"root", b"0x80000000"];
-    for word in cases {
+    let table: &[u8] = b"core:1.pu:0-
+root
+0x80000000";
+    for word in table.split(|byte| *byte == b'\n') {
         let read = read_location(rt.alloc(), &topology, word, WORD);
         assert!(&rt; read.is_ok());
     }

@@ -1,0 +1,7 @@
+pub mod Nodes
+pub mod Chain
+pub mod Queue
+pub mod Kept
+pub mod Tokens
+pub mod Stands
+pub mod Owners

@@ -1,0 +1,12 @@
+use Rattle.std.proofs.Common.{ap, sym, ◌∙◌, arith}
+use Rattle.clh_lock.proofs.Kept.{waits}
+use Rattle.clh_lock.proofs.steps.Words.load_tail.Goals as goal
+
+pub load-requires : goal.load-requires
+load-requires g c =
+    let words = ap (λ t. t.shared.table_id.words) c.deref.ensures ∙ c.args.self.now.sized.row in (
+      c.requires.table ∙ sym (ap (λ t. t.shared.table_id) c.deref.ensures),
+      omega (arith, words),
+      waits g.V.Cargo.fit g.V.Cargo.tag
+          g.V.Cargo.parked _ _ _ _ _ c.requires.holds c.requires.unspent,
+    )

@@ -1,0 +1,191 @@
+//! The lock's words, and the atomic steps on them, by their names in the published pseudo-code. Nothing else reaches the words.
+ghost use Rattle.std.specs.Prelude.{◌≡◌, ◌≢◌, ◌<◌, ◌≤◌, ◌^◌, [], ◌∷◌, true, false, Some, None, IfOk, IfErr};
+ghost use Rattle.crossbeam_utils.specs.Padded.{padded_value};
+ghost use Rattle.lock_rules.specs.Passes.{AreAll};
+ghost use Rattle.lock_rules.specs.Tokens.{badge_place};
+ghost use Rattle.lock_rules.specs.Views.{lock_name};
+ghost use Rattle.lock_rules.specs.declared.view.Algorithm.TheVariants.{Clh as clh_algorithm};
+ghost use Rattle.lock_rules.specs.declared.view.Phase.TheVariants.{Idle, Queued, Holding};
+ghost use Rattle.lock_tables.specs.Happened.{MayRest};
+ghost use Rattle.lock_tables.specs.Seats.{IsSized, seat_as};
+ghost use Rattle.clh_lock.specs.Kinds.{Raised, Entered, Took, Missed, Tested, Left};
+ghost use Rattle.clh_lock.specs.Rule.{flag, granted, opens};
+
+use crate::kinds::{FetchAndStoreTail, LoadTail, LoadWatched, StoreGranted, StorePending};
+use crate::laws::ClhWords;
+use atomic_table::Seat;
+use crossbeam_utils::CachePadded;
+use lock_rules::{Cargo, Pass, Refused, View};
+use lock_tables::{LockTable, deal, gather, lay, put, take, take_out};
+use std::alloc::{AllocError, Global};
+
+/// The word `tail` and the flags, each on a line of its own, and the slot.
+#[derive(Drop)]
+pub(crate) struct Words<V: Cargo> {
+    table: CachePadded<LockTable<V, ClhWords>>,
+    ghost sized: { IsSized clh_algorithm (padded_value table).shared.key.passes (padded_value table).shared.table_id },
+    ghost used: { 0 < (padded_value table).shared.key.passes },
+    ghost few: { (padded_value table).shared.key.passes < 2 ^ 32 },
+}
+
+const PENDING: u64 = 1;
+
+pub(crate) const GRANTED: u64 = 0;
+
+/// How many words a line has, and how many stand before the first.
+const LINE: usize = 16;
+
+const TAIL: usize = 16;
+
+/// The words of a new lock.
+fn open(alloc: Global, passes: u32) -> Result<Vec<u64>, AllocError>
+    ensures { IfOk result (λ w. w.items ≡ opens passes) }
+{
+    let mut words = vec![in alloc; GRANTED; LINE * (passes as usize + 3)]?;
+    words[TAIL] = u64::from(passes);
+    Ok(words)
+}
+
+/// Where the flag of a node is.
+fn flag_of(node: u64) -> usize
+    requires { node < 2 ^ 32 }
+    ensures { result ≡ flag node }
+{
+    LINE * (node as usize + 2)
+}
+
+impl<V: Cargo> Words<V> {
+    /// The words of a new lock with the value at home, and its passes.
+    pub(crate) fn make(
+        alloc: Global,
+        passes: u32,
+        value: V,
+    ) -> Result<(Words<V>, Vec<Pass>), Refused<V>>
+        requires some { 0 < passes }
+        requires fit { V.fit value }
+        requires unparked { V.parked value ≡ false }
+        ensures count { IfOk result (λ m. (padded_value m.0.table).shared.key.passes ≡ passes) }
+        ensures value { IfOk result (λ m. (padded_value m.0.table).shared.key.value.value ≡ value) }
+        ensures passes { IfOk result (λ m. AreAll (λ p. badge_place p.badge) (lock_name clh_algorithm
+            (padded_value m.0.table).shared.table_id) (V.tag value) passes m.1.items) }
+        ensures refused { IfErr result (λ r. r.value ≡ value) }
+    {
+        let Ok(room) = Vec::with_capacity(alloc, passes as usize) else {
+            return Err(Refused { value });
+        };
+        let Ok(words) = open(alloc, passes) else {
+            return Err(Refused { value });
+        };
+        let (table, seat) = lay::<V, ClhWords>(alloc, &words, passes, value)?;
+        let list = deal(&table.shared, seat, passes, room);
+        let table = CachePadded::new(table);
+        Ok((Words { table }, list))
+    }
+
+    /// The value of a lock whose passes came back.
+    pub(crate) fn close(self, passes: Vec<Pass>) -> V
+        requires all { AreAll (λ p. badge_place p.badge) (lock_name clh_algorithm (padded_value self.table).shared.table_id)
+            (V.tag (padded_value self.table).shared.key.value.value) (padded_value self.table).shared.key.passes passes.items }
+        ensures fit { V.fit result }
+        ensures tagged { V.tag result ≡ V.tag (padded_value self.table).shared.key.value.value }
+        ensures unparked { V.parked result ≡ false }
+    {
+        let Words { table } = self;
+        let table = table.into_inner();
+        let seat = gather(&table.shared, passes);
+        take_out(table, seat)
+    }
+
+    /// Makes the pass's own node pending, for the swap to come.
+    pub(crate) fn store_pending(&self, seat: &mut Seat<Option<V>, View>, node: u64)
+        requires table { seat.old.table_id ≡ (padded_value self.now.table).shared.table_id }
+        requires idle { seat.old.me.0.phase ≡ Idle }
+        requires unspent { seat.old.me.0.spent ≡ false }
+        requires own { node ≡ seat.old.me.0.node }
+        requires within { node ≤ (padded_value self.now.table).shared.key.passes }
+        ensures table { seat.new.table_id ≡ seat.old.table_id }
+        ensures step { Raised V.fit V.tag V.parked seat.old.me seat.new.me }
+    {
+        self.table
+            .shared
+            .store::<StorePending>(seat, flag_of(node), PENDING);
+    }
+
+    /// Makes the pass's own node the last of the queue, by which the pass enters. What it finds is the node to watch.
+    pub(crate) fn fetch_and_store_tail(&self, seat: &mut Seat<Option<V>, View>, node: u64) -> u64
+        requires table { seat.old.table_id ≡ (padded_value self.now.table).shared.table_id }
+        requires idle { seat.old.me.0.phase ≡ Idle }
+        requires unspent { seat.old.me.0.spent ≡ false }
+        requires raised { seat.old.me.0.raised ≡ true }
+        requires own { node ≡ seat.old.me.0.node }
+        ensures table { seat.new.table_id ≡ seat.old.table_id }
+        ensures step { Entered V.fit V.tag V.parked seat.old.me result seat.new.me }
+    {
+        self.table
+            .shared
+            .swap::<FetchAndStoreTail>(seat, TAIL, node)
+    }
+
+    /// Loads the flag of the node that the pass watches. Where it is granted, the pass takes the slot.
+    pub(crate) fn load_watched(&self, seat: &mut Seat<Option<V>, View>, predecessor: u64) -> u64
+        requires table { seat.old.table_id ≡ (padded_value self.now.table).shared.table_id }
+        requires queued { seat.old.me.0.phase ≡ Queued }
+        requires unspent { seat.old.me.0.spent ≡ false }
+        requires watched { predecessor ≡ seat.old.me.0.predecessor }
+        requires within { predecessor ≤ (padded_value self.now.table).shared.key.passes }
+        ensures table { seat.new.table_id ≡ seat.old.table_id }
+        ensures took { result ≡ granted → Took V.fit V.tag V.parked seat.old.me result seat.new.me }
+        ensures missed { result ≢ granted → Missed V.fit V.tag V.parked seat.old.me result seat.new.me }
+    {
+        self.table
+            .shared
+            .load::<LoadWatched>(seat, flag_of(predecessor))
+    }
+
+    /// Loads the last node of the queue, which a holder compares with its own.
+    pub(crate) fn load_tail(&self, seat: &mut Seat<Option<V>, View>) -> u64
+        requires table { seat.old.table_id ≡ (padded_value self.now.table).shared.table_id }
+        requires holds { seat.old.me.0.phase ≡ Holding }
+        requires unspent { seat.old.me.0.spent ≡ false }
+        ensures table { seat.new.table_id ≡ seat.old.table_id }
+        ensures step { Tested V.fit V.tag V.parked seat.old.me result seat.new.me }
+    {
+        self.table.shared.load::<LoadTail>(seat, TAIL)
+    }
+
+    /// Grants the holder's own node, by which the holder leaves the queue and gives the slot back. Its own node is then the one that it
+    /// watched.
+    pub(crate) fn store_granted(&self, seat: &mut Seat<Option<V>, View>, node: u64)
+        requires table { seat.old.table_id ≡ (padded_value self.now.table).shared.table_id }
+        requires holds { seat.old.me.0.phase ≡ Holding }
+        requires unspent { seat.old.me.0.spent ≡ false }
+        requires own { node ≡ seat.old.me.0.node }
+        requires within { node ≤ (padded_value self.now.table).shared.key.passes }
+        requires home { (x : V) × (seat.old.me.1 ≡ (0, Some x) ∷ []) × MayRest V.fit V.tag V.parked seat.old.me.0 x }
+        ensures table { seat.new.table_id ≡ seat.old.table_id }
+        ensures step { Left V.fit V.tag V.parked seat.old.me seat.new.me }
+    {
+        self.table
+            .shared
+            .store::<StoreGranted>(seat, flag_of(node), GRANTED);
+    }
+
+    /// Takes the value out of the slot that the seat has just taken.
+    pub(crate) fn take(&self, seat: &mut Seat<Option<V>, View>) -> V
+        requires table { seat.old.table_id ≡ (padded_value self.now.table).shared.table_id }
+        requires full { (x : V) × (seat.old.me.1 ≡ (0, Some x) ∷ []) }
+        ensures value { seat.old.me.1 ≡ (0, Some result) ∷ [] }
+        ensures seat { seat.new ≡ seat_as seat.old seat.old.me.0 ((0, None) ∷ []) }
+    {
+        take(&self.table.shared, seat)
+    }
+
+    /// Puts the value back.
+    pub(crate) fn put(&self, seat: &mut Seat<Option<V>, View>, value: V)
+        requires table { seat.old.table_id ≡ (padded_value self.now.table).shared.table_id }
+        requires empty { seat.old.me.1 ≡ (0, None) ∷ [] }
+        ensures seat { seat.new ≡ seat_as seat.old seat.old.me.0 ((0, Some value) ∷ []) }
+    {
+        put(&self.table.shared, seat, value);
+    }
+}

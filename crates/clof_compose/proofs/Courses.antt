@@ -1,0 +1,27 @@
+-- A course is told by its tag.
+use Rattle.std.proofs.Common.{◌≡◌, ℕ, List, [], ◌∷◌, refl, ap, sym, ◌∙◌}
+use Rattle.lock_rules.specs.Tag.{Tag}
+use Rattle.lock_rules.specs.Views.{tree_of}
+use Rattle.clof_compose.specs.Courses.{Course, course_of, course_tag, list_in, lists_in, tree_of_lists, name_from}
+
+list_in-tree_of : (xs : List ℕ) → list_in (tree_of xs) ≡ xs
+list_in-tree_of [] = refl
+list_in-tree_of (x ∷ xs) = λ i. x ∷ list_in-tree_of xs i
+
+lists_in-tree_of_lists : (xss : List (List ℕ)) → lists_in (tree_of_lists xss) ≡ xss
+lists_in-tree_of_lists [] = refl
+lists_in-tree_of_lists (xs ∷ xss) = λ i. list_in-tree_of xs i ∷ lists_in-tree_of_lists xss i
+
+pub course_of-course_tag : (c : Course) → course_of (course_tag c) ≡ c
+unfolding course_of course_tag
+course_of-course_tag c =
+    let names = list_in-tree_of c.name.slot_names in λ i. record {
+      name = record c.name { slot_names = names i };
+      shape = record { paths = lists_in-tree_of_lists c.shape.paths i; keeps = list_in-tree_of c.shape.keeps i };
+      quotas = list_in-tree_of c.quotas i;
+      payload = c.payload;
+    }
+
+-- two courses with one tag are one
+pub course_tag-tells : (t : Tag) (c : Course) → course_tag c ≡ t → course_of t ≡ c
+course_tag-tells t c e = sym (ap course_of e) ∙ course_of-course_tag c

@@ -1,0 +1,75 @@
+-- What the tag of a root tells.
+use Rattle.std.specs.Prelude.{◌≡◌, ℕ, List, [], ◌∷◌, slice_index, refl}
+use Rattle.std.proofs.Common.{ap}
+use Rattle.atomic_table.specs.Seated.{TableId}
+use Rattle.lock_rules.specs.Tag.{Tag, leaf, fork}
+use Rattle.lock_rules.specs.Views.{tree_of}
+use Rattle.keep_local.specs.declared.shape.Shape.{Shape}
+
+-- the name of a trail, its shape and its quotas, and the payload's tag
+pub record Course : Type 0 where
+  pub name : TableId
+  pub shape : Shape
+  pub quotas : List ℕ
+  pub payload : Tag
+
+abbrev pub left_of : Tag → Tag
+left_of (leaf n) = leaf 0
+left_of (fork a b) = a
+
+abbrev pub right_of : Tag → Tag
+right_of (leaf n) = leaf 0
+right_of (fork a b) = b
+
+abbrev pub number_in : Tag → ℕ
+number_in (leaf n) = n
+number_in (fork a b) = 0
+
+abbrev pub list_in : Tag → List ℕ
+list_in (leaf n) = []
+list_in (fork a b) = number_in a ∷ list_in b
+
+abbrev pub tree_of_lists : List (List ℕ) → Tag
+tree_of_lists [] = leaf 0
+tree_of_lists (xs ∷ xss) = fork (tree_of xs) (tree_of_lists xss)
+
+abbrev pub lists_in : Tag → List (List ℕ)
+lists_in (leaf n) = []
+lists_in (fork a b) = list_in a ∷ lists_in b
+
+abbrev pub tail_of : List ℕ → List ℕ
+tail_of [] = []
+tail_of (x ∷ xs) = xs
+
+abbrev pub head_of : List ℕ → ℕ
+head_of [] = 0
+head_of (x ∷ xs) = x
+
+abbrev pub tree_of_name : TableId → Tag
+tree_of_name z = tree_of (z.words ∷ z.slots ∷ z.views_name ∷ z.atom ∷ z.block ∷ z.offset ∷ z.slot_names)
+
+abbrev pub name_from : List ℕ → TableId
+name_from l0 = let l1 = tail_of l0 in let l2 = tail_of l1 in let l3 = tail_of l2 in let l4 = tail_of l3 in let l5 = tail_of l4 in
+    record {
+      words = head_of l0;
+      slots = head_of l1;
+      views_name = head_of l2;
+      atom = head_of l3;
+      block = head_of l4;
+      offset = head_of l5;
+      slot_names = tail_of l5;
+    }
+
+-- a course written as a tag
+unfoldable pub course_tag : Course → Tag
+course_tag c = fork (tree_of_name c.name) (fork (tree_of_lists c.shape.paths) (fork (tree_of c.shape.keeps) (fork (tree_of c.quotas)
+    c.payload)))
+
+-- the course that a tag names
+unfoldable pub course_of : Tag → Course
+course_of t = record {
+  name = name_from (list_in (left_of t));
+  shape = record { paths = lists_in (left_of (right_of t)); keeps = list_in (left_of (right_of (right_of t))) };
+  quotas = list_in (left_of (right_of (right_of (right_of t))));
+  payload = right_of (right_of (right_of (right_of t)));
+}

@@ -1,0 +1,12 @@
+pub mod Courses
+pub mod Contexts
+pub mod Meanings
+pub mod Roots
+pub mod Calls
+pub mod Passes
+pub mod Tops
+pub mod Owns
+pub mod Levels
+pub mod Stages
+pub mod Nodes
+pub mod Releases

@@ -1,0 +1,80 @@
+//! How a node's holder takes the high lock.
+ghost use Rattle.std.specs.Prelude.{◌≡◌, ◌+◌, ◌<◌, IsSomeAnd, None};
+ghost use Rattle.lock_rules.specs.Holders.{holder_of};
+ghost use Rattle.lock_rules.specs.Steps.{IfNot, IfGot};
+ghost use Rattle.lock_rules.specs.declared.step.Answer.TheVariants.{Open};
+ghost use Rattle.keep_local.specs.Shapes.{node_of};
+ghost use Rattle.clof_compose.specs.Calls.{MayTurn, HasOpened};
+ghost use Rattle.clof_compose.specs.Courses.{course_of};
+ghost use Rattle.clof_compose.specs.Levels.{IsClimbing, IsHolding, IsStanding, kept_stand};
+ghost use Rattle.clof_compose.specs.Nodes.{IsContextOfNode};
+ghost use Rattle.clof_compose.specs.Owns.{IsOwnFit, own_tag_of, context_in};
+ghost use Rattle.clof_compose.specs.declared.own.High.TheVariants.{Kept};
+
+use crate::composed::Composed;
+use crate::own::{High, Own};
+use crate::own_cargo::kept_root;
+use crate::payload::Payload;
+use crate::turns::open_turn;
+use keep_local::Share;
+use lock_rules::{Cargo, Held as Holds, Step};
+use std::mem;
+
+/// The value of a node whose high lock is H, in its holder's hand.
+pub(crate) type InHand<P, H> = Holds<Own<P, <H as Composed<P>>::Pass, <H as Composed<P>>::Held>>;
+
+/// Takes the high lock for a node's holder: where it was kept, a turn is opened that climbed to this level, and else the node's pass
+/// goes up.
+pub(crate) fn take_high<P: Payload, H: Composed<P>>(
+    high: &H,
+    mut low: InHand<P, H>,
+    level: u32,
+    share: &mut Share,
+) -> Step<(InHand<P, H>, H::Queue), InHand<P, H>>
+    requires sound { H.sound high.now }
+    requires above { H.level high.now ≡ level + 1 }
+    requires context { IsContextOfNode (H.has high.now) level (H.tag high.now) low.value.node
+        (context_in H.Pass.rest H.Held.stand low.value.high) }
+    requires fit { IsOwnFit H.Pass.rest H.Held.stand P.calls P.tag H.Held.stands low.value.node low.value.kept low.value.said
+        low.value.high }
+    requires tagged { own_tag_of H.Pass.rest H.Held.stand low.value.node low.value.high ≡ (holder_of low).place.tag }
+    requires untested { (holder_of low).tested ≡ Open }
+    requires share { MayTurn (course_of (H.tag high.now)) (level + 1) low.value.node share.old }
+    ensures queue { IfNot result (λ w. (holder_of w.0).place ≡ (holder_of low).place) }
+    ensures climbs { IfNot result (λ w. IsClimbing level w.0.value.node (holder_of low).place.tag (H.Queue.climbs w.1)
+        (H.Queue.climb w.1)) }
+    ensures unasked { IfNot result (λ w. (holder_of w.0).tested ≡ Open) }
+    ensures not_made { IfNot result (λ _. share.new ≡ share.old) }
+    ensures held { IfGot result (λ h. (holder_of h).place ≡ (holder_of low).place) }
+    ensures holds { IfGot result (λ h. IsHolding level h.value.node h.value.kept (holder_of low).place.tag
+        (IsStanding H.Held.stands h.value.high) (kept_stand H.Held.stand h.value.high)) }
+    ensures untested { IfGot result (λ h. (holder_of h).tested ≡ Open) }
+    ensures made { IfGot result (λ _. share.new ≡ record share.old { made = share.old.made + 1 }) }
+    ensures opened { IfGot result (λ h. IsSomeAnd (kept_stand H.Held.stand h.value.high).root (HasOpened P.calls P.tag
+        (H.tag high.now) level share.new)) }
+{
+    if low.value.parked() {
+        open_turn(kept_root(&mut low.value.high), share, level);
+        return Step::Got(low);
+    }
+    let High::Idle(pass) = mem::replace(&mut low.value.high, High::Away) else {
+        unreachable!()
+    };
+    match high.begin(pass, share) {
+        Step::Not(queue) => Step::Not((low, queue)),
+        Step::Got(held) => Step::Got(keep_high(low, held)),
+    }
+}
+
+/// The value of a node whose holder has taken the high lock anew.
+pub(crate) fn keep_high<P, Pass: Drop, Held: Drop>(
+    mut low: Holds<Own<P, Pass, Held>>,
+    high: Held,
+) -> Holds<Own<P, Pass, Held>>
+    ensures seat { result.seat ≡ low.seat }
+    ensures value { result.value ≡ record low.value { kept = 0; high = Kept high } }
+{
+    low.value.kept = 0;
+    low.value.high = High::Kept(high);
+    low
+}

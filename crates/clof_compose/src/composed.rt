@@ -1,0 +1,131 @@
+//! The contract of a composed lock.
+ghost use Rattle.std.specs.Prelude.{◌≡◌, ◌+◌, ◌≤◌, ℕ, IsSomeAnd};
+ghost use Rattle.lock_rules.specs.Tag.{Tag};
+ghost use Rattle.lock_rules.specs.Steps.{IfNot, IfGot};
+ghost use Rattle.clof_compose.specs.Contexts.{Context};
+ghost use Rattle.clof_compose.specs.Courses.{course_of};
+ghost use Rattle.clof_compose.specs.Calls.{MayTurn, HasOpened, MayRelease, HasClimbed, HasDescended, SameBelow, tests_in};
+ghost use Rattle.clof_compose.specs.Passes.{AreAll};
+ghost use Rattle.clof_compose.specs.Roots.{root_tag, IsFit};
+
+use crate::payload::Payload;
+use crate::root::Root;
+use crate::token::{Climbing, Descending, Resting, Standing};
+use crossbeam_utils::Backoff;
+use keep_local::Share;
+use lock_rules::Step;
+use std::sync::Wait;
+
+/// A lock of one or more levels, whose holder reaches one root.
+///
+/// `level` is the number of its lowest level, `tag` is the tag of its root, and `count` is the number of its contexts, each of which has
+/// one pass. `sound` says that
+/// the locks inside belong together, and `has` that a token of this lock may be of a context. A call that is handed a token asks for
+/// both, and gives a token of the
+/// same context. No call takes memory, and only `acquire` and `release` wait.
+pub trait Composed<P: Payload>: Sized {
+    type Pass: Resting;
+
+    type Queue: Climbing;
+
+    type Held: Standing<P>;
+
+    type Leave: Descending;
+
+    ghost level: { Self → ℕ };
+
+    ghost tag: { Self → Tag };
+
+    ghost count: { Self → ℕ };
+
+    ghost sound: { Self → Type 0 };
+
+    ghost has: { Self → Context → Type 0 };
+
+    /// Goes up from the lowest level until a basic lock answers `Not`, or a level's value has the high lock kept, or the top lock is
+    /// taken. Then the share's
+    /// caller opens a turn.
+    fn begin(&self, pass: Self::Pass, share: &mut Share) -> Step<Self::Queue, Self::Held>
+        requires sound { sound self.now }
+        requires own { has self.now (Self.Pass.rest pass).context }
+        requires share { MayTurn (course_of (tag self.now)) (level self.now) (Self.Pass.rest pass).context.number share.old }
+        ensures queue { IfNot result (λ q. (Self.Queue.climb q).context ≡ (Self.Pass.rest pass).context) }
+        ensures climbs { IfNot result (λ q. Self.Queue.climbs q) }
+        ensures above { IfNot result (λ q. level self.now ≤ (Self.Queue.climb q).level) }
+        ensures not_made { IfNot result (λ _. share.new ≡ share.old) }
+        ensures held { IfGot result (λ h. (Self.Held.stand h).context ≡ (Self.Pass.rest pass).context) }
+        ensures stands { IfGot result (λ h. Self.Held.stands h) }
+        ensures made { IfGot result (λ _. share.new ≡ record share.old { made = share.old.made + 1 }) }
+        ensures opened { IfGot result (λ h. IsSomeAnd (Self.Held.stand h).root (HasOpened P.calls P.tag (tag self.now)
+            (level self.now) share.new)) };
+
+    /// Goes on from the level at which the pass is queued. The answer is `Not` only where it is queued higher now, or where the one load
+    /// of this call at that
+    /// level, which the token records, didn't show the word that the pass waits for.
+    fn poll(&self, queue: Self::Queue, share: &mut Share) -> Step<Self::Queue, Self::Held>
+        requires sound { sound self.now }
+        requires own { has self.now (Self.Queue.climb queue).context }
+        requires climbs { Self.Queue.climbs queue }
+        requires share { MayTurn (course_of (tag self.now)) (level self.now) (Self.Queue.climb queue).context.number share.old }
+        ensures queue { IfNot result (λ q. (Self.Queue.climb q).context ≡ (Self.Queue.climb queue).context) }
+        ensures climbs { IfNot result (λ q. Self.Queue.climbs q) }
+        ensures waits { IfNot result (λ q. HasClimbed (Self.Queue.climb queue) (Self.Queue.climb q)) }
+        ensures not_made { IfNot result (λ _. share.new ≡ share.old) }
+        ensures held { IfGot result (λ h. (Self.Held.stand h).context ≡ (Self.Queue.climb queue).context) }
+        ensures stands { IfGot result (λ h. Self.Held.stands h) }
+        ensures made { IfGot result (λ _. share.new ≡ record share.old { made = share.old.made + 1 }) }
+        ensures opened { IfGot result (λ h. IsSomeAnd (Self.Held.stand h).root (HasOpened P.calls P.tag (tag self.now)
+            (level self.now) share.new)) };
+
+    /// Leaves the lock. At each level below the top that it comes to it asks whether somebody is queued behind, and notes the answer. It
+    /// keeps the high lock for
+    /// them where the level's threshold allows, and else releases the high lock first.
+    fn begin_release(&self, held: Self::Held) -> Step<Self::Leave, Self::Pass>
+        requires sound { sound self.now }
+        requires own { has self.now (Self.Held.stand held).context }
+        requires stands { Self.Held.stands held }
+        requires root { IsSomeAnd (Self.Held.stand held).root (MayRelease P.calls P.tag (tag self.now) (level self.now)
+            (Self.Held.stand held).context.number) }
+        ensures leave { IfNot result (λ l. (Self.Leave.descent l).context ≡ (Self.Held.stand held).context) }
+        ensures descends { IfNot result (λ l. Self.Leave.descends l) }
+        ensures above { IfNot result (λ l. level self.now ≤ (Self.Leave.descent l).level) }
+        ensures noted { IfNot result (λ l. SameBelow (level self.now) (tests_in (Self.Held.stand held).root) (Self.Leave.descent l).tests) }
+        ensures pass { IfGot result (λ p. (Self.Pass.rest p).context ≡ (Self.Held.stand held).context) }
+        ensures tests { IfGot result (λ p. SameBelow (level self.now) (tests_in (Self.Held.stand held).root) (Self.Pass.rest p).tests) };
+
+    /// Goes on with a release. The answer is `Not` only where it leaves at a lower level now, or where the one load of this call at that
+    /// level, which the token
+    /// records, didn't show the word that the pass waits for.
+    fn poll_release(&self, leave: Self::Leave) -> Step<Self::Leave, Self::Pass>
+        requires sound { sound self.now }
+        requires own { has self.now (Self.Leave.descent leave).context }
+        requires descends { Self.Leave.descends leave }
+        ensures leave { IfNot result (λ l. (Self.Leave.descent l).context ≡ (Self.Leave.descent leave).context) }
+        ensures descends { IfNot result (λ l. Self.Leave.descends l) }
+        ensures above { IfNot result (λ l. level self.now ≤ (Self.Leave.descent l).level) }
+        ensures waits { IfNot result (λ l. HasDescended (Self.Leave.descent leave) (Self.Leave.descent l)) }
+        ensures noted { IfNot result (λ l. (Self.Leave.descent l).tests ≡ (Self.Leave.descent leave).tests) }
+        ensures pass { IfGot result (λ p. (Self.Pass.rest p).context ≡ (Self.Leave.descent leave).context) }
+        ensures tests { IfGot result (λ p. (Self.Pass.rest p).tests ≡ (Self.Leave.descent leave).tests) };
+
+    /// Takes the lock apart, with all its passes in the order of their numbers.
+    fn close(self, passes: Vec<Self::Pass>) -> Root<P>
+        requires sound { sound self }
+        requires all { AreAll (λ p. (Self.Pass.rest p).context) (has self) (count self) passes.items }
+        ensures fit { IsFit P.calls result }
+        ensures tagged { root_tag P.tag result ≡ tag self };
+
+    /// The level at which a pass is queued.
+    final fn waits_at(queue: &Self::Queue) -> u32
+        ensures { result ≡ (Self.Queue.climb queue.now).level }
+    {
+        queue.waits_at()
+    }
+
+    /// The level at which a pass leaves.
+    final fn leaves_at(leave: &Self::Leave) -> u32
+        ensures { result ≡ (Self.Leave.descent leave.now).level }
+    {
+        leave.leaves_at()
+    }
+}

@@ -1,0 +1,102 @@
+//! The tokens of a level: those of its node's basic lock, beside those of the high lock while it is being taken or released.
+ghost use Rattle.std.specs.Prelude.{◌≡◌};
+ghost use Rattle.lock_rules.specs.Holders.{holder_of, with_value};
+ghost use Rattle.lock_rules.specs.Views.{answer_of};
+ghost use Rattle.lock_rules.specs.declared.step.Answer.TheVariants.{Open};
+ghost use Rattle.clof_compose.specs.Levels.{level_context, kept_stand, own_with_root, IsHolding, IsStanding};
+ghost use Rattle.clof_compose.specs.Stages.{queue_climb, IsQueued, leave_descent, IsLeaving};
+
+use crate::own::Own;
+use crate::own_cargo::kept_root;
+use crate::payload::Payload;
+use crate::root::Root;
+use crate::stage::{LeaveStage, QueueStage};
+use crate::token::{Climbing, Descending, Resting, Standing};
+use lock_rules::{Departing, Held as Holds, Holding, Placed, Queueing};
+
+#[derive(Drop)]
+pub struct LevelPass<L> {
+    pub(crate) low: L,
+    pub(crate) node: u32,
+    pub(crate) number: u32,
+    pub(crate) level: u32,
+    pub(crate) tests: u32,
+}
+
+#[derive(Drop)]
+pub struct LevelHeld<P, Pass, Held> {
+    pub(crate) low: Holds<Own<P, Pass, Held>>,
+    pub(crate) node: u32,
+    pub(crate) number: u32,
+    pub(crate) level: u32,
+}
+
+#[derive(Drop)]
+pub struct LevelQueue<P, Q, Pass, Held, HQ> {
+    pub(crate) stage: QueueStage<P, Q, Pass, Held, HQ>,
+    pub(crate) node: u32,
+    pub(crate) number: u32,
+    pub(crate) level: u32,
+}
+
+#[derive(Drop)]
+pub struct LevelLeave<P, L, Pass, Held, HL> {
+    pub(crate) stage: LeaveStage<P, L, Pass, Held, HL>,
+    pub(crate) node: u32,
+    pub(crate) number: u32,
+    pub(crate) level: u32,
+}
+
+impl<L: Placed> Resting for LevelPass<L> {
+    ghost rest = { λ p. record { context = level_context p.level p.node p.number (L.place p.low); tests = p.tests } };
+
+    fn tests(&self) -> u32 {
+        self.tests
+    }
+}
+
+impl<P: Payload, Pass: Resting, Held: Standing<P>> Standing<P> for LevelHeld<P, Pass, Held> {
+    ghost stand = { λ h. record {
+      context = level_context h.level h.node h.number (holder_of h.low).place;
+      root =
+          (kept_stand Held.stand h.low.value.high).root;
+    } };
+
+    ghost stands = { λ h. IsHolding h.level h.low.value.node h.low.value.kept (holder_of h.low).place.tag
+        (IsStanding Held.stands h.low.value.high) (kept_stand Held.stand h.low.value.high) × ((holder_of h.low).tested ≡ Open) };
+
+    ghost put_root = { λ h r. record h { low = with_value h.low (own_with_root Held.put_root h.low.value r) } };
+
+    fn root(&mut self) -> &mut Root<P> {
+        let own = self.low.value_mut();
+        kept_root(&mut own.high)
+    }
+}
+
+impl<P: Payload, Q: Queueing, Pass: Resting, Held: Standing<P>, HQ: Climbing> Climbing
+    for LevelQueue<P, Q, Pass, Held, HQ> {
+    ghost climb = { λ q. queue_climb Q.waiting HQ.climb q.level q.node q.number q.stage };
+
+    ghost climbs = { λ q. IsQueued HQ.climb HQ.climbs q.level q.stage };
+
+    fn waits_at(&self) -> u32 {
+        match &self.stage {
+            QueueStage::Low(_) => self.level,
+            QueueStage::High(_, high) => high.waits_at(),
+        }
+    }
+}
+
+impl<P: Payload, L: Departing, Pass: Resting, Held: Standing<P>, HL: Descending> Descending
+    for LevelLeave<P, L, Pass, Held, HL> {
+    ghost descent = { λ l. leave_descent L.waiting HL.descent l.level l.node l.number l.stage };
+
+    ghost descends = { λ l. IsLeaving L.rests HL.descent HL.descends l.level l.stage };
+
+    fn leaves_at(&self) -> u32 {
+        match &self.stage {
+            LeaveStage::Low(_, _) => self.level,
+            LeaveStage::High(_, high) => high.leaves_at(),
+        }
+    }
+}

@@ -1,0 +1,33 @@
+//! Composed locks.
+#![tactic(auto)]
+
+mod cargo;
+mod climb;
+mod composed;
+mod level_tokens;
+mod making;
+mod node;
+mod own;
+mod own_cargo;
+mod payload;
+mod release;
+mod root;
+mod stage;
+#[cfg(test)]
+mod tests;
+mod token;
+mod top;
+mod top_tokens;
+mod turns;
+
+pub use composed::Composed;
+pub use level_tokens::{LevelHeld, LevelLeave, LevelPass, LevelQueue};
+pub use making::make_top;
+pub use node::Node;
+pub use own::{High, Own};
+pub use payload::Payload;
+pub use root::Root;
+pub use stage::{LeaveStage, QueueStage};
+pub use token::{Climbing, Descending, Resting, Standing};
+pub use top::Top;
+pub use top_tokens::{TopHeld, TopLeave, TopPass, TopQueue};

@@ -1,0 +1,22 @@
+//! The value of a level's basic lock.
+use std::marker::PhantomData;
+
+/// What a level has of its high lock: the pass of its node, or the holder's token. It is away while the high lock is being taken or
+/// released.
+#[derive(Drop)]
+pub enum High<Pass, Held> {
+    Idle(Pass),
+    Kept(Held),
+    Away,
+}
+
+/// The value of a node's basic lock: the node, how many turns in a row have kept the high lock, the answer of `waiter` at the last
+/// release, and the high part.
+#[derive(Drop)]
+pub struct Own<P, Pass, Held> {
+    pub node: u32,
+    pub kept: u32,
+    pub said: bool,
+    pub high: High<Pass, Held>,
+    pub payload: PhantomData<P>,
+}

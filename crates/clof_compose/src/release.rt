@@ -1,0 +1,110 @@
+//! How a node's holder keeps the high lock for the next one, or releases it.
+ghost use Rattle.std.specs.Prelude.{◌≡◌, ◌+◌, ◌<◌, ◌≤◌, true, false, IsSomeAnd, IfSome, IfNone};
+ghost use Rattle.std.specs.Int.{bit_at};
+ghost use Rattle.lock_rules.specs.Steps.{IfNot, IfGot};
+ghost use Rattle.clof_compose.specs.Calls.{MayRelease, SameBelow, tests_in};
+ghost use Rattle.clof_compose.specs.Levels.{IsIdleAgain, IsStanding, kept_stand};
+ghost use Rattle.clof_compose.specs.Owns.{IsOwnFit, bit_of};
+ghost use Rattle.clof_compose.specs.Releases.{IsReleasing};
+ghost use Rattle.clof_compose.specs.declared.own.High.TheVariants.{Idle, Away};
+ghost use Rattle.keep_local.specs.Turns.{run};
+
+use crate::climb::InHand;
+use crate::composed::Composed;
+use crate::own::{High, Own};
+use crate::own_cargo::kept_root;
+use crate::payload::Payload;
+use crate::token::{Resting, Standing};
+use crate::turns::{close_turn, note_waiter};
+use lock_rules::{Held as Holds, Step};
+use std::mem;
+
+/// Keeps the answer of `waiter` in the value and notes it for the open turn. Where it is a yes and the value has kept the high lock for
+/// fewer turns than the
+/// level's threshold, the turn is closed there, and the answer is its tests.
+pub(crate) fn keep_for_next<P: Payload, Pass: Resting, Held: Standing<P>>(
+    own: &mut Own<P, Pass, Held>,
+    level: u32,
+    keep: u32,
+    yes: bool,
+) -> Option<u32>
+    requires stands { IsStanding Held.stands own.old.high }
+    requires above { (kept_stand Held.stand own.old.high).context.level ≡ level + 1 }
+    requires node { (kept_stand Held.stand own.old.high).context.number ≡ own.old.node }
+    requires kept { IfSome (kept_stand Held.stand own.old.high).root (λ r. own.old.kept ≡ run level r.trail.closed) }
+    requires root { IsSomeAnd (kept_stand Held.stand own.old.high).root (IsReleasing P.calls P.tag
+        (kept_stand Held.stand own.old.high).context.tag level keep own.old.node) }
+    ensures node { own.new.node ≡ own.old.node }
+    ensures said { own.new.said ≡ yes }
+    ensures context { (kept_stand Held.stand own.new.high).context ≡ (kept_stand Held.stand own.old.high).context }
+    ensures stands { IsStanding Held.stands own.new.high }
+    ensures kept { IfSome result (λ _. (yes ≡ true)
+        × IsOwnFit Pass.rest Held.stand P.calls P.tag Held.stands own.new.node own.new.kept own.new.said own.new.high) }
+    ensures tests { IfSome result (λ tests. SameBelow level (tests_in (kept_stand Held.stand own.old.high).root) tests) }
+    ensures not_kept { IfNone result (IsSomeAnd (kept_stand Held.stand own.new.high).root (MayRelease P.calls P.tag
+        (kept_stand Held.stand own.old.high).context.tag (level + 1) own.new.node)) }
+    ensures noted { IfNone result (bit_at (tests_in (kept_stand Held.stand own.new.high).root) level ≡ bit_of yes) }
+    ensures same { IfNone result (SameBelow level (tests_in (kept_stand Held.stand own.old.high).root) (tests_in
+        (kept_stand Held.stand own.new.high).root)) }
+{
+    own.said = yes;
+    note_waiter(kept_root(&mut own.high), level, yes);
+    if !may_keep(yes, own.kept, keep) {
+        return None;
+    }
+    own.kept += 1;
+    Some(close_turn(kept_root(&mut own.high), level))
+}
+
+// Whether the high lock is kept for the next one: somebody is queued behind, and the level has kept it for fewer turns than its threshold.
+fn may_keep(yes: bool, kept: u32, keep: u32) -> bool
+    ensures yes { result ≡ true → yes ≡ true }
+    ensures below { result ≡ true → kept < keep }
+    ensures not { result ≡ false → yes ≡ true → keep ≤ kept }
+{
+    yes && kept < keep
+}
+
+/// Releases the high lock of a node, whose pass comes back into the value. The answer has the tests of the closed turn.
+pub(crate) fn release_high<P: Payload, H: Composed<P>>(
+    high: &H,
+    mut low: InHand<P, H>,
+) -> Step<(InHand<P, H>, H::Leave), (InHand<P, H>, u32)>
+    requires sound { H.sound high.now }
+    requires own { H.has high.now (kept_stand H.Held.stand low.value.high).context }
+    requires stands { IsStanding H.Held.stands low.value.high }
+    requires root { IsSomeAnd (kept_stand H.Held.stand low.value.high).root (MayRelease P.calls P.tag (H.tag high.now)
+        (H.level high.now) (kept_stand H.Held.stand low.value.high).context.number) }
+    ensures seat { IfNot result (λ w. w.0.seat ≡ low.seat) }
+    ensures value { IfNot result (λ w. w.0.value ≡ record low.value { high = Away }) }
+    ensures context { IfNot result (λ w. (H.Leave.descent w.1).context ≡ (kept_stand H.Held.stand low.value.high).context) }
+    ensures descends { IfNot result (λ w. H.Leave.descends w.1) }
+    ensures above { IfNot result (λ w. H.level high.now ≤ (H.Leave.descent w.1).level) }
+    ensures noted { IfNot result (λ w. SameBelow (H.level high.now) (tests_in (kept_stand H.Held.stand low.value.high).root)
+        (H.Leave.descent w.1).tests) }
+    ensures kept_seat { IfGot result (λ w. w.0.seat ≡ low.seat) }
+    ensures idle { IfGot result (λ w. IsIdleAgain H.Pass.rest (kept_stand H.Held.stand low.value.high).context low.value w.0.value w.1) }
+    ensures tests { IfGot result (λ w. SameBelow (H.level high.now) (tests_in (kept_stand H.Held.stand low.value.high).root) w.1) }
+{
+    let High::Kept(held) = mem::replace(&mut low.value.high, High::Away) else {
+        unreachable!()
+    };
+    match high.begin_release(held) {
+        Step::Not(leave) => Step::Not((low, leave)),
+        Step::Got(pass) => Step::Got(put_back(low, pass)),
+    }
+}
+
+/// Puts the pass of a released high lock back into the value. The answer has its tests.
+pub(crate) fn put_back<P, Pass: Resting, Held: Drop>(
+    mut low: Holds<Own<P, Pass, Held>>,
+    pass: Pass,
+) -> (Holds<Own<P, Pass, Held>>, u32)
+    ensures seat { result.0.seat ≡ low.seat }
+    ensures value { result.0.value ≡ record low.value { high = Idle pass } }
+    ensures tests { result.1 ≡ (Pass.rest pass).tests }
+{
+    let tests = pass.tests();
+    low.value.high = High::Idle(pass);
+    (low, tests)
+}

@@ -1,0 +1,51 @@
+//! The value at the root of a composed lock.
+ghost use Rattle.std.specs.Prelude.{◌≡◌};
+ghost use Rattle.std.specs.Borrow.{Lends, sem};
+ghost use Rattle.clof_compose.specs.contracts.root.Root.{the_row};
+
+use crate::payload::Payload;
+use keep_local::Trail;
+
+/// The turns of the lock's callers, and what they work on.
+#[derive(Drop)]
+pub struct Root<P> {
+    pub(crate) trail: Trail,
+    pub(crate) payload: P,
+}
+
+impl<P: Payload> Root<P> {
+    pub fn new(trail: Trail, payload: P) -> Root<P>
+        ensures trail { result.trail ≡ trail }
+        ensures payload { result.payload ≡ payload }
+    {
+        Root { trail, payload }
+    }
+
+    pub fn trail(&self) -> &Trail
+        ensures { result.now ≡ self.now.trail }
+    {
+        &self.trail
+    }
+
+    pub fn payload(&self) -> &P
+        ensures { result.now ≡ self.now.payload }
+    {
+        &self.payload
+    }
+
+    /// Lends the payload to be changed. The trail stays.
+    pub fn payload_mut(&mut self) -> &mut P
+        ensures* writes_back { sem 𝓛 (Lends (the_row P.row) P.row self.entry result (λ p. record self.old { payload = p })) }
+        ensures value { result.now ≡ self.old.payload }
+    {
+        &mut self.payload
+    }
+
+    pub fn into_parts(self) -> (Trail, P)
+        ensures trail { result.0 ≡ self.trail }
+        ensures payload { result.1 ≡ self.payload }
+    {
+        let Root { trail, payload } = self;
+        (trail, payload)
+    }
+}

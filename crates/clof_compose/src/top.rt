@@ -1,0 +1,119 @@
+//! The top lock of a composition.
+ghost use Rattle.std.specs.Prelude.{◌≡◌, ◌<◌, ◌≤◌, [], map, false, IfOk, IfErr, vec_capacity, length};
+ghost use Rattle.keep_local.specs.Shapes.{top_of, callers_of};
+ghost use Rattle.clof_compose.specs.Courses.{course_of};
+ghost use Rattle.clof_compose.specs.Passes.{AreAll};
+ghost use Rattle.clof_compose.specs.Roots.{root_tag, IsFit};
+ghost use Rattle.clof_compose.specs.Tops.{IsTop, IsOfTop, top_context};
+
+use crate::composed::Composed;
+use crate::payload::Payload;
+use crate::root::Root;
+use crate::top_tokens::{TopHeld, TopLeave, TopPass, TopQueue};
+use crate::turns::{close_turn, open_turn};
+use keep_local::Share;
+use lock_rules::{Basic, Held, Step};
+
+/// A basic lock at the top, whose value is the root.
+#[derive(Drop)]
+pub struct Top<B, L> {
+    pub(crate) low: B,
+    pub(crate) level: u32,
+    pub(crate) list: Vec<L>,
+}
+
+impl<P: Payload, B: Basic<Root<P>, Held = Held<Root<P>>>> Composed<P> for Top<B, B::Pass> {
+    type Pass = TopPass<B::Pass>;
+
+    type Queue = TopQueue<B::Queue>;
+
+    type Held = TopHeld<P>;
+
+    type Leave = TopLeave<B::Leave>;
+
+    ghost level = { λ t. t.level };
+
+    ghost tag = { λ t. B.tag t.low };
+
+    ghost count = { λ t. B.count t.low };
+
+    ghost sound = { λ t. IsTop t.level (B.count t.low) (B.tag t.low) t.list.items (vec_capacity t.list) };
+
+    ghost has = { λ t. IsOfTop t.level (B.name t.low) (B.tag t.low) };
+
+    fn begin(
+        &self,
+        pass: TopPass<B::Pass>,
+        share: &mut Share,
+    ) -> Step<TopQueue<B::Queue>, TopHeld<P>> {
+        let level = self.level;
+        match self.low.begin(pass.low) {
+            Step::Not(low) => Step::Not(TopQueue { low, level }),
+            Step::Got(mut low) => {
+                open_turn(&mut low.value, share, level);
+                Step::Got(TopHeld { low, level })
+            }
+        }
+    }
+
+    fn poll(
+        &self,
+        queue: TopQueue<B::Queue>,
+        share: &mut Share,
+    ) -> Step<TopQueue<B::Queue>, TopHeld<P>> {
+        let level = self.level;
+        match self.low.poll(queue.low) {
+            Step::Not(low) => Step::Not(TopQueue { low, level }),
+            Step::Got(mut low) => {
+                open_turn(&mut low.value, share, level);
+                Step::Got(TopHeld { low, level })
+            }
+        }
+    }
+
+    fn begin_release(&self, held: TopHeld<P>) -> Step<TopLeave<B::Leave>, TopPass<B::Pass>> {
+        let level = self.level;
+        let mut low = held.low;
+        let tests = close_turn(&mut low.value, level);
+        match self.low.begin_release(low) {
+            Step::Not(low) => Step::Not(TopLeave { low, level, tests }),
+            Step::Got(low) => Step::Got(TopPass { low, level, tests }),
+        }
+    }
+
+    fn poll_release(
+        &self,
+        leave: TopLeave<B::Leave>,
+    ) -> Step<TopLeave<B::Leave>, TopPass<B::Pass>> {
+        let TopLeave { low, level, tests } = leave;
+        match self.low.poll_release(low) {
+            Step::Not(low) => Step::Not(TopLeave { low, level, tests }),
+            Step::Got(low) => Step::Got(TopPass { low, level, tests }),
+        }
+    }
+
+    fn close(self, passes: Vec<TopPass<B::Pass>>) -> Root<P>
+        requires sound { IsTop self.level (B.count self.low) (B.tag self.low) self.list.items (vec_capacity self.list) }
+        requires all { AreAll (λ p. top_context p.level (B.Pass.place p.low)) (IsOfTop self.level (B.name self.low) (B.tag self.low))
+            (B.count self.low) passes.items }
+        ensures fit { IsFit P.calls result }
+        ensures tagged { root_tag P.tag result ≡ B.tag self.low }
+    {
+        let Top { low, list, .. } = self;
+        low.close(basic_passes(passes, list))
+    }
+}
+
+// The passes of the basic lock, in a list that has room for them.
+fn basic_passes<L: Drop>(mut passes: Vec<TopPass<L>>, mut list: Vec<L>) -> Vec<L>
+    requires empty { list.items ≡ [] }
+    requires room { length passes.items ≤ vec_capacity list }
+    ensures { result.items ≡ map (λ p. p.low) passes.items }
+{
+    while let Some(pass) = passes.pop() {
+        let TopPass { low, .. } = pass;
+        list.push_reserved(low);
+    }
+    list.reverse();
+    list
+}

@@ -1,0 +1,90 @@
+//! The tokens of the top lock: those of its basic lock, with its level.
+ghost use Rattle.std.specs.Prelude.{◌≡◌, Some};
+ghost use Rattle.lock_rules.specs.Holders.{holder_of, with_value};
+ghost use Rattle.lock_rules.specs.declared.step.Answer.TheVariants.{Open};
+ghost use Rattle.clof_compose.specs.Roots.{IsInHand};
+ghost use Rattle.clof_compose.specs.Tops.{top_context};
+
+use crate::payload::Payload;
+use crate::root::Root;
+use crate::token::{Climbing, Descending, Resting, Standing};
+use lock_rules::{Departing, Held, Holding, Placed, Queueing};
+
+#[derive(Drop)]
+pub struct TopPass<L> {
+    pub(crate) low: L,
+    pub(crate) level: u32,
+    pub(crate) tests: u32,
+}
+
+#[derive(Drop)]
+pub struct TopQueue<L> {
+    pub(crate) low: L,
+    pub(crate) level: u32,
+}
+
+#[derive(Drop)]
+pub struct TopHeld<P> {
+    pub(crate) low: Held<Root<P>>,
+    pub(crate) level: u32,
+}
+
+#[derive(Drop)]
+pub struct TopLeave<L> {
+    pub(crate) low: L,
+    pub(crate) level: u32,
+    pub(crate) tests: u32,
+}
+
+impl<L: Placed> Resting for TopPass<L> {
+    ghost rest = { λ p. record { context = top_context p.level (L.place p.low); tests = p.tests } };
+
+    fn tests(&self) -> u32 {
+        self.tests
+    }
+}
+
+impl<L: Queueing> Climbing for TopQueue<L> {
+    ghost climb = { λ q. record {
+      context = top_context q.level (L.waiting q.low).place;
+      level = q.level;
+      loads =
+          (L.waiting q.low).loads;
+      ready = (L.waiting q.low).ready;
+    } };
+
+    ghost climbs = { λ _. Unit {0} };
+
+    fn waits_at(&self) -> u32 {
+        self.level
+    }
+}
+
+impl<P: Payload> Standing<P> for TopHeld<P> {
+    ghost stand = { λ h. record { context = top_context h.level (holder_of h.low).place; root = Some h.low.value } };
+
+    ghost stands = { λ h. IsInHand P.calls h.low.value × ((holder_of h.low).tested ≡ Open) };
+
+    ghost put_root = { λ h r. record h { low = with_value h.low r } };
+
+    fn root(&mut self) -> &mut Root<P> {
+        self.low.value_mut()
+    }
+}
+
+impl<L: Departing> Descending for TopLeave<L> {
+    ghost descent = { λ l. record {
+      context = top_context l.level (L.waiting l.low).place;
+      level = l.level;
+      loads =
+          (L.waiting l.low).loads;
+      ready = (L.waiting l.low).ready;
+      tests = l.tests;
+    } };
+
+    ghost descends = { λ l. L.rests l.low };
+
+    fn leaves_at(&self) -> u32 {
+        self.level
+    }
+}

@@ -1,0 +1,14 @@
+use Rattle.std.proofs.Common.{ap, sym, ◌∙◌, arith}
+use Rattle.hemlock_lock.specs.Rule.{grant}
+use Rattle.hemlock_lock.proofs.Kept.{polls}
+use Rattle.hemlock_lock.proofs.steps.Words.load_predecessor_grant.Goals as goal
+
+pub load-requires : goal.load-requires
+load-requires g c =
+    let words = ap (λ t. t.shared.table_id.words) c.deref.ensures ∙ c.args.self.now.sized.row in
+    let word = c.grant_of.ensures in
+    let within = c.requires.within in (
+      c.requires.table ∙ sym (ap (λ t. t.shared.table_id) c.deref.ensures),
+      omega (arith, words, word, within),
+      polls g.V.Cargo.fit g.V.Cargo.tag g.V.Cargo.parked _ _ _ _ _ _ c.requires.queued c.requires.unspent (word ∙ ap grant c.requires.name),
+    )

@@ -1,0 +1,39 @@
+//! Hemlock: a pass that leaves grants the lock to the one behind it by one word of its own, and waits until that word is cleared.
+//!
+//! It is the lock of Dice and Kogan, "Hemlock: Compact and Scalable Mutual Exclusion", SPAA 2021, in the form of their listing 1.
+//! There `Grant` is one word a thread, which holds the address of the lock that is granted; here it is one word a pass of one lock, which
+//! holds 1:
+//!
+//! ```text
+//! Lock      pred := swap(Tail, Self)                    begin           steps::swap_tail
+//!           if pred != null:
+//!             while pred.Grant != L: pause              poll, once      steps::load_predecessor_grant
+//!             pred.Grant := null                        poll            steps::clear_predecessor_grant
+//! Unlock    if cas(Tail, Self, null) != Self:           begin_release   steps::exchange_tail
+//!             Self.Grant := L                           begin_release   steps::store_grant
+//!             while Self.Grant != null: pause           poll_release    steps::load_grant (and once in begin_release)
+//! ```
+//!
+//! The waiter test, by which a holder learns whether another pass is behind it, is that of Chehab and others, "CLoF: A Compositional
+//! Lock Framework for Multi-level NUMA Systems", SOSP 2021: `waiter`, `steps::load_tail`. The value is taken out of its slot behind the
+//! last step that enters, and put back before the first step that leaves. Each step is a sequentially consistent operation on one word.
+//!
+//! `tail` and the grants stand on lines of their own in one `atomic_table`. `specs/Rule` says what holds of them, `specs/Kinds` has the
+//! kinds of step, `specs/Calls` what each call did, and `specs/Grants` what follows of the passes that leave.
+#![tactic(auto)]
+
+mod kinds;
+mod laws;
+mod leave;
+mod lock;
+mod steps;
+#[cfg(test)]
+mod tests;
+
+pub use kinds::{
+    ClearPredecessorGrant, ExchangeTail, LoadGrant, LoadPredecessorGrant, LoadTail, StoreGrant,
+    SwapTail,
+};
+pub use laws::{HemlockWords, rule_has_grants};
+pub use leave::Leave;
+pub use lock::Hemlock;

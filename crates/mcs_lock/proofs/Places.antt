@@ -1,0 +1,116 @@
+-- The seats of an MCS lock's queue, by their places.
+use Rattle.std.proofs.Common.{◌≡◌, ◌≢◌, ℕ, suc, ◌<◌, ◌≤◌, true, false, List, length, refl, ap, sym, ◌∙◌, inl, arith}
+use mathlib.Core.Option.{some, some-injective}
+use lib.ListN.{get_elem?}
+use Rattle.lock_rules.specs.Tag.{Tag}
+use Rattle.lock_rules.specs.declared.view.Phase.TheVariants.{Queued}
+use Rattle.lock_rules.specs.declared.view.View.{View}
+use Rattle.lock_tables.specs.Rule.{is_busy, IsQueued}
+use Rattle.lock_tables.proofs.Lists.{at_below, there}
+use Rattle.lock_tables.proofs.Numbers.{number_below, one_number}
+use Rattle.lock_tables.proofs.Points.{has_stands}
+use Rattle.lock_tables.proofs.Queues.{lives, no_place, one_seat_of}
+use Rattle.mcs_lock.specs.Rule.{IsPlaced, NamesBehind, name, mcs_discipline}
+
+-- a seat's view at a place is one
+pub one_view : (seats : List ℕ) (views : List View) (i : ℕ) (u v : View) → IsPlaced seats views i u → IsPlaced seats views i v → u ≡ v
+one_view seats views i u v p q =
+    let same : p.seat ≡ q.seat = some-injective p.seat q.seat (sym p.place ∙ q.place) in
+    some-injective u v (sym p.at ∙ ap (get_elem? views) same ∙ q.at)
+
+-- what a step leaves of a view, for the links of the queue
+pub record KeepsLinks (v w : View) : Type 0 where
+  pub number : w.number ≡ v.number
+  pub predecessor : w.predecessor ≡ v.predecessor
+  pub linked : v.linked ≡ true → w.linked ≡ true
+  pub queued : w.phase ≡ Queued → v.phase ≡ Queued
+
+pub keeps_all : (v : View) → KeepsLinks v v
+keeps_all v = record { number = refl; predecessor = refl; linked = λ e. e; queued = λ e. e }
+
+-- the seat at the place i had a view like u
+pub record WasPlaced (seats : List ℕ) (views : List View) (i : ℕ) (u : View) : Type 0 where
+  pub view : View
+  pub placed : IsPlaced seats views i view
+  pub keeps : KeepsLinks view u
+
+-- the seat at the place i has a view like u
+pub record IsStill (seats : List ℕ) (views : List View) (i : ℕ) (u : View) : Type 0 where
+  pub view : View
+  pub placed : IsPlaced seats views i view
+  pub keeps : KeepsLinks u view
+
+-- where each place had a view like that it has, each has one like it had
+pub still : (seats : List ℕ) (views views' : List View) → length views ≤ length views'
+    → ((i : ℕ) (u : View) → IsPlaced seats views' i u → WasPlaced seats views i u)
+    → (i : ℕ) (u : View) → IsPlaced seats views i u → IsStill seats views' i u
+still seats views views' long was i u p =
+    let b = at_below views p.seat u p.at in
+    let t = there views' p.seat (omega (arith, b, long)) in
+    let p' : IsPlaced seats views' i t.0 = record { seat = p.seat; place = p.place; at = t.1 } in
+    let w = was i t.0 p' in
+    let same : w.view ≡ u = one_view seats views i w.view u w.placed p in record {
+      view = t.0;
+      placed = p';
+      keeps = record {
+        number = w.keeps.number ∙ ap (λ (x : View). x.number) same;
+        predecessor = w.keeps.predecessor ∙ ap (λ (x : View). x.predecessor) same;
+        linked = λ e. w.keeps.linked (ap (λ (x : View). x.linked) same ∙ e);
+        queued = λ e. sym (ap (λ (x : View). x.phase) same) ∙ w.keeps.queued e;
+      };
+    }
+
+-- a name of the pass behind stays one
+pub names_still : (seats : List ℕ) (views views' : List View) (i x : ℕ)
+    → ((u : View) → IsPlaced seats views (suc i) u → IsStill seats views' (suc i) u) → NamesBehind seats views i x
+    → NamesBehind seats views' i x
+names_still seats views views' i x stay b = let s = stay b.view b.placed in record {
+  view = s.view;
+  placed = s.placed;
+  named = b.named ∙ ap name (sym s.keeps.number);
+  linked = s.keeps.linked b.linked;
+}
+
+pub names_as : (seats : List ℕ) (views : List View) (i x y : ℕ) → x ≡ y → NamesBehind seats views i x → NamesBehind seats views i y
+names_as seats views i x y e b = record { view = b.view; placed = b.placed; named = sym e ∙ b.named; linked = b.linked }
+
+module _ (n : ℕ) (tag : Tag) (words seats : List ℕ) (views : List View) (q : IsQueued mcs_discipline n tag words seats views) where
+  pub busy_at : (i : ℕ) (v : View) → IsPlaced seats views i v → is_busy true v.phase ≡ true
+  busy_at i v p =
+      let b = q.each_place i p.seat p.place in
+      let same : b.view ≡ v = some-injective b.view v (sym b.at ∙ p.at) in
+      sym (ap (λ (x : View). is_busy true x.phase) same) ∙ b.is
+
+  pub live_at : (i : ℕ) (v : View) → IsPlaced seats views i v → v.spent ≡ false
+  live_at i v p = lives mcs_discipline n tag words seats views q p.seat v p.at (busy_at i v p)
+
+  -- the pass of a seat is one of the lock's
+  pub below_at : (j : ℕ) (v : View) → get_elem? views j ≡ some v → v.spent ≡ false → v.number < n
+  below_at j v at live = number_below n views j v v.number q.numbers at (has_stands v.number v live (inl refl))
+
+  -- a pass has one place
+  pub same_place : (i k : ℕ) (u v : View) → IsPlaced seats views i u → IsPlaced seats views k v → u.number ≡ v.number → i ≡ k
+  same_place i k u v p r e =
+      let s : r.seat ≡ p.seat =
+      one_seat_of mcs_discipline n tag words seats views q p.seat r.seat u v p.at r.at (live_at i u p) (live_at k v r) (sym e) in
+      q.once i k p.seat p.place (r.place ∙ ap some s)
+
+  -- a pass that isn't in the queue is none of its passes
+  pub other_pass : (id : ℕ) (v : View) → get_elem? views id ≡ some v → v.spent ≡ false → is_busy true v.phase ≡ false → (i : ℕ) (u : View)
+      → IsPlaced seats views i u → u.number ≢ v.number
+  other_pass id v at live free i u p e =
+      let s : id ≡ p.seat = one_seat_of mcs_discipline n tag words seats views q p.seat id u v p.at at (live_at i u p) live (sym e) in
+      no_place mcs_discipline n tag words seats views id v q at free i p.seat p.place (sym s)
+
+  -- two seats have two passes
+  pub other_seat : (id j : ℕ) (v u : View) → get_elem? views id ≡ some v → get_elem? views j ≡ some u → v.spent ≡ false → u.spent ≡ false
+      → j ≢ id → u.number ≢ v.number
+  other_seat id j v u at at' live live' ne = one_number n views q.numbers id j v u at at' live live' ne
+
+  -- a seat in the queue has a place
+  pub place_of : (id : ℕ) (v : View) → get_elem? views id ≡ some v → is_busy true v.phase ≡ true → (i : ℕ) × IsPlaced seats views i v
+  place_of id v at b = let p = (q.each_seat id v at).placed b in (p.0, record { seat = id; place = p.1; at = at })
+
+  -- the seat at each place has a view
+  pub placed_at : (i : ℕ) → i < length seats → (u : View) × IsPlaced seats views i u
+  placed_at i h = let t = there seats i h in let b = q.each_place i t.0 t.1 in (b.view, record { seat = t.0; place = t.1; at = b.at })

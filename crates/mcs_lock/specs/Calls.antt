@@ -1,0 +1,94 @@
+-- What each call of an MCS lock did: its steps on words, the view that its token then has, and the events.
+use Rattle.std.specs.Prelude.{◌≡◌, ◌≢◌, ◌⊎◌, ℕ, Bool, [], ◌∷◌, Some}
+use Rattle.atomic_table.specs.Table.{takes}
+use Rattle.atomic_table.specs.declared.badge.Badge.{Badge}
+use Rattle.lock_rules.specs.Holders.{held_view}
+use Rattle.lock_rules.specs.Tag.{Tag}
+use Rattle.lock_rules.specs.Tokens.{view_of}
+use Rattle.lock_rules.specs.declared.held.Held.{Held}
+use Rattle.lock_rules.specs.declared.view.View.{View}
+use Rattle.lock_tables.specs.Happened.{Seated, Stepped, took_view}
+use Rattle.lock_tables.specs.Queue.{Takes, EntersAndTakes}
+use Rattle.lock_tables.specs.Rule.{IsLock}
+use Rattle.mcs_lock.specs.Kinds.{cleared_view, raised_view, queued_view, entered_view, looked_view, others_wait, Cleared, Raised, Entered}
+use Rattle.mcs_lock.specs.Kinds.{Linked, Missed, Tested, Looked, Passed, Ended, Followed}
+use Rattle.mcs_lock.specs.Rule.{tail, locked, name, queue_of, mcs_discipline}
+
+-- the view of a pass that has stored both words for its swap
+abbrev pub ready_view : View → View
+ready_view v = raised_view (cleared_view v)
+
+module _ {V : Type 0} where
+  -- a holder that has put its value back
+  abbrev pub at_home : Held V → Seated V
+  at_home h = (held_view h, (0, Some h.value) ∷ [])
+
+  -- a holder that then looked at its `next`
+  abbrev pub looked : Seated V → ℕ → Seated V
+  looked me found = (looked_view me.0 found, me.1)
+
+module _ {V : Type 0} (fit : V → Type 0) (tag_of : V → Tag) (parked : V → Bool) where
+  -- the stores of own `next` and of own `locked`
+  pub record HasPrepared (before : Badge View) : Type 0 where
+    pub cleared : Cleared {V = V} fit tag_of parked (view_of before, []) (cleared_view (view_of before), [])
+    pub raised : Raised {V = V} fit tag_of parked (cleared_view (view_of before), []) (ready_view (view_of before), [])
+
+  -- the swap, which found a predecessor, and the store of its `next`
+  pub record HasEntered (before after : Badge View) : Type 0 where
+    pub found : ℕ
+    pub preceded : found ≢ 0
+    pub prepared : HasPrepared before
+    pub entered : Entered {V = V} fit tag_of parked (ready_view (view_of before), []) found
+        (queued_view (ready_view (view_of before)) found, [])
+    pub linked : Linked {V = V} fit tag_of parked (queued_view (ready_view (view_of before)) found, []) (view_of after, [])
+
+  -- the swap, which found none; the value that was at home is the holder's
+  pub record HasEnteredAndTaken (before : Badge View) (after : Held V) : Type 0 where
+    pub prepared : HasPrepared before
+    pub entered : Stepped (IsLock mcs_discipline fit tag_of parked) queue_of EntersAndTakes (takes 0 (Some after.value)) tail 0
+        (name (view_of before).number)
+        (ready_view (view_of before), []) (entered_view (ready_view (view_of before))) (held_view after, (0, Some after.value) ∷ [])
+
+  -- a load of own `locked` that was not 0
+  pub record HasMissed (before after : Badge View) : Type 0 where
+    pub found : ℕ
+    pub other : found ≢ 0
+    pub step : Missed {V = V} fit tag_of parked (view_of before, []) found (view_of after, [])
+
+  -- a load of own `locked` that was 0; the value that was at home is the holder's
+  abbrev pub HasTaken : Badge View → Held V → Type 0
+  HasTaken before after =
+      Stepped (IsLock mcs_discipline fit tag_of parked) queue_of Takes (takes 0 (Some after.value)) (locked (view_of before).number) 0 0
+      (view_of before, []) (took_view (view_of before)) (held_view after, (0, Some after.value) ∷ [])
+
+  -- a load of `tail`; the answer is yes exactly where it did not name the holder
+  pub record HasAsked (before now : Held V) (answer : Bool) : Type 0 where
+    pub found : ℕ
+    pub told : answer ≡ others_wait (held_view before) found
+    pub step : Tested fit tag_of parked before.seat.seat.me found now.seat.seat.me
+
+  -- a load of own `next`, which named a successor, and the store of its `locked`
+  pub record HasPassed (me : Seated V) (after : Badge View) : Type 0 where
+    pub found : ℕ
+    pub followed : found ≢ 0
+    pub loaded : Looked fit tag_of parked me found (looked me found)
+    pub left : Passed fit tag_of parked (looked me found) (view_of after, [])
+
+  -- a load of own `next`, which was 0, and the exchange of `tail`, which named the holder
+  pub record HasEnded (me : Seated V) (after : Badge View) : Type 0 where
+    pub loaded : Looked fit tag_of parked me 0 (looked me 0)
+    pub left : Ended fit tag_of parked (looked me 0) (name me.0.number) (view_of after, [])
+
+  abbrev pub HasLeft : Seated V → Badge View → Type 0
+  HasLeft me after = HasPassed me after ⊎ HasEnded me after
+
+  -- a load of own `next`, which was 0, and an exchange of `tail` that found another
+  pub record IsFollowed (me now : Seated V) : Type 0 where
+    pub loaded : Looked fit tag_of parked me 0 (looked me 0)
+    pub found : ℕ
+    pub other : found ≢ name me.0.number
+    pub failed : Followed fit tag_of parked (looked me 0) found now
+
+  -- a load of own `next`, which was 0
+  abbrev pub HasWaited : Seated V → Seated V → Type 0
+  HasWaited me now = Looked fit tag_of parked me 0 now

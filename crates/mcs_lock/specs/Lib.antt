@@ -1,0 +1,5 @@
+pub mod Rule
+pub mod Kinds
+pub mod Own
+pub mod Leaves
+pub mod Calls

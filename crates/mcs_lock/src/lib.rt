@@ -1,0 +1,45 @@
+//! The MCS lock: a pass queues behind the one that it finds at the tail, waits on a word of its own, and is let go on by the pass before.
+//!
+//! It is the list-based queuing lock of Mellor-Crummey and Scott, "Algorithms for Scalable Synchronization on Shared-Memory
+//! Multiprocessors", ACM Transactions on Computer Systems 9(1), 1991, figure 5. `I` is the record of a pass, a line with its `next` and its
+//! `locked`; `L` is the tail:
+//!
+//! ```text
+//! acquire   I->next := nil                                     begin           steps::store_next
+//!           I->locked := true                                                  steps::store_locked
+//!           predecessor := fetch_and_store (L, I)                              steps::fetch_and_store_tail
+//!           if predecessor != nil
+//!               predecessor->next := I                                         steps::store_predecessor_next
+//!               repeat while I->locked                         poll, once      steps::load_locked
+//! release   if I->next = nil                                   begin_release   steps::load_next
+//!               if compare_and_swap (L, I, nil) return                         steps::compare_and_swap_tail
+//!               repeat while I->next = nil                     poll_release    steps::load_next
+//!           I->next->locked := false                           either          steps::store_successor_locked
+//! ```
+//!
+//! `locked` is stored before the swap, where the paper stores it behind, so that each pass of the queue but the first has it at 1 from its
+//! swap on. The waiter test, by which a holder learns whether the tail names another, is that of Chehab and others, "CLoF: A Compositional
+//! Lock Framework for Multi-level NUMA Systems", SOSP 2021: `waiter`, `steps::load_tail`. The value is taken out of its slot behind the
+//! step that found no predecessor or `locked` at 0, and put back before the steps of the release. Each step is a sequentially consistent
+//! operation on one word.
+//!
+//! The tail and the records stand on lines of their own in one `atomic_table`. `specs/Rule` says what holds of them, `specs/Kinds` has the
+//! kinds of step, `specs/Calls` what each call did.
+#![tactic(auto)]
+
+mod departing;
+mod kinds;
+mod laws;
+mod leave;
+mod lock;
+mod steps;
+#[cfg(test)]
+mod tests;
+
+pub use kinds::{
+    CompareAndSwapTail, FetchAndStoreTail, LoadLocked, LoadNext, LoadTail, StoreLocked, StoreNext,
+    StorePredecessorNext, StoreSuccessorLocked,
+};
+pub use laws::McsWords;
+pub use leave::Leave;
+pub use lock::Mcs;
