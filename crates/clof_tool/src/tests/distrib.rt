@@ -99,21 +99,53 @@ fn refuses_words(rt: HostRuntime) -> Result<(), Fail> {
 #[test]
 fn refuses_types_and_numbers(rt: HostRuntime) -> Result<(), Fail> {
     let cases: [(&[&str], Status, &str); 11] = [
-        (&["distrib", "0", "PU:2"], Status::Malformed(Fault::Distrib(DistribFault::ZeroMasks)), "clof: distrib ZeroMasks\n"),
-        (&["distrib", "4097", "PU:2"], Status::Limit(Fault::Distrib(DistribFault::TooManyMasks)), "clof: distrib TooManyMasks\n"),
-        (&["distrib", "4294967295", "PU:2"], Status::Limit(Fault::Distrib(DistribFault::TooManyMasks)), "clof: distrib TooManyMasks\n"),
+        (
+            &["distrib", "0", "PU:2"],
+            Status::Malformed(Fault::Distrib(DistribFault::ZeroMasks)),
+            "clof: distrib ZeroMasks\n",
+        ),
+        (
+            &["distrib", "4097", "PU:2"],
+            Status::Limit(Fault::Distrib(DistribFault::TooManyMasks)),
+            "clof: distrib TooManyMasks\n",
+        ),
+        (
+            &["distrib", "4294967295", "PU:2"],
+            Status::Limit(Fault::Distrib(DistribFault::TooManyMasks)),
+            "clof: distrib TooManyMasks\n",
+        ),
         (
             &["distrib", "--from", "pu", "--to", "machine", "1", "PU:2"],
             Status::Malformed(Fault::Distrib(DistribFault::Reversed)),
             "clof: distrib Reversed\n",
         ),
-        (&["distrib", "--from", "core", "0", "PU:2"], Status::Malformed(Fault::TypeOf(OptionName::From)), "clof: type --from\n"),
-        (&["distrib", "--to", "core", "--from", "die", "0", "PU:2"], Status::Malformed(Fault::TypeOf(OptionName::From)), "clof: type --from\n"),
+        (
+            &["distrib", "--from", "core", "0", "PU:2"],
+            Status::Malformed(Fault::TypeOf(OptionName::From)),
+            "clof: type --from\n",
+        ),
+        (
+            &["distrib", "--to", "core", "--from", "die", "0", "PU:2"],
+            Status::Malformed(Fault::TypeOf(OptionName::From)),
+            "clof: type --from\n",
+        ),
         (&["distrib", "--to=", "1", "PU:2"], Status::Malformed(Fault::TypeOf(OptionName::To)), "clof: type --to\n"),
-        (&["distrib", "--at", "numa", "1", "PU:2"], Status::Malformed(Fault::TypeOf(OptionName::At)), "clof: type --at\n"),
-        (&["distrib", "--at", "core", "1", "Core:2 PU:0"], Status::Malformed(Fault::Synth(SynthFault::BadArity { at: 7 })), "clof: synth BadArity 7\n"),
+        (
+            &["distrib", "--at", "numa", "1", "PU:2"],
+            Status::Malformed(Fault::TypeOf(OptionName::At)),
+            "clof: type --at\n",
+        ),
+        (
+            &["distrib", "--at", "core", "1", "Core:2 PU:0"],
+            Status::Malformed(Fault::Synth(SynthFault::BadArity { at: 7 })),
+            "clof: synth BadArity 7\n",
+        ),
         (&["distrib", "0", ""], Status::Malformed(Fault::Synth(SynthFault::Empty)), "clof: synth Empty\n"),
-        (&["distrib", "1", "PU:4097"], Status::Limit(Fault::Synth(SynthFault::TooManyObjects)), "clof: synth TooManyObjects\n"),
+        (
+            &["distrib", "1", "PU:4097"],
+            Status::Limit(Fault::Synth(SynthFault::TooManyObjects)),
+            "clof: synth TooManyObjects\n",
+        ),
     ];
     for (words, status, err) in cases {
         ends(&rt, rt.alloc(), words, status, "", err)?;
