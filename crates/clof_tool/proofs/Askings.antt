@@ -12,25 +12,29 @@ same_written words Run (Set true other) is also = let h = also.0 in cc
 same_written words Run (Topo false other) is also = let h = also.0 in cc
 same_written words Run (Topo true other) is also = let h = also.0 in cc
 same_written words (Set false text) Run is also = let h = is.0 in cc
-same_written words (Set false text) (Set false other) is also = let h = is.0 in let k = also.0 in let inner : text ≡ other = cc in ap (Set false) inner
+same_written words (Set false text) (Set false other) is also =
+    let h = is.0 in let k = also.0 in let inner : text ≡ other = cc in ap (Set false) inner
 same_written words (Set false text) (Set true other) is also = let h = is.0 in let k = also.0 in cc
 same_written words (Set false text) (Topo false other) is also = let h = is.0 in let k = also.0 in cc
 same_written words (Set false text) (Topo true other) is also = let h = is.0 in let k = also.0 in cc
 same_written words (Set true text) Run is also = let h = is.0 in cc
 same_written words (Set true text) (Set false other) is also = let h = is.0 in let k = also.0 in cc
-same_written words (Set true text) (Set true other) is also = let h = is.0 in let k = also.0 in let inner : text ≡ other = cc in ap (Set true) inner
+same_written words (Set true text) (Set true other) is also =
+    let h = is.0 in let k = also.0 in let inner : text ≡ other = cc in ap (Set true) inner
 same_written words (Set true text) (Topo false other) is also = let h = is.0 in let k = also.0 in cc
 same_written words (Set true text) (Topo true other) is also = let h = is.0 in let k = also.0 in cc
 same_written words (Topo false text) Run is also = let h = is.0 in cc
 same_written words (Topo false text) (Set false other) is also = let h = is.0 in let k = also.0 in cc
 same_written words (Topo false text) (Set true other) is also = let h = is.0 in let k = also.0 in cc
-same_written words (Topo false text) (Topo false other) is also = let h = is.0 in let k = also.0 in let inner : text ≡ other = cc in ap (Topo false) inner
+same_written words (Topo false text) (Topo false other) is also =
+    let h = is.0 in let k = also.0 in let inner : text ≡ other = cc in ap (Topo false) inner
 same_written words (Topo false text) (Topo true other) is also = let h = is.0 in let k = also.0 in cc
 same_written words (Topo true text) Run is also = let h = is.0 in cc
 same_written words (Topo true text) (Set false other) is also = let h = is.0 in let k = also.0 in cc
 same_written words (Topo true text) (Set true other) is also = let h = is.0 in let k = also.0 in cc
 same_written words (Topo true text) (Topo false other) is also = let h = is.0 in let k = also.0 in cc
-same_written words (Topo true text) (Topo true other) is also = let h = is.0 in let k = also.0 in let inner : text ≡ other = cc in ap (Topo true) inner
+same_written words (Topo true text) (Topo true other) is also =
+    let h = is.0 in let k = also.0 in let inner : text ≡ other = cc in ap (Topo true) inner
 same_written words Run (Distrib other) is also = absurd also
 same_written words (Set false text) (Distrib other) is also = absurd also
 same_written words (Set true text) (Distrib other) is also = absurd also

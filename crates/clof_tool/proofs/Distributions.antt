@@ -12,7 +12,8 @@ use Rattle.clof_tool.specs.TopoText.{IsBuilt, TopoRefuses}
 
 module _ {T U : Type 0} where
   -- the same status, where nothing is built and where nothing is printed
-  pub err_again : (found status : Status) → (◌≡◌ {A = Result T Status} (Err found) (Err status)) ⊎ (◌≡◌ {A = Result T Status} (Err found) (Err OutOfMemory))
+  pub err_again : (found status : Status)
+      → (◌≡◌ {A = Result T Status} (Err found) (Err status)) ⊎ (◌≡◌ {A = Result T Status} (Err found) (Err OutOfMemory))
       → (◌≡◌ {A = Result U Status} (Err found) (Err status)) ⊎ (◌≡◌ {A = Result U Status} (Err found) (Err OutOfMemory))
   err_again found status (inl is) = let same : found ≡ status = cc in inl (ap Err same)
   err_again found status (inr is) = let same : found ≡ OutOfMemory = cc in inr (ap Err same)
@@ -46,7 +47,8 @@ pub refused_on : {T : Type 0} (built : T) (asked : Distribution) (topology : Des
     → DistribRefuses asked status → answer_on topology asked ≡ Err status
 refused_on built asked topology status only refused (inl refuses) = absurd (not_refused built status (refused status refuses))
 refused_on built asked topology status only refused (inr answers) =
-    subst (λ (described : Description). answer_on described asked ≡ Err status) (only answers.described answers.built.describes) answers.answer_is
+    subst (λ (described : Description). answer_on described asked ≡ Err status)
+    (only answers.described answers.built.describes) answers.answer_is
 
 pub early_silent : (status : Status) → EndsEarly status → HasWritten status → ⊥
 early_silent OkStatus early written = early

@@ -1,4 +1,4 @@
--- How a description is read and built: by what its text describes, by the first rule that the text breaks, or by the first that the numbers break.
+-- How a description is read and built: by what its text describes, or by the first rule that the text or its numbers break.
 use Rattle.std.proofs.Common.{◌≡◌, ◌⊎◌, ℕ, List, Bool, Option, Some, None, Ok, Err, inl, inr, refl, sym, ap, subst, ◌∙◌}
 use Rattle.std.specs.Prelude.{Result}
 use Rattle.synth_text.specs.declared.description.Description.{Description}

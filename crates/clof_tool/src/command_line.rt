@@ -33,7 +33,8 @@ pub(crate) fn with_place<'a>(alloc: Global, command: Command<'a>, name: &'a str)
 /// take them.
 pub(crate) fn parse<'a>(command: Command<'a>, words: &'a [String]) -> Result<ArgMatches<'a>, Status>
     requires { is_simple_and_free (app_of command) ≡ true }
-    ensures read { IfOk result (λ matches. IsParsed (app_of command.entry) (map string_bytes words.entry.now) (rows_of (found_of matches))) }
+    ensures read { IfOk result (λ matches.
+        IsParsed (app_of command.entry) (map string_bytes words.entry.now) (rows_of (found_of matches))) }
     ensures refused { IfErr result (λ status. (status ≡ Status.OutOfMemory)
         ⊎ ((status ≡ Status.Usage) × (fault_of (app_of command.entry) (map string_bytes words.entry.now) ≢ []))) }
 {

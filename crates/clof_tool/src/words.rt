@@ -1,5 +1,6 @@
 // The words of the command line.
-ghost use Rattle.std.specs.Prelude.{◌≡◌, ◌≢◌, ◌⊎◌, ◌↔◌, [], ◌∷◌, IsTrue, IfOk, IfErr, MatchOption, Some, codes, map, string_bytes, slice_get};
+ghost use Rattle.std.specs.Prelude.{◌≡◌, ◌≢◌, ◌⊎◌, ◌↔◌, [], ◌∷◌, IsTrue};
+ghost use Rattle.std.specs.Prelude.{IfOk, IfErr, MatchOption, Some, codes, map, string_bytes, slice_get};
 ghost use Rattle.clof_tool.specs.Words.{Asked as PlainAsked, Says, IsWritten, IsTabled, IsPlain, IsUsage};
 ghost use Rattle.clof_tool.specs.Asked.{plain};
 

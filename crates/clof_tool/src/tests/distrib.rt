@@ -30,33 +30,26 @@ const TREE: &str = "Package:2 Core:2 PU:2";
 #[test]
 fn prints_masks(rt: HostRuntime) -> Result<(), Fail> {
     let cases: [(&[&str], &str); 14] = [
-        (&["3", TREE], "0x00000003\n0x0000000c\n0x000000f0\n"),
-        (&["--reverse", "3", TREE], "0x000000c0\n0x00000030\n0x0000000f\n"),
-        (&["3", TREE, "--reverse"], "0x000000c0\n0x00000030\n0x0000000f\n"),
-        (&["003", "--taskset", TREE], "0x3\n0xc\n0xf0\n"),
-        (&["--single", "3", TREE], "0x00000001\n0x00000004\n0x00000010\n"),
+        (&["distrib", "3", TREE], "0x00000003\n0x0000000c\n0x000000f0\n"),
+        (&["distrib", "--reverse", "3", TREE], "0x000000c0\n0x00000030\n0x0000000f\n"),
+        (&["distrib", "3", TREE, "--reverse"], "0x000000c0\n0x00000030\n0x0000000f\n"),
+        (&["distrib", "003", "--taskset", TREE], "0x3\n0xc\n0xf0\n"),
+        (&["distrib", "--single", "3", TREE], "0x00000001\n0x00000004\n0x00000010\n"),
         (
-            &["--single", "--taskset", "--reverse", "3", TREE],
+            &["distrib", "--single", "--taskset", "--reverse", "3", TREE],
             "0x40\n0x10\n0x1\n",
         ),
-        (&["1", "PU:2"], "0x00000003\n"),
-        (&["2", "Core:3 PU:1"], "0x00000001\n0x00000006\n"),
-        (&["--from", "pu", "1", "PU:2"], "0x00000003\n"),
-        (&["--to=package", "4", TREE], "0x0000000f\n0x0000000f\n0x000000f0\n0x000000f0\n"),
-        (&["--at", "core", "4", TREE], "0x00000003\n0x0000000c\n0x00000030\n0x000000c0\n"),
-        (&["--from=package", "--to=Core", "2", TREE], "0x0000000f\n0x000000f0\n"),
-        (&["--at", "numa", "2", "Package:2 [numa] PU:2"], "0x00000003\n0x0000000c\n"),
-        (&["--", "1", "PU:2"], "0x00000003\n"),
+        (&["distrib", "1", "PU:2"], "0x00000003\n"),
+        (&["distrib", "2", "Core:3 PU:1"], "0x00000001\n0x00000006\n"),
+        (&["distrib", "--from", "pu", "1", "PU:2"], "0x00000003\n"),
+        (&["distrib", "--to=package", "4", TREE], "0x0000000f\n0x0000000f\n0x000000f0\n0x000000f0\n"),
+        (&["distrib", "--at", "core", "4", TREE], "0x00000003\n0x0000000c\n0x00000030\n0x000000c0\n"),
+        (&["distrib", "--from=package", "--to=Core", "2", TREE], "0x0000000f\n0x000000f0\n"),
+        (&["distrib", "--at", "numa", "2", "Package:2 [numa] PU:2"], "0x00000003\n0x0000000c\n"),
+        (&["distrib", "--", "1", "PU:2"], "0x00000003\n"),
     ];
     for (words, out) in cases {
-        let mut all = [""; 8];
-        all[0] = "distrib";
-        let mut count = 1;
-        for word in words {
-            all[count] = *word;
-            count += 1;
-        }
-        ends(&rt, rt.alloc(), &all[..count], Status::Ok, out, "")?;
+        ends(&rt, rt.alloc(), words, Status::Ok, out, "")?;
     }
     Ok(())
 }
@@ -106,21 +99,53 @@ fn refuses_words(rt: HostRuntime) -> Result<(), Fail> {
 #[test]
 fn refuses_types_and_numbers(rt: HostRuntime) -> Result<(), Fail> {
     let cases: [(&[&str], Status, &str); 11] = [
-        (&["distrib", "0", "PU:2"], Status::Malformed(Fault::Distrib(DistribFault::ZeroMasks)), "clof: distrib ZeroMasks\n"),
-        (&["distrib", "4097", "PU:2"], Status::Limit(Fault::Distrib(DistribFault::TooManyMasks)), "clof: distrib TooManyMasks\n"),
-        (&["distrib", "4294967295", "PU:2"], Status::Limit(Fault::Distrib(DistribFault::TooManyMasks)), "clof: distrib TooManyMasks\n"),
+        (
+            &["distrib", "0", "PU:2"],
+            Status::Malformed(Fault::Distrib(DistribFault::ZeroMasks)),
+            "clof: distrib ZeroMasks\n",
+        ),
+        (
+            &["distrib", "4097", "PU:2"],
+            Status::Limit(Fault::Distrib(DistribFault::TooManyMasks)),
+            "clof: distrib TooManyMasks\n",
+        ),
+        (
+            &["distrib", "4294967295", "PU:2"],
+            Status::Limit(Fault::Distrib(DistribFault::TooManyMasks)),
+            "clof: distrib TooManyMasks\n",
+        ),
         (
             &["distrib", "--from", "pu", "--to", "machine", "1", "PU:2"],
             Status::Malformed(Fault::Distrib(DistribFault::Reversed)),
             "clof: distrib Reversed\n",
         ),
-        (&["distrib", "--from", "core", "0", "PU:2"], Status::Malformed(Fault::TypeOf(OptionName::From)), "clof: type --from\n"),
-        (&["distrib", "--to", "core", "--from", "die", "0", "PU:2"], Status::Malformed(Fault::TypeOf(OptionName::From)), "clof: type --from\n"),
+        (
+            &["distrib", "--from", "core", "0", "PU:2"],
+            Status::Malformed(Fault::TypeOf(OptionName::From)),
+            "clof: type --from\n",
+        ),
+        (
+            &["distrib", "--to", "core", "--from", "die", "0", "PU:2"],
+            Status::Malformed(Fault::TypeOf(OptionName::From)),
+            "clof: type --from\n",
+        ),
         (&["distrib", "--to=", "1", "PU:2"], Status::Malformed(Fault::TypeOf(OptionName::To)), "clof: type --to\n"),
-        (&["distrib", "--at", "numa", "1", "PU:2"], Status::Malformed(Fault::TypeOf(OptionName::At)), "clof: type --at\n"),
-        (&["distrib", "--at", "core", "1", "Core:2 PU:0"], Status::Malformed(Fault::Synth(SynthFault::BadArity { at: 7 })), "clof: synth BadArity 7\n"),
+        (
+            &["distrib", "--at", "numa", "1", "PU:2"],
+            Status::Malformed(Fault::TypeOf(OptionName::At)),
+            "clof: type --at\n",
+        ),
+        (
+            &["distrib", "--at", "core", "1", "Core:2 PU:0"],
+            Status::Malformed(Fault::Synth(SynthFault::BadArity { at: 7 })),
+            "clof: synth BadArity 7\n",
+        ),
         (&["distrib", "0", ""], Status::Malformed(Fault::Synth(SynthFault::Empty)), "clof: synth Empty\n"),
-        (&["distrib", "1", "PU:4097"], Status::Limit(Fault::Synth(SynthFault::TooManyObjects)), "clof: synth TooManyObjects\n"),
+        (
+            &["distrib", "1", "PU:4097"],
+            Status::Limit(Fault::Synth(SynthFault::TooManyObjects)),
+            "clof: synth TooManyObjects\n",
+        ),
     ];
     for (words, status, err) in cases {
         ends(&rt, rt.alloc(), words, status, "", err)?;

@@ -15,5 +15,6 @@ returns c =
     c.in_ok-command-3.ensures c.in_ok-command-4.ensures c.in_ok-command-5.ensures c.in_ok-command-6.ensures c.in_ok-command-7.ensures is in
     record {
       command = IfOk-weaker c.with_place-2.result _ _ (λ whole is. made whole is) c.with_place-2.ensures;
-      simple = IfOk-weaker c.with_place-2.result _ _ (λ whole is. ap is_simple_and_free (made whole is) ∙ distrib_simple) c.with_place-2.ensures;
+      simple = IfOk-weaker c.with_place-2.result _ _
+          (λ whole is. ap is_simple_and_free (made whole is) ∙ distrib_simple) c.with_place-2.ensures;
     }

@@ -14,6 +14,7 @@ pub returns-clause-usage_else : goal.returns-clause-usage_else
 returns-clause-usage_else g c =
     elim c.match-words.branch [
       | in-Ok w ↦ rw w.in-Ok.is
-          (usage_else_ends _ _ _ _ _ c.code.ensures c.from.ensures (rw w.status-is (rw (← w.deref.ensures.value) w.top-status.ensures.usage_else)))
+          (usage_else_ends _ _ _ _ _ c.code.ensures c.from.ensures
+          (rw w.status-is (rw (← w.deref.ensures.value) w.top-status.ensures.usage_else)))
       | in-Err w ↦ rw w.in-Err.is tt
     ]
