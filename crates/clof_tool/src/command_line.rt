@@ -9,21 +9,33 @@ use clap::{Arg, ArgAction, ArgMatches, Command};
 use std::alloc::{AllocError, Global};
 
 /// The command with one option more that has a value.
-pub(crate) fn with_option<'a>(alloc: Global, command: Command<'a>, name: &'a str) -> Result<Command<'a>, AllocError>
+pub(crate) fn with_option<'a>(
+    alloc: Global,
+    command: Command<'a>,
+    name: &'a str,
+) -> Result<Command<'a>, AllocError>
     ensures { IfOk result (λ made. app_of made ≡ with_rule (app_of command.entry) (option_rule name.entry.now)) }
 {
     command.arg(Arg::new(alloc, name).long(name))
 }
 
 /// The command with one option more that has no value.
-pub(crate) fn with_flag<'a>(alloc: Global, command: Command<'a>, name: &'a str) -> Result<Command<'a>, AllocError>
+pub(crate) fn with_flag<'a>(
+    alloc: Global,
+    command: Command<'a>,
+    name: &'a str,
+) -> Result<Command<'a>, AllocError>
     ensures { IfOk result (λ made. app_of made ≡ with_rule (app_of command.entry) (flag_rule name.entry.now)) }
 {
     command.arg(Arg::new(alloc, name).long(name).action(ArgAction::SetTrue))
 }
 
 /// The command with one word more that isn't an option's, and that has to be there.
-pub(crate) fn with_place<'a>(alloc: Global, command: Command<'a>, name: &'a str) -> Result<Command<'a>, AllocError>
+pub(crate) fn with_place<'a>(
+    alloc: Global,
+    command: Command<'a>,
+    name: &'a str,
+) -> Result<Command<'a>, AllocError>
     ensures { IfOk result (λ made. app_of made ≡ with_rule (app_of command.entry) (place_rule name.entry.now)) }
 {
     command.arg(Arg::new(alloc, name).required(true))

@@ -39,7 +39,11 @@ pub(crate) fn distrib_text(alloc: Global, asked: &Distribution<'_>) -> Result<Ve
 
 // The masks of a topology, one a line, or the status with which they are refused.
 #[tactic(auto, unfolding(crate::specs::DistribText::answer_on))]
-fn answer_on(alloc: Global, topology: &Topology, asked: &Distribution<'_>) -> Result<Vec<u8>, Status>
+fn answer_on(
+    alloc: Global,
+    topology: &Topology,
+    asked: &Distribution<'_>,
+) -> Result<Vec<u8>, Status>
     ensures ok { IfOk result (λ printed. answer_on topology.now (plain_distribution asked.now) ≡ Ok printed.items) }
     ensures err { IfErr result (λ status. (status ≡ Status.OutOfMemory)
         ⊎ (answer_on topology.now (plain_distribution asked.now) ≡ Err status)) }
@@ -77,7 +81,12 @@ fn span(topology: &Topology, depths: Depths<'_>) -> Result<(u32, u32), Status>
 }
 
 // The depth that an option names, where it was given.
-fn depth(topology: &Topology, option: OptionName, default: u32, name: Option<&[u8]>) -> Result<u32, Status>
+fn depth(
+    topology: &Topology,
+    option: OptionName,
+    default: u32,
+    name: Option<&[u8]>,
+) -> Result<u32, Status>
     requires { default < depth_count topology.now }
     ensures ok { IfOk result (λ depth. depth_of topology.now option default (plain_name name.entry) ≡ Ok depth) }
     ensures err { IfErr result (λ status. depth_of topology.now option default (plain_name name.entry) ≡ Err status) }
@@ -106,7 +115,12 @@ fn distrib_status(fault: DistribFault) -> Status
 }
 
 // Masks, one a line.
-fn lines(alloc: Global, single: bool, taskset: bool, masks: &[CpuSet]) -> Result<Vec<u8>, OutOfMemory>
+fn lines(
+    alloc: Global,
+    single: bool,
+    taskset: bool,
+    masks: &[CpuSet],
+) -> Result<Vec<u8>, OutOfMemory>
     ensures { IfOk result (λ text. text.items ≡ mask_lines single taskset masks.now) }
 {
     let mut text = Vec::new(alloc);
@@ -117,7 +131,13 @@ fn lines(alloc: Global, single: bool, taskset: bool, masks: &[CpuSet]) -> Result
 }
 
 // Appends the line of a mask.
-fn push_line(alloc: Global, text: &mut Vec<u8>, single: bool, taskset: bool, mask: &CpuSet) -> Result<(), OutOfMemory>
+fn push_line(
+    alloc: Global,
+    text: &mut Vec<u8>,
+    single: bool,
+    taskset: bool,
+    mask: &CpuSet,
+) -> Result<(), OutOfMemory>
     ensures { OnOk result (text.new.items ≡ text.old.items ++ mask_line single taskset mask.now) }
 {
     let line = mask_text(alloc, single, taskset, mask)?;
@@ -127,7 +147,12 @@ fn push_line(alloc: Global, text: &mut Vec<u8>, single: bool, taskset: bool, mas
 }
 
 // The text of a set, or of its first number alone.
-fn mask_text(alloc: Global, single: bool, taskset: bool, mask: &CpuSet) -> Result<Vec<u8>, OutOfMemory>
+fn mask_text(
+    alloc: Global,
+    single: bool,
+    taskset: bool,
+    mask: &CpuSet,
+) -> Result<Vec<u8>, OutOfMemory>
     ensures { IfOk result (λ text. text.items ≡ mask_text single taskset mask.now) }
 {
     let shown = if single { first_alone(mask) } else { *mask };

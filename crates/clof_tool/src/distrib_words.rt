@@ -16,7 +16,10 @@ use std::alloc::{AllocError, Global};
 #[derive(Clone, Copy)]
 pub(crate) enum Depths<'a> {
     /// At the depths of two names; where one is absent, at depth 0 and at that of the PUs.
-    Between { from: Option<&'a [u8]>, to: Option<&'a [u8]> },
+    Between {
+        from: Option<&'a [u8]>,
+        to: Option<&'a [u8]>,
+    },
     /// At the depth of one name.
     At(&'a [u8]),
 }
@@ -37,7 +40,10 @@ pub(crate) struct Distribution<'a> {
 }
 
 /// What the words ask of `distrib`, whose name comes first.
-pub(crate) fn read_distribution<'a>(alloc: Global, words: &'a [String]) -> Result<Distribution<'a>, Status>
+pub(crate) fn read_distribution<'a>(
+    alloc: Global,
+    words: &'a [String],
+) -> Result<Distribution<'a>, Status>
     ensures asked { IfOk result (λ asked. AsksDistribution (map string_bytes words.entry.now) (plain_distribution asked)) }
     ensures refused { IfErr result (λ status. (status ≡ Status.OutOfMemory) ⊎ ((status ≡ Status.Usage)
         × ((asked : PlainDistribution) → AsksDistribution (map string_bytes words.entry.now) asked → ⊥))) }
@@ -76,7 +82,11 @@ fn asked_of<'a>(matches: &ArgMatches<'a>) -> Option<Distribution<'a>>
     ensures { option_map plain_distribution result ≡ distribution_of (rows_of (found_of matches.now)) }
 {
     let masks = number(value(matches, "N")?)?;
-    let depths = start_and_end(value(matches, "from"), value(matches, "to"), value(matches, "at"))?;
+    let depths = start_and_end(
+        value(matches, "from"),
+        value(matches, "to"),
+        value(matches, "at"),
+    )?;
     let description = value(matches, "DESCRIPTION")?;
     Some(Distribution {
         masks,
@@ -100,7 +110,11 @@ fn number(text: &[u8]) -> Option<u32>
 }
 
 // Where a distribution starts and ends.
-fn start_and_end<'a>(from: Option<&'a [u8]>, to: Option<&'a [u8]>, at: Option<&'a [u8]>) -> Option<Depths<'a>>
+fn start_and_end<'a>(
+    from: Option<&'a [u8]>,
+    to: Option<&'a [u8]>,
+    at: Option<&'a [u8]>,
+) -> Option<Depths<'a>>
     ensures { option_map plain_depths result
         ≡ depths_of (plain_name from.entry) (plain_name to.entry) (plain_name at.entry) }
 {

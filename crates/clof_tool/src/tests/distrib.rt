@@ -30,11 +30,23 @@ const TREE: &str = "Package:2 Core:2 PU:2";
 #[test]
 fn prints_masks(rt: HostRuntime) -> Result<(), Fail> {
     let cases: [(&[&str], &str); 14] = [
-        (&["distrib", "3", TREE], "0x00000003\n0x0000000c\n0x000000f0\n"),
-        (&["distrib", "--reverse", "3", TREE], "0x000000c0\n0x00000030\n0x0000000f\n"),
-        (&["distrib", "3", TREE, "--reverse"], "0x000000c0\n0x00000030\n0x0000000f\n"),
+        (
+            &["distrib", "3", TREE],
+            "0x00000003\n0x0000000c\n0x000000f0\n",
+        ),
+        (
+            &["distrib", "--reverse", "3", TREE],
+            "0x000000c0\n0x00000030\n0x0000000f\n",
+        ),
+        (
+            &["distrib", "3", TREE, "--reverse"],
+            "0x000000c0\n0x00000030\n0x0000000f\n",
+        ),
         (&["distrib", "003", "--taskset", TREE], "0x3\n0xc\n0xf0\n"),
-        (&["distrib", "--single", "3", TREE], "0x00000001\n0x00000004\n0x00000010\n"),
+        (
+            &["distrib", "--single", "3", TREE],
+            "0x00000001\n0x00000004\n0x00000010\n",
+        ),
         (
             &["distrib", "--single", "--taskset", "--reverse", "3", TREE],
             "0x40\n0x10\n0x1\n",
@@ -42,10 +54,22 @@ fn prints_masks(rt: HostRuntime) -> Result<(), Fail> {
         (&["distrib", "1", "PU:2"], "0x00000003\n"),
         (&["distrib", "2", "Core:3 PU:1"], "0x00000001\n0x00000006\n"),
         (&["distrib", "--from", "pu", "1", "PU:2"], "0x00000003\n"),
-        (&["distrib", "--to=package", "4", TREE], "0x0000000f\n0x0000000f\n0x000000f0\n0x000000f0\n"),
-        (&["distrib", "--at", "core", "4", TREE], "0x00000003\n0x0000000c\n0x00000030\n0x000000c0\n"),
-        (&["distrib", "--from=package", "--to=Core", "2", TREE], "0x0000000f\n0x000000f0\n"),
-        (&["distrib", "--at", "numa", "2", "Package:2 [numa] PU:2"], "0x00000003\n0x0000000c\n"),
+        (
+            &["distrib", "--to=package", "4", TREE],
+            "0x0000000f\n0x0000000f\n0x000000f0\n0x000000f0\n",
+        ),
+        (
+            &["distrib", "--at", "core", "4", TREE],
+            "0x00000003\n0x0000000c\n0x00000030\n0x000000c0\n",
+        ),
+        (
+            &["distrib", "--from=package", "--to=Core", "2", TREE],
+            "0x0000000f\n0x000000f0\n",
+        ),
+        (
+            &["distrib", "--at", "numa", "2", "Package:2 [numa] PU:2"],
+            "0x00000003\n0x0000000c\n",
+        ),
         (&["distrib", "--", "1", "PU:2"], "0x00000003\n"),
     ];
     for (words, out) in cases {
@@ -56,10 +80,18 @@ fn prints_masks(rt: HostRuntime) -> Result<(), Fail> {
 
 #[test]
 fn prints_as_many_masks_as_the_limit(rt: HostRuntime) -> Result<(), Fail> {
-    let ended = call(&rt, rt.alloc(), &["distrib", "4096", "PU:2"], b"".to_vec(rt.alloc())?)?;
+    let ended = call(
+        &rt,
+        rt.alloc(),
+        &["distrib", "4096", "PU:2"],
+        b"".to_vec(rt.alloc())?,
+    )?;
     assert_eq!(rt; ended.status, Status::Ok);
     assert_eq!(rt; ended.out.len(), 4096 * 11);
-    assert_eq!(rt; &ended.out[2047 * 11..2049 * 11], b"0x00000001\n0x00000002\n".as_slice());
+    assert_eq!(rt;
+        &ended.out[2047 * 11..2049 * 11],
+        b"0x00000001\n0x00000002\n".as_slice()
+    );
     Ok(())
 }
 
@@ -92,8 +124,22 @@ fn refuses_words(rt: HostRuntime) -> Result<(), Fail> {
     for words in cases {
         ends(&rt, rt.alloc(), words, Status::Usage, "", USAGE)?;
     }
-    ends(&rt, rt.alloc(), &["distrib", "--version"], Status::Usage, "", USAGE)?;
-    ends(&rt, rt.alloc(), &["Distrib", "1", "PU:2"], Status::Usage, "", USAGE)
+    ends(
+        &rt,
+        rt.alloc(),
+        &["distrib", "--version"],
+        Status::Usage,
+        "",
+        USAGE,
+    )?;
+    ends(
+        &rt,
+        rt.alloc(),
+        &["Distrib", "1", "PU:2"],
+        Status::Usage,
+        "",
+        USAGE,
+    )
 }
 
 #[test]
@@ -129,7 +175,11 @@ fn refuses_types_and_numbers(rt: HostRuntime) -> Result<(), Fail> {
             Status::Malformed(Fault::TypeOf(OptionName::From)),
             "clof: type --from\n",
         ),
-        (&["distrib", "--to=", "1", "PU:2"], Status::Malformed(Fault::TypeOf(OptionName::To)), "clof: type --to\n"),
+        (
+            &["distrib", "--to=", "1", "PU:2"],
+            Status::Malformed(Fault::TypeOf(OptionName::To)),
+            "clof: type --to\n",
+        ),
         (
             &["distrib", "--at", "numa", "1", "PU:2"],
             Status::Malformed(Fault::TypeOf(OptionName::At)),
@@ -140,7 +190,11 @@ fn refuses_types_and_numbers(rt: HostRuntime) -> Result<(), Fail> {
             Status::Malformed(Fault::Synth(SynthFault::BadArity { at: 7 })),
             "clof: synth BadArity 7\n",
         ),
-        (&["distrib", "0", ""], Status::Malformed(Fault::Synth(SynthFault::Empty)), "clof: synth Empty\n"),
+        (
+            &["distrib", "0", ""],
+            Status::Malformed(Fault::Synth(SynthFault::Empty)),
+            "clof: synth Empty\n",
+        ),
         (
             &["distrib", "1", "PU:4097"],
             Status::Limit(Fault::Synth(SynthFault::TooManyObjects)),

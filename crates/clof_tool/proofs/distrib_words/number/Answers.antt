@@ -11,7 +11,7 @@ pub returns-in-TooLarge : goal.returns-in-TooLarge
 returns-in-TooLarge c =
     elim c.in-TooLarge.is [
       | inl e ↦ number_read 4294967295 c.args.text.now TooLarge
-        (subst (λ r. Reads 10 4294967295 c.args.text.now r) e c.read_numeral.ensures)
+          (subst (λ r. Reads 10 4294967295 c.args.text.now r) e c.read_numeral.ensures)
       | inr e ↦ number_read 4294967295 c.args.text.now NotNumeral
-        (subst (λ r. Reads 10 4294967295 c.args.text.now r) e c.read_numeral.ensures)
+          (subst (λ r. Reads 10 4294967295 c.args.text.now r) e c.read_numeral.ensures)
     ]
