@@ -1,3 +1,7 @@
 mod Pairs
 mod Cuts
 mod Numbers
+mod Blocks
+mod Steps
+mod Beginnings
+mod Sections

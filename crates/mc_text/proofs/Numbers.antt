@@ -1,9 +1,11 @@
 -- Numbers with a limit.
-use Rattle.std.proofs.Common.{◌≡◌, ℕ, ◌+◌, ◌<◌, ◌≤◌, nat_lt, List, Option, Some, None, sym, arith}
+use Rattle.std.proofs.Common.{◌≡◌, ℕ, ◌+◌, ◌<◌, ◌≤◌, nat_lt, true, List, Option, Some, None, Ok, Err, refl, sym, arith}
 use Rattle.std.specs.Str.Parse.{IsNumeral, digits_value}
 use Rattle.std.proofs.lemmas.Bool.{lt-ltb, le-ltb}
-use Rattle.byte_text.specs.Numerals.{Reads, number_below}
-use Rattle.byte_text.specs.NumeralLaws.{number_passes, number_fails, number_lacks}
+use Rattle.byte_text.specs.Numerals.{Reads, is_decimal, number_below}
+use Rattle.byte_text.specs.NumeralLaws.{Decides-is_decimal, no_decimal, number_passes, number_fails, number_lacks}
+use Rattle.mc_text.specs.declared.command.LineFault.TheVariants.{Format}
+use Rattle.mc_text.specs.Field.{level_of}
 use Rattle.byte_text.specs.declared.numerals.Numeral.{Numeral}
 use Rattle.byte_text.specs.declared.numerals.Numeral.TheVariants.{Number, TooLarge, NotNumeral}
 
@@ -35,3 +37,13 @@ number_read greatest word (Number n) reads =
     sym (number_below_is (greatest + 1) word n reads.0 reads.1 (omega (arith, reads.2)))
 number_read greatest word TooLarge reads = sym (number_below_over (greatest + 1) word (omega (arith, reads.1)))
 number_read greatest word NotNumeral reads = sym (number_below_none (greatest + 1) word reads)
+
+-- any decimal number is a level
+pub level_is : (word : List ℕ) → IsNumeral 10 word → level_of word ≡ Ok tt
+unfolding level_of
+level_is word numeral = let test : is_decimal word ≡ true = (Decides-is_decimal word).1 numeral in rw test refl
+
+-- and nothing else is
+pub level_none : (word : List ℕ) → ¬ (IsNumeral 10 word) → level_of word ≡ Err Format
+unfolding level_of
+level_none word lacks = rw (no_decimal word lacks) refl

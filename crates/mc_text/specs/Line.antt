@@ -161,13 +161,21 @@ touch_of _ = Err Unknown
 unfoldable pub flush_at : List ℕ → Bool → Said Line
 flush_at delay quiet = if bytes_eq delay (codes "0") then Ok (Whole (Flush quiet)) else Err Format
 
+-- `0`, and maybe `noreply`
+unfoldable pub delayed_of : List (List ℕ) → Said Line
+delayed_of (delay ∷ more) = do
+  quiet ← quiet_of more
+  flush_at delay quiet
+delayed_of [] = Err Unknown
+
+-- nothing, or `noreply` alone; and else with a delay
+abbrev pub or_delayed : Said Bool → List (List ℕ) → Said Line
+or_delayed (Ok quiet) words = Ok (Whole (Flush quiet))
+or_delayed (Err fault) words = delayed_of words
+
 -- [`0`] [noreply]
 unfoldable pub flush_of : List (List ℕ) → Said Line
-flush_of [] = Ok (Whole (Flush false))
-flush_of (word ∷ []) = if bytes_eq word (codes "noreply") then Ok (Whole (Flush true)) else flush_at word false
-flush_of (delay ∷ word ∷ more) = do
-  quiet ← quiet_of (word ∷ more)
-  flush_at delay quiet
+flush_of words = or_delayed (quiet_of words) words
 
 -- level [noreply]
 unfoldable pub verbosity_of : List (List ℕ) → Said Line

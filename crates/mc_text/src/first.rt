@@ -12,7 +12,7 @@ use byte_text::cut_at;
 const VALUE_LIMIT: usize = 1_048_576;
 
 /// The whole command with which a text begins; `None` where it begins with none.
-#[tactic(auto)]
+#[tactic(auto, using(crate::proofs::Steps::steps))]
 pub(crate) fn first_command(text: &[u8]) -> Option<Command<'_>>
     ensures { option_map view result ≡ first_command text.now }
 {
@@ -31,7 +31,7 @@ pub(crate) fn first_command(text: &[u8]) -> Option<Command<'_>>
 
 // How many bytes behind a block through the next `\n`, and whether they are `\r\n`; none where less than two bytes or no `\n`
 // stand there.
-#[tactic(auto, unfolding(crate::specs::Reading::line_end))]
+#[tactic(auto, using(crate::proofs::Blocks::ends))]
 fn line_end(tail: &[u8]) -> Option<(bool, usize)>
     ensures value { result ≡ line_end tail.now }
     ensures bound { IfSome result (λ end. end.1 ≤ length tail.now) }

@@ -4,8 +4,8 @@ ghost use Rattle.byte_text.specs.Words.{words_left};
 ghost use Rattle.mc_text.specs.declared.command.LineFault.TheVariants.{Unknown};
 ghost use Rattle.mc_text.specs.Request.{request_of, spelling_of};
 ghost use Rattle.mc_text.specs.Line.{
-    header_of, storage_of, cas_of, retrieval_of, delete_of, count_of, touch_of, flush_at, flush_of, verbosity_of, lone_of,
-    said_in};
+    header_of, storage_of, cas_of, retrieval_of, delete_of, count_of, touch_of, flush_at, delayed_of, flush_of,
+    verbosity_of, lone_of, said_in};
 ghost use Rattle.mc_text.specs.View.{Answers, fields_view, header_view, line_view, IsSpelled};
 
 use crate::command::{Command, How, LineFault};
@@ -183,23 +183,24 @@ fn read_touch<'a>(mut words: Words<'a>, spelling: &'a [u8]) -> Result<Line<'a>, 
 
 // [0] [noreply]
 #[tactic(auto, unfolding(crate::specs::Line::flush_of))]
-fn read_flush<'a>(mut words: Words<'a>, spelling: &'a [u8]) -> Result<Line<'a>, LineFault>
+fn read_flush<'a>(words: Words<'a>, spelling: &'a [u8]) -> Result<Line<'a>, LineFault>
     ensures said { Answers line_view (flush_of (words_left words.entry)) result }
     ensures spelled { IfOk result (IsSpelled spelling.now) }
 {
-    let Some(delay) = words.next() else {
-        return Ok(Line::Whole(Command::Flush {
-            quiet: false,
-            spelling,
-        }));
-    };
-    let quiet = read_quiet(words)?;
-    if !quiet && delay == b"noreply".as_slice() {
-        return Ok(Line::Whole(Command::Flush {
-            quiet: true,
-            spelling,
-        }));
+    match read_quiet(words) {
+        Ok(quiet) => Ok(Line::Whole(Command::Flush { quiet, spelling })),
+        Err(_) => read_delayed(words, spelling),
     }
+}
+
+// `0`, and maybe `noreply`.
+#[tactic(auto, unfolding(crate::specs::Line::delayed_of))]
+fn read_delayed<'a>(mut words: Words<'a>, spelling: &'a [u8]) -> Result<Line<'a>, LineFault>
+    ensures said { Answers line_view (delayed_of (words_left words.entry)) result }
+    ensures spelled { IfOk result (IsSpelled spelling.now) }
+{
+    let delay = next_word(&mut words)?;
+    let quiet = read_quiet(words)?;
     read_delay(delay, quiet, spelling)
 }
 
