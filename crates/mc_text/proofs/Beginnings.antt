@@ -1,44 +1,15 @@
 -- The whole command that a text begins with: the relation and the reading of it agree.
-use Rattle.std.proofs.Common.{
-  ◌≡◌,
-  ℕ,
-  ◌+◌,
-  ◌<◌,
-  ◌≤◌,
-  Bool,
-  true,
-  false,
-  List,
-  [],
-  ◌∷◌,
-  ◌++◌,
-  length,
-  take,
-  drop,
-  Option,
-  Some,
-  None,
-  option_map,
-  option_and_then,
-  inl,
-  inr,
-  refl,
-  sym,
-  ap,
-  ◌∙◌,
-  subst,
-  arith,
-}
+use Rattle.std.proofs.Common.{◌≡◌, ℕ, ◌+◌, ◌<◌, ◌≤◌, Bool, true, false, List, ◌∷◌, ◌++◌, length, take, drop, Option, Some, None, option_map, option_and_then, inl, inr, refl, sym, ap, ◌∙◌, subst, arith}
 use Rattle.std.proofs.lemmas.List.{length-append, length-take-le, length-drop, take-append-drop, take_at, drop_at}
 use Rattle.byte_text.specs.Cuts.{IsCutAt}
-use Rattle.mc_text.specs.Request.{Request, Store, Bad, WholeCommand}
+use Rattle.mc_text.specs.Request.{Request, WholeCommand}
 use Rattle.mc_text.specs.Line.{Header, Line, Storage, Whole, words_of_line, line_of}
-use Rattle.mc_text.specs.Begins.{Asks, Begins, EndsAtOnce, EndsLater, storing, limited}
+use Rattle.mc_text.specs.Begins.{Asks, Begins, EndsAtOnce, EndsLater}
 use Rattle.mc_text.specs.Section.{NoCommand}
 use Rattle.mc_text.specs.Reading.{cut_first, line_end, stored, asked_by, first_command}
 use Rattle.mc_text.proofs.Pairs.{some_pair}
 use Rattle.mc_text.proofs.Cuts.{cut_first_cuts}
-use Rattle.mc_text.proofs.Blocks.{IsEnd, IsLater, end_at_once, end_differs, end_is}
+use Rattle.mc_text.proofs.Blocks.{IsEnd, end_at_once, end_differs, end_is}
 use Rattle.mc_text.proofs.Steps.{something_asked}
 
 -- a block with `\r\n` behind it

@@ -27,12 +27,11 @@ use Rattle.std.proofs.Common.{
   append_assoc,
   arith,
 }
-use Rattle.std.specs.Option.{option_map_or}
 use Rattle.std.specs.Bool.{MatchBool}
 use Rattle.std.proofs.lemmas.List.{length-drop, drop_at, append-nil}
 use Rattle.mc_text.specs.Request.{WholeCommand, is_quit}
 use Rattle.mc_text.specs.Begins.{Begins}
-use Rattle.mc_text.specs.Section.{Spelled, EachBegins, Ends, NoCommand, spellings}
+use Rattle.mc_text.specs.Section.{Spelled, EachBegins, Ends, spellings}
 use Rattle.mc_text.specs.Reading.{first_command, in_front, read_within, commands_of, rest_of}
 use Rattle.mc_text.proofs.Beginnings.{begins_within, begins_parts, begins_first, first_begins, first_no_command, no_command_first}
 

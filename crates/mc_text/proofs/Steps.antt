@@ -1,10 +1,10 @@
 -- The command at the front of a text, step by step.
-use Rattle.std.proofs.Common.{◌≡◌, ℕ, Bool, add-zero, ◌+◌, ◌≤◌, List, [], length, take, drop, Some, None, refl, ap, ◌∙◌, arith}
+use Rattle.std.proofs.Common.{◌≡◌, ℕ, Bool, add-zero, ◌+◌, ◌≤◌, List, length, take, drop, Some, None, refl, arith}
 use Rattle.std.specs.List.{Contains}
 use Rattle.std.proofs.lemmas.List.{length-drop}
 use Rattle.byte_text.specs.Cuts.{IsCutAt}
 use Rattle.mc_text.specs.Request.{Request}
-use Rattle.mc_text.specs.Line.{Header, Line, Storage, Whole, words_of_line, line_of}
+use Rattle.mc_text.specs.Line.{Header, Storage, Whole, words_of_line, line_of}
 use Rattle.mc_text.specs.Reading.{asked_by, line_end, stored, first_command}
 use Rattle.mc_text.proofs.Cuts.{cut_first_is, cut_first_none}
 use Rattle.mc_text.proofs.Blocks.{end_short}

@@ -1,6 +1,6 @@
 -- The whole command that a text begins with: a line, and behind a storage line the block and its line end.
 -- By memcached's protocol.txt and this project's profile.
-use Rattle.std.specs.Prelude.{◌≡◌, ℕ, ◌+◌, ◌≤◌, ◌⊎◌, List, [], ◌∷◌, ◌++◌, length, take, Contains, nat_lt, if◌then◌else◌}
+use Rattle.std.specs.Prelude.{◌≡◌, ℕ, ◌+◌, ◌≤◌, ◌⊎◌, List, [], ◌∷◌, ◌++◌, length, take, nat_lt, if◌then◌else◌}
 use Rattle.byte_text.specs.Cuts.{IsCutAt}
 use Rattle.mc_text.specs.declared.command.LineFault.TheVariants.{Chunk, TooLarge}
 use Rattle.mc_text.specs.Request.{Storing, Request, Store, Bad, WholeCommand}

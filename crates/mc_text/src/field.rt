@@ -4,7 +4,17 @@ ghost use Rattle.std.specs.List.{list_all};
 ghost use Rattle.byte_text.specs.Numerals.{number_below};
 ghost use Rattle.byte_text.specs.Words.{words_left};
 ghost use Rattle.mc_text.specs.Field.{
-    is_key, expiry_in, key_of, keys_of, number32_of, exptime_of, unique_of, delta_of, level_of, quiet_of};
+  is_key,
+  expiry_in,
+  key_of,
+  keys_of,
+  number32_of,
+  exptime_of,
+  unique_of,
+  delta_of,
+  level_of,
+  quiet_of,
+};
 ghost use Rattle.mc_text.specs.Keys.{keys_left};
 ghost use Rattle.mc_text.specs.View.{Answers};
 
@@ -20,7 +30,11 @@ const KEY_LIMIT: usize = 250;
 pub(crate) fn read_key(word: &[u8]) -> Result<&[u8], LineFault>
     ensures { Answers (λ key. key.now) (key_of word.now) result }
 {
-    if is_key(word) { Ok(word) } else { Err(LineFault::Format) }
+    if is_key(word) {
+        Ok(word)
+    } else {
+        Err(LineFault::Format)
+    }
 }
 
 // Whether a word is a key.
@@ -39,7 +53,11 @@ pub(crate) fn read_keys<'a>(words: Words<'a>) -> Result<Keys<'a>, LineFault>
     if more.next().is_none() {
         return Err(LineFault::Unknown);
     }
-    if are_keys(words) { Ok(Keys::new(words)) } else { Err(LineFault::Format) }
+    if are_keys(words) {
+        Ok(Keys::new(words))
+    } else {
+        Err(LineFault::Format)
+    }
 }
 
 // Whether each word is a key.

@@ -47,12 +47,7 @@ fn line_end(tail: &[u8]) -> Option<(bool, usize)>
 }
 
 // What a storage line asks for, by its block and whether `\r\n` follows that.
-fn stored<'a>(
-    header: Header<'a>,
-    block: &'a [u8],
-    ended: bool,
-    spelling: &'a [u8],
-) -> Command<'a>
+fn stored<'a>(header: Header<'a>, block: &'a [u8], ended: bool, spelling: &'a [u8]) -> Command<'a>
     ensures request { request_of result ≡ stored (header_view header.entry) block.now ended }
     ensures spelled { spelling_of result ≡ spelling.now }
 {

@@ -4,8 +4,20 @@ ghost use Rattle.byte_text.specs.Words.{words_left};
 ghost use Rattle.mc_text.specs.declared.command.LineFault.TheVariants.{Unknown};
 ghost use Rattle.mc_text.specs.Request.{request_of, spelling_of};
 ghost use Rattle.mc_text.specs.Line.{
-    header_of, storage_of, cas_of, retrieval_of, delete_of, count_of, touch_of, flush_at, delayed_of, flush_of,
-    verbosity_of, lone_of, said_in};
+  header_of,
+  storage_of,
+  cas_of,
+  retrieval_of,
+  delete_of,
+  count_of,
+  touch_of,
+  flush_at,
+  delayed_of,
+  flush_of,
+  verbosity_of,
+  lone_of,
+  said_in,
+};
 ghost use Rattle.mc_text.specs.View.{Answers, fields_view, header_view, line_view, IsSpelled};
 
 use crate::command::{Command, How, LineFault};
@@ -61,7 +73,12 @@ fn read_storage<'a>(how: How, mut words: Words<'a>) -> Result<Line<'a>, LineFaul
     let exptime = next_word(&mut words)?;
     let bytes = next_word(&mut words)?;
     let quiet = read_quiet(words)?;
-    let fields = Fields { key, flags, exptime, bytes };
+    let fields = Fields {
+        key,
+        flags,
+        exptime,
+        bytes,
+    };
     let header = read_header(how, fields, quiet)?;
     Ok(Line::Storage(header))
 }
@@ -78,7 +95,12 @@ fn read_cas<'a>(mut words: Words<'a>) -> Result<Line<'a>, LineFault>
     let bytes = next_word(&mut words)?;
     let unique = next_word(&mut words)?;
     let quiet = read_quiet(words)?;
-    let fields = Fields { key, flags, exptime, bytes };
+    let fields = Fields {
+        key,
+        flags,
+        exptime,
+        bytes,
+    };
     let header = read_header(How::Cas, fields, quiet)?;
     let unique = read_unique(unique)?;
     Ok(Line::Storage(Header { unique, ..header }))
@@ -140,11 +162,7 @@ fn read_delete<'a>(mut words: Words<'a>, spelling: &'a [u8]) -> Result<Line<'a>,
 
 // key delta [noreply]
 #[tactic(auto, unfolding(crate::specs::Line::count_of))]
-fn read_count<'a>(
-    up: bool,
-    mut words: Words<'a>,
-    spelling: &'a [u8],
-) -> Result<Line<'a>, LineFault>
+fn read_count<'a>(up: bool, mut words: Words<'a>, spelling: &'a [u8]) -> Result<Line<'a>, LineFault>
     ensures said { Answers line_view (count_of up (words_left words.entry)) result }
     ensures spelled { IfOk result (IsSpelled spelling.now) }
 {

@@ -1,6 +1,5 @@
 use Rattle.std.proofs.Common.{subst, inl, inr}
 use Rattle.byte_text.specs.Numerals.{Reads}
-use Rattle.byte_text.specs.declared.numerals.Numeral.TheVariants.{Number, TooLarge}
 use Rattle.mc_text.proofs.Numbers.{level_is, level_none}
 use Rattle.mc_text.proofs.field.read_level.Goals as goal
 

@@ -1,5 +1,5 @@
 use Rattle.std.proofs.Common.{◌≡◌, ◌+◌, ◌∙◌, Some, None, length, take, drop, sym, ap, arith}
-use Rattle.mc_text.specs.Request.{request_of, spelling_of}
+use Rattle.mc_text.specs.Request.{spelling_of}
 use Rattle.mc_text.specs.View.{header_view}
 use Rattle.mc_text.specs.Reading.{line_end, stored}
 use Rattle.mc_text.proofs.Steps.{no_end, with_block}
