@@ -5,7 +5,7 @@ ghost use Rattle.kv_history.specs.Answer.{replies_of};
 ghost use Rattle.kv_history.specs.Log.{commands, replies};
 
 use crate::{Journal, Store};
-use edge_io::OutOfMemory;
+use out_of_memory::OutOfMemory;
 use mc_text::Commands;
 use std::alloc::Global;
 use std::test::Fail;

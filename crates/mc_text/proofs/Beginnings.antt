@@ -6,9 +6,9 @@ use Rattle.mc_text.specs.Request.{Request, WholeCommand}
 use Rattle.mc_text.specs.Line.{Header, Line, Storage, Whole, words_of_line, line_of}
 use Rattle.mc_text.specs.Begins.{Asks, Begins, EndsAtOnce, EndsLater}
 use Rattle.mc_text.specs.Section.{NoCommand}
-use Rattle.mc_text.specs.Reading.{cut_first, line_end, stored, asked_by, first_command}
+use Rattle.mc_text.specs.Reading.{at_line_end, line_end, stored, asked_by, first_command}
 use Rattle.mc_text.proofs.Pairs.{some_pair}
-use Rattle.mc_text.proofs.Cuts.{cut_first_cuts}
+use Rattle.mc_text.proofs.Cuts.{cut_is}
 use Rattle.mc_text.proofs.Blocks.{IsEnd, end_at_once, end_differs, end_is}
 use Rattle.mc_text.proofs.Steps.{something_asked}
 
@@ -175,21 +175,21 @@ read_asked text content behind command (Some asked) cut asked_is is =
     )
 
 -- from the whole text
-read_cut : (text : List ℕ) (command : WholeCommand) (cut : Option (List ℕ × List ℕ)) → cut_first 10 text ≡ cut
+read_cut : (text : List ℕ) (command : WholeCommand) (cut : Option (List ℕ × List ℕ)) → at_line_end text ≡ cut
     → option_and_then (λ (p : List ℕ × List ℕ). option_map {U = WholeCommand}
     (λ (a : Request × ℕ). record { request = a.0; spelling = take (length p.0 + 1 + a.1) text })
     (asked_by (line_of (words_of_line p.0)) p.1)) cut ≡ Some command → (count : ℕ) × Begins text command count
 read_cut text command None cut is = cc
 read_cut text command (Some parts) cut is =
     read_asked text parts.0 parts.1 command (asked_by (line_of (words_of_line parts.0)) parts.1)
-    (cut_first_cuts 10 text parts.0 parts.1 cut) refl is
+    (cut_is 10 text parts.0 parts.1 cut) refl is
 
 -- the command that is read begins the text
 pub first_begins : (text : List ℕ) (command : WholeCommand) → first_command text ≡ Some command
     → Begins text command (length command.spelling)
 unfolding first_command
 first_begins text command is =
-    let read = read_cut text command (cut_first 10 text) refl is in
+    let read = read_cut text command (at_line_end text) refl is in
     subst (λ n. Begins text command n) (sym (begins_count text command read.0 read.1)) read.1
 
 -- where nothing is read, no whole command begins the text

@@ -5,9 +5,10 @@ use Rattle.std.proofs.lemmas.Bool.{le-ltb, lt-ltb, ltb-false, false≢true, fals
 use Rattle.std.proofs.lemmas.Bool.Decides.{Decides-eqb}
 use Rattle.std.proofs.lemmas.Slice.Eq.{starts_is}
 use Rattle.byte_text.specs.Cuts.{IsCutAt}
-use Rattle.mc_text.specs.Reading.{cut_first, line_end}
+use Rattle.mc_text.specs.Reading.{at_line_end, line_end}
 use Rattle.mc_text.proofs.Pairs.{some_pair}
-use Rattle.mc_text.proofs.Cuts.{cut_first_is, cut_first_none, cut_first_cuts}
+use Rattle.byte_text.proofs.CutLaws.{cut-from_IsCutAt, cut-from_lacks}
+use Rattle.mc_text.proofs.Cuts.{cut_is}
 
 -- a text whose first bytes aren't `\r\n`, and the test for that
 starts_not : (tail : List ℕ) → ¬ (take 2 tail ≡ 13 ∷ 10 ∷ []) → starts_with nat_eq tail (13 ∷ 10 ∷ []) ≡ false
@@ -31,13 +32,13 @@ end_at_once after =
 pub end_none : (tail : List ℕ) → 2 ≤ length tail → starts_with nat_eq tail (13 ∷ 10 ∷ []) ≡ false → ¬ (Contains tail 10)
     → line_end tail ≡ None
 unfolding line_end
-end_none tail long starts lacks = rw (le-ltb (length tail) 2 long, starts, cut_first_none 10 tail lacks) refl
+end_none tail long starts lacks = rw (le-ltb (length tail) 2 long, starts, cut-from_lacks 10 tail lacks) refl
 
 -- other bytes through a `\n`
 pub end_later : (tail other after : List ℕ) → 2 ≤ length tail → starts_with nat_eq tail (13 ∷ 10 ∷ []) ≡ false → IsCutAt 10 tail other after
     → line_end tail ≡ Some (false, length other + 1)
 unfolding line_end
-end_later tail other after long starts cut = rw (le-ltb (length tail) 2 long, starts, cut_first_is 10 tail other after cut) refl
+end_later tail other after long starts cut = rw (le-ltb (length tail) 2 long, starts, cut-from_IsCutAt 10 tail other after cut) refl
 
 pub ruleset ends = (end_short, end_at_once, end_none, end_later)
 
@@ -62,7 +63,7 @@ IsEnd tail false more = IsLater tail more
 
 -- by the tests on what stands there
 end_found : (tail : List ℕ) (short starts : Bool) (cut : Option (List ℕ × List ℕ)) (ended : Bool) (more : ℕ)
-    → nat_lt (length tail) 2 ≡ short → starts_with nat_eq tail (13 ∷ 10 ∷ []) ≡ starts → cut_first 10 tail ≡ cut
+    → nat_lt (length tail) 2 ≡ short → starts_with nat_eq tail (13 ∷ 10 ∷ []) ≡ starts → at_line_end tail ≡ cut
     → line_end tail ≡ Some (ended, more) → IsEnd tail ended more
 unfolding line_end
 end_found tail true starts cut ended more short_is starts_with_is cut_is is = let none = rw short_is at is in cc
@@ -83,7 +84,7 @@ end_found tail false false (Some parts) ended more short_is starts_with_is cut_i
       after = parts.1;
       two = ltb-false (length tail) 2 short_is;
       differs = other;
-      cut = cut_first_cuts 10 tail parts.0 parts.1 cut_is;
+      cut = cut_is 10 tail parts.0 parts.1 cut_is;
       more_is = sym same.1;
     })
   where
@@ -93,4 +94,4 @@ end_found tail false false (Some parts) ended more short_is starts_with_is cut_i
 -- what the reading finds
 pub end_is : (tail : List ℕ) (ended : Bool) (more : ℕ) → line_end tail ≡ Some (ended, more) → IsEnd tail ended more
 end_is tail ended more is =
-    end_found tail (nat_lt (length tail) 2) (starts_with nat_eq tail (13 ∷ 10 ∷ [])) (cut_first 10 tail) ended more refl refl refl is
+    end_found tail (nat_lt (length tail) 2) (starts_with nat_eq tail (13 ∷ 10 ∷ [])) (at_line_end tail) ended more refl refl refl is

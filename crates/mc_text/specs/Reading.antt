@@ -26,23 +26,22 @@ use Rattle.std.specs.Prelude.{
 }
 use Rattle.std.specs.List.{starts_with}
 use Rattle.std.specs.Option.{option_map_or}
+use Rattle.byte_text.specs.Cuts.{cut}
 use Rattle.mc_text.specs.declared.command.LineFault.TheVariants.{Chunk}
 use Rattle.mc_text.specs.Request.{Request, Store, Bad, WholeCommand, is_quit}
 use Rattle.mc_text.specs.Line.{words_of_line, line_of, Header, Line, Storage, Whole}
 use Rattle.mc_text.specs.Begins.{limited, storing}
 
--- what stands before the first such byte, and what stands behind it
-unfoldable pub cut_first : ℕ → List ℕ → Option (List ℕ × List ℕ)
-cut_first byte [] = None
-cut_first byte (first ∷ more) =
-    if first == byte then Some ([], more) else option_map (λ parts. (first ∷ parts.0, parts.1)) (cut_first byte more)
+-- what stands before the first `\n`, and what stands behind it
+abbrev pub at_line_end : List ℕ → Option (List ℕ × List ℕ)
+at_line_end text = cut (λ byte. byte == 10) text
 
 -- how many bytes behind a block through the next `\n`, and whether they are `\r\n`; none where less than two bytes or no `\n` stand there
 unfoldable pub line_end : List ℕ → Option (Bool × ℕ)
 line_end tail =
     if nat_lt (length tail) 2 then None
     else if starts_with nat_eq tail (codes "\r\n") then Some (true, 2)
-    else option_map (λ parts. (false, length parts.0 + 1)) (cut_first 10 tail)
+    else option_map (λ parts. (false, length parts.0 + 1)) (at_line_end tail)
 
 -- what a storage line asks for, by its block and whether `\r\n` follows that
 abbrev pub stored : Header → List ℕ → Bool → Request
@@ -57,9 +56,9 @@ asked_by (Storage header) behind =
 -- the whole command at the front of a text
 unfoldable pub first_command : List ℕ → Option WholeCommand
 first_command text =
-    option_and_then (λ cut. option_map
-    (λ asked. record { request = asked.0; spelling = take (length cut.0 + 1 + asked.1) text })
-    (asked_by (line_of (words_of_line cut.0)) cut.1)) (cut_first 10 text)
+    option_and_then (λ line. option_map
+    (λ asked. record { request = asked.0; spelling = take (length line.0 + 1 + asked.1) text })
+    (asked_by (line_of (words_of_line line.0)) line.1)) (at_line_end text)
 
 -- a command in front of what is read behind it; behind `quit` nothing is
 abbrev pub in_front : WholeCommand → List ℕ → List WholeCommand × List ℕ → List WholeCommand × List ℕ

@@ -20,7 +20,7 @@ ghost use Rattle.mc_text.specs.View.{Answers};
 
 use crate::command::LineFault;
 use crate::keys::Keys;
-use byte_text::{Numeral, Words, read_numeral};
+use byte_text::{Numeral, Words, number_up_to, read_numeral};
 
 // The greatest number of bytes of a key.
 const KEY_LIMIT: usize = 250;
@@ -72,23 +72,12 @@ fn are_keys(mut words: Words<'_>) -> bool
     true
 }
 
-// The number that a word writes, where it is at most `greatest`.
-fn read_number(greatest: u64, word: &[u8]) -> Option<u64>
-    ensures value { result ≡ number_below (greatest + 1) word.now }
-    ensures bound { IfSome result (λ number. number ≤ greatest) }
-{
-    match read_numeral(10, word, greatest) {
-        Numeral::Number(number) => Some(number),
-        Numeral::TooLarge | Numeral::NotNumeral => None,
-    }
-}
-
 /// The number of at most 32 bits that a word writes.
 #[tactic(auto, unfolding(crate::specs::Field::number32_of))]
 pub(crate) fn read_number32(word: &[u8]) -> Result<u32, LineFault>
     ensures { Answers (λ number. number) (number32_of word.now) result }
 {
-    match read_number(4_294_967_295, word) {
+    match number_up_to(4_294_967_295, word) {
         Some(number) => Ok(number as u32),
         None => Err(LineFault::Format),
     }
@@ -99,7 +88,7 @@ pub(crate) fn read_number32(word: &[u8]) -> Result<u32, LineFault>
 pub(crate) fn read_unique(word: &[u8]) -> Result<u64, LineFault>
     ensures { Answers (λ number. number) (unique_of word.now) result }
 {
-    read_number(u64::MAX, word).ok_or(LineFault::Format)
+    number_up_to(u64::MAX, word).ok_or(LineFault::Format)
 }
 
 /// The delta that a word writes.
@@ -107,7 +96,7 @@ pub(crate) fn read_unique(word: &[u8]) -> Result<u64, LineFault>
 pub(crate) fn read_delta(word: &[u8]) -> Result<u64, LineFault>
     ensures { Answers (λ number. number) (delta_of word.now) result }
 {
-    read_number(u64::MAX, word).ok_or(LineFault::Delta)
+    number_up_to(u64::MAX, word).ok_or(LineFault::Delta)
 }
 
 /// The expiry time that a word writes.
@@ -124,10 +113,10 @@ fn read_expiry(word: &[u8]) -> Option<i32>
 {
     let (first, digits) = word.split_first()?;
     if *first == b'-' {
-        let number = read_number(2_147_483_648, digits)?;
+        let number = number_up_to(2_147_483_648, digits)?;
         Some((0 - number as i64) as i32)
     } else {
-        let number = read_number(2_147_483_647, word)?;
+        let number = number_up_to(2_147_483_647, word)?;
         Some(number as i32)
     }
 }

@@ -4,7 +4,7 @@ ghost use Rattle.placed_runner.specs.Text.{turn_line, shown_entry, entries_text}
 
 use crate::Section;
 use crate::lines::{TurnLine, push_caller, push_turn};
-use edge_io::OutOfMemory;
+use out_of_memory::OutOfMemory;
 use kv_history::Journal;
 use mc_text::{count, rest_of};
 use std::alloc::Global;
