@@ -66,16 +66,16 @@ end_found : (tail : List ℕ) (short starts : Bool) (cut : Option (List ℕ × L
     → nat_lt (length tail) 2 ≡ short → starts_with nat_eq tail (13 ∷ 10 ∷ []) ≡ starts → at_line_end tail ≡ cut
     → line_end tail ≡ Some (ended, more) → IsEnd tail ended more
 unfolding line_end
-end_found tail true starts cut ended more short_is starts_with_is cut_is is = let none = rw short_is at is in cc
-end_found tail false true cut ended more short_is starts_with_is cut_is is =
+end_found tail true starts cut ended more short_is starts_with_is parts_are is = let none = rw short_is at is in cc
+end_found tail false true cut ended more short_is starts_with_is parts_are is =
     let found = rw (short_is, starts_with_is) at is in
     let same = some_pair true ended 2 more found in
     let text = (starts_is Decides-eqb tail (13 ∷ 10 ∷ []) true (sym starts_with_is)).0 refl in
     subst (λ b. IsEnd tail b more) same.0 (text, sym same.1)
-end_found tail false false None ended more short_is starts_with_is cut_is is =
-    let none = rw (short_is, starts_with_is, cut_is) at is in cc
-end_found tail false false (Some parts) ended more short_is starts_with_is cut_is is =
-    let found = rw (short_is, starts_with_is, cut_is) at is in
+end_found tail false false None ended more short_is starts_with_is parts_are is =
+    let none = rw (short_is, starts_with_is, parts_are) at is in cc
+end_found tail false false (Some parts) ended more short_is starts_with_is parts_are is =
+    let found = rw (short_is, starts_with_is, parts_are) at is in
     let same = some_pair false ended (length parts.0 + 1) more found in
     let other : ¬ (take 2 tail ≡ 13 ∷ 10 ∷ []) = λ begins. false≢true (sym starts_with_is ∙ begins_is tail begins) in
     subst (λ b. IsEnd tail b more) same.0
@@ -84,7 +84,7 @@ end_found tail false false (Some parts) ended more short_is starts_with_is cut_i
       after = parts.1;
       two = ltb-false (length tail) 2 short_is;
       differs = other;
-      cut = cut_is 10 tail parts.0 parts.1 cut_is;
+      cut = cut_is 10 tail parts.0 parts.1 parts_are;
       more_is = sym same.1;
     })
   where
