@@ -1,7 +1,6 @@
 -- The input of a run. The form is this project's own.
 use Rattle.std.specs.Prelude.{◌≡◌, ◌≤◌, ◌<◌, ℕ, List, [], ◌∷◌, ◌++◌, length, codes, Contains}
 use Rattle.std.specs.Str.Parse.{IsNumeral, digits_value}
-use Rattle.mc_text.specs.Section.{IsUnbuilt}
 
 -- the digits of a length: one to ten of them, leading zeros allowed
 pub record IsLength (digits : List ℕ) (number : ℕ) : Type 0 where
@@ -35,8 +34,3 @@ IsLoneHead head number = IsHead head (codes "*") number
 -- the input is one section with the place `*`, and nothing stands behind it
 abbrev pub IsLoneSection : List ℕ → List ℕ → Type 0
 IsLoneSection input bytes = BeginsWithSection input (codes "*") bytes []
-
--- the input is one section with the place `*`, and all that its commands ask for is built
-pub record IsServed (input bytes : List ℕ) : Type 0 where
-  pub lone : IsLoneSection input bytes
-  pub built : IsUnbuilt bytes → ⊥

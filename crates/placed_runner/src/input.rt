@@ -1,11 +1,10 @@
 // The input of a run: a head line `worker <place> <length>`, then that many bytes, then a line end.
 ghost use Rattle.std.specs.Prelude.{◌≡◌, ◌++◌, ◌↔◌, [], List, ℕ, MatchOption, IfOk, IfErr, IfSome};
 ghost use Rattle.placed_runner.specs.declared.fault.SectionFault.TheVariants.{NotYet};
-ghost use Rattle.placed_runner.specs.Input.{IsLoneSection, IsLoneHead, IsServed};
+ghost use Rattle.placed_runner.specs.Input.{IsLoneSection, IsLoneHead};
 
 use crate::SectionFault;
 use byte_text::{Numeral, cut_at, read_numeral};
-use mc_text::unbuilt;
 
 /// A section of the input.
 #[derive(Clone, Copy, Debug)]
@@ -16,14 +15,14 @@ pub struct Section<'a> {
     pub bytes: &'a [u8],
 }
 
-/// Reads an input that is one section with the place `*`, whose commands are built; `None` for the empty input.
+/// Reads an input that is one section with the place `*`; `None` for the empty input.
 /// `NotYet` for every other input.
 pub fn read_first(input: &[u8]) -> Result<Option<Section<'_>>, SectionFault>
     ensures none { (result ≡ Ok None) ↔ (input.now ≡ []) }
-    ensures some { IfOk result (λ found. IfSome found (λ section. IsServed input.now section.bytes.now)) }
+    ensures some { IfOk result (λ found. IfSome found (λ section. IsLoneSection input.now section.bytes.now)) }
     ensures pu { IfOk result (λ found. IfSome found (λ section. section.pu ≡ 0)) }
     ensures not_yet { IfErr result (λ fault. fault ≡ NotYet) }
-    ensures refused { IfErr result (λ _. (bytes : List ℕ) → IsServed input.now bytes → ⊥) }
+    ensures refused { IfErr result (λ _. (bytes : List ℕ) → IsLoneSection input.now bytes → ⊥) }
 {
     if input.is_empty() {
         return Ok(None);
@@ -31,9 +30,6 @@ pub fn read_first(input: &[u8]) -> Result<Option<Section<'_>>, SectionFault>
     let Some(bytes) = lone_section(input) else {
         return Err(SectionFault::NotYet);
     };
-    if unbuilt(bytes) {
-        return Err(SectionFault::NotYet);
-    }
     Ok(Some(Section { pu: 0, bytes }))
 }
 
