@@ -1,6 +1,6 @@
 -- What `run` prints.
 use Rattle.std.specs.Prelude.{◌≡◌, ◌≢◌, ℕ, List, [], ◌⊎◌}
-use Rattle.placed_runner.specs.Input.{IsServed}
+use Rattle.placed_runner.specs.Input.{IsLoneSection}
 use Rattle.mc_text.specs.Request.{WholeCommand}
 use Rattle.mc_text.specs.Section.{Spelled}
 use Rattle.placed_runner.specs.Text.{section_text}
@@ -15,7 +15,7 @@ pub record IsTextOfSection (input text : List ℕ) : Type 0 where
   pub bytes : List ℕ
   pub commands : List WholeCommand
   pub rest : List ℕ
-  pub served : IsServed input bytes
+  pub served : IsLoneSection input bytes
   pub spelled : Spelled bytes commands rest
   pub printed : text ≡ section_text 0 commands rest
 
@@ -26,4 +26,4 @@ Prints input text = ((input ≡ []) × (text ≡ [])) ⊎ IsTextOfSection input 
 -- an input that isn't empty and isn't one section that can be served
 pub record IsNotYet (input : List ℕ) : Type 0 where
   pub some : input ≢ []
-  pub none_served : (bytes : List ℕ) → IsServed input bytes → ⊥
+  pub none_served : (bytes : List ℕ) → IsLoneSection input bytes → ⊥

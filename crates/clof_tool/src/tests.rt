@@ -113,49 +113,19 @@ fn refuses_inputs_that_are_not_one_section(rt: HostRuntime) -> Result<(), Fail> 
     Ok(())
 }
 
-// Pairs of sections that differ in what is refused alone, the first of them served; each has the head of its length.
 #[test]
-fn refuses_commands_that_are_not_built(rt: HostRuntime) -> Result<(), Fail> {
-    let cases: [(&[u8], &[u8]); 10] = [
-        (b"get a\r\n", b"gets a\r\n"),
-        (b"get a\r\n", b"delete a\r\n"),
-        (b"get ab\n", b"get a\tb\n"),
-        (b"set ab 0 0 1\r\nx\r\n", b"set a\tb 0 0 1\r\nx\r\n"),
-        (b"set a 0 0 2\r\nxy\r\n", b"set a 0 0 1\r\nxy\r\n"),
-        (
-            b"set a 0 2147483647 1\r\nx\r\n",
-            b"set a 0 2147483648 1\r\nx\r\n",
-        ),
-        (
-            b"set a 0 -2147483648 1\r\nx\r\n",
-            b"set a 0 -2147483649 1\r\nx\r\n",
-        ),
-        (
-            b"set a 4294967295 0 1\r\nx\r\n",
-            b"set a 4294967296 0 1\r\nx\r\n",
-        ),
-        (
-            b"set a 0 0 4294967295\r\nx\r\n",
-            b"set a 0 0 4294967296\r\nx\r\n",
-        ),
-        (b"set a 0 0 1 noreply\r\nx\r\n", b"set a 0 0 1 no\r\nx\r\n"),
-    ];
-    for (served, refused) in cases {
-        let mut input = Vec::new(rt.alloc());
-        push_input(&mut input, served)?;
-        assert_eq!(rt; call(&rt, rt.alloc(), &["run"], input)?.status, Status::Ok);
-        let mut input = Vec::new(rt.alloc());
-        push_input(&mut input, refused)?;
-        ends(
-            &rt,
-            rt.alloc(),
-            &input,
-            NOT_YET,
-            b"",
-            b"clof: section NotYet\n",
-        )?;
-    }
-    Ok(())
+fn serves_each_kind_of_answer(rt: HostRuntime) -> Result<(), Fail> {
+    let input = b"worker * 124\nset n 0 0 20\r\n18446744073709551615\r\nincr n 1\r\ndecr n 5\r\n\
+                  cas n 0 0 1 1\r\n7\r\ncas n 0 0 1 3\r\n7\r\ngets n\r\nset n 0 0 1 noreply\r\n8\r\n\n";
+    let text = b"turn 0 caller 0 pu 0 climb 0 tests 0 left 0 \"set n 0 0 20\\r\\n18446744073709551615\\r\\n\" \"STORED\\r\\n\"\n\
+          turn 1 caller 0 pu 0 climb 0 tests 0 left 0 \"incr n 1\\r\\n\" \"0\\r\\n\"\n\
+          turn 2 caller 0 pu 0 climb 0 tests 0 left 0 \"decr n 5\\r\\n\" \"0\\r\\n\"\n\
+          turn 3 caller 0 pu 0 climb 0 tests 0 left 0 \"cas n 0 0 1 1\\r\\n7\\r\\n\" \"EXISTS\\r\\n\"\n\
+          turn 4 caller 0 pu 0 climb 0 tests 0 left 0 \"cas n 0 0 1 3\\r\\n7\\r\\n\" \"STORED\\r\\n\"\n\
+          turn 5 caller 0 pu 0 climb 0 tests 0 left 0 \"gets n\\r\\n\" \"VALUE n 0 1 4\\r\\n7\\r\\nEND\\r\\n\"\n\
+          turn 6 caller 0 pu 0 climb 0 tests 0 left 0 \"set n 0 0 1 noreply\\r\\n8\\r\\n\" \"\"\n\
+          caller 0 pu 0 commands 7 rest 0\n";
+    ends(&rt, rt.alloc(), input, Status::Ok, text, b"")
 }
 
 #[test]

@@ -2,14 +2,14 @@ use Rattle.std.proofs.Common.{◌≡◌, ℕ, inr, ap, ◌∙◌}
 use Rattle.std.proofs.lemmas.Result.{IfOk-weaker}
 use Rattle.mc_text.specs.Reading.{commands_of, rest_of}
 use Rattle.mc_text.proofs.Sections.{section_spelled}
-use Rattle.placed_runner.specs.Input.{IsServed}
+use Rattle.placed_runner.specs.Input.{IsLoneSection}
 use Rattle.placed_runner.specs.Text.{section_text}
 use Rattle.clof_tool.proofs.running.run_text.Goals as goal
 
 pub returns-in-Ok-Some-clause-ok : goal.returns-in-Ok-Some-clause-ok
 returns-in-Ok-Some-clause-ok c =
     let bytes = c.in-Ok-Some.section.bytes.now in
-    let served : IsServed c.args.input.now bytes = rw c.in-Ok-Some.field-0-is at c.in-Ok-Some.ensures.some in
+    let served : IsLoneSection c.args.input.now bytes = rw c.in-Ok-Some.field-0-is at c.in-Ok-Some.ensures.some in
     let pu : c.in-Ok-Some.section.pu ≡ 0 = rw c.in-Ok-Some.field-0-is at c.in-Ok-Some.ensures.pu in
     IfOk-weaker c.section_text.result _ _
     (λ text printed. inr (record {
