@@ -1,6 +1,6 @@
 -- The printed text of a run: a line for each turn and then one for each caller. The form is this project's own.
 use Rattle.std.specs.Prelude.{ℕ, ◌+◌, ◌/◌, ◌%◌, ◌==◌, ◌&&◌, nat_lt, if◌then◌else◌, List, [], ◌∷◌, ◌++◌, length, map, codes, decimal}
-use Rattle.std.specs.Prelude.{Option, Some, None, option_map, option_and_then, slice_get}
+use Rattle.std.specs.Prelude.{Option, Some, None, option_map, option_and_then, slice_get, replicate}
 use Rattle.std.specs.List.{flat_map, enumerate_from, count_by}
 use Rattle.std.specs.Option.{option_map_or}
 use Rattle.byte_text.specs.Numerals.{lower_hex_digit}
@@ -30,9 +30,9 @@ escaped text = flat_map escaped_byte text
 abbrev pub labelled : List (List ℕ × ℕ) → List ℕ
 labelled parts = flat_map (λ part. part.0 ++ decimal part.1) parts
 
--- the end of a line: a command and a reply between quotes
-unfoldable pub quoted : List ℕ → List ℕ → List ℕ
-quoted command reply = codes " \"" ++ (escaped command ++ (codes "\" \"" ++ (escaped reply ++ codes "\"\n")))
+-- a text between quotes, behind a space
+unfoldable pub quoted : List ℕ → List ℕ
+quoted text = codes " \"" ++ (escaped text ++ codes "\"")
 
 -- a turn, with its command and its reply
 pub record Told : Type 0 where
@@ -53,7 +53,8 @@ turn_numbers sections number turn =
 
 -- the line of a turn
 unfoldable pub turn_line : List Placed → ℕ → Told → List ℕ
-turn_line sections number told = labelled (turn_numbers sections number told.turn) ++ quoted told.command told.reply
+turn_line sections number told =
+    labelled (turn_numbers sections number told.turn) ++ (quoted told.command ++ (quoted told.reply ++ codes "\n"))
 
 -- the numbers of a caller's line: its own, where it stands, how many commands it gave, and how many bytes stand behind them
 abbrev pub caller_numbers : ℕ → Placed → List (List ℕ × ℕ)
@@ -115,3 +116,11 @@ text_of sections turns (Some commands) = turn_lines sections (told turns command
 unfoldable pub run_text : List Placed → Shape → List Hold → List ℕ
 run_text sections shape holds =
     text_of sections (turns_behind shape [] holds) (commands_behind sections [] (map (λ hold. hold.caller) holds))
+
+-- callers under one lock, without levels below it
+abbrev pub one_lock : ℕ → Shape
+one_lock callers = record { paths = replicate callers (0 ∷ []); keeps = [] }
+
+-- the holds of entries that no level below the lock asked about
+abbrev pub holds_of : List ℕ → List Hold
+holds_of callers = map (λ caller. record { caller = caller; tests = 0 }) callers

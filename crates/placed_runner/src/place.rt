@@ -55,7 +55,7 @@ pub(crate) fn read_place(
 // The PU of a location that is just one.
 fn located_pu(topology: &Topology, location: Location) -> Option<u32>
     requires { HasLayers topology.now location }
-    ensures { result ≡ lone_pu topology.now (selected topology.now numberings.Logical (record { op = ops.Join; location = location.entry } ∷ [])) }
+    ensures { result ≡ lone_pu topology.now (selected topology.now numberings.Logical (record { op = ops.Join; location = location } ∷ [])) }
 {
     let terms = [Term {
         op: Op::Join,
@@ -84,7 +84,8 @@ pub(crate) fn masks(
 ) -> Result<Vec<CpuSet>, OutOfMemory>
     requires some { 0 < callers }
     requires few { callers ≤ 4096 }
-    ensures { IfOk result (λ masks. masks.items ≡ masks_of topology.now callers) }
+    ensures masks { IfOk result (λ masks. masks.items ≡ masks_of topology.now callers) }
+    ensures count { IfOk result (λ masks. length masks.items ≡ callers) }
 {
     let pus = topology.depths() - 1;
     distrib(alloc, topology, callers, 0, pus, false).map_err(|_| OutOfMemory)

@@ -49,7 +49,10 @@ pub fn read_sections<'a>(
     ensures small { IfOk result (λ sections. sum_by (λ section. length section.bytes.now) sections.items ≤ length input.now) }
 {
     let written = read_written(alloc, topology, input)?;
-    place_all(alloc, topology, &written).map_err(|_| SectionFault::OutOfMemory)
+    match place_all(alloc, topology, &written) {
+        Ok(sections) => Ok(sections),
+        Err(OutOfMemory) => Err(SectionFault::OutOfMemory),
+    }
 }
 
 // The sections of an input as they are written.
@@ -92,7 +95,10 @@ fn read_front<'a>(
     let Some(head) = read_head(line) else {
         return Err(SectionFault::BadHead { at });
     };
-    let place = read_place(alloc, topology, head.place, at)?;
+    let place = match read_place(alloc, topology, head.place, at) {
+        Ok(place) => place,
+        Err(fault) => return Err(fault),
+    };
     let Some((bytes, behind)) = split_bytes(behind, head.size) else {
         return Err(SectionFault::Short { at });
     };

@@ -1,0 +1,6 @@
+pub mod Cuts
+pub mod Escapes
+pub mod Numbered
+pub mod Runs
+pub mod Texts
+pub mod Walks
