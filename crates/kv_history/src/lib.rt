@@ -13,3 +13,6 @@ mod storing;
 
 pub use journal::{Entry, Journal, Receipt};
 pub use store::Store;
+
+#[cfg(test)]
+mod tests;
