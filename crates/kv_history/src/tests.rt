@@ -9,6 +9,7 @@ use mc_text::Commands;
 use out_of_memory::OutOfMemory;
 use std::alloc::Global;
 use std::test::Fail;
+use std::thread::join;
 
 // A journal of one caller that has applied all commands of its section.
 fn applied<'a>(alloc: Global, section: &'a [u8]) -> Result<Journal<'a>, OutOfMemory>
@@ -253,6 +254,27 @@ fn keeps_the_limit_of_a_value(rt: HostRuntime) -> Result<(), Fail> {
         assert!(rt; journal.replies().starts_with(front));
         assert!(rt; journal.replies().ends_with(back));
     }
+    Ok(())
+}
+
+#[test]
+fn keeps_an_item_whose_new_value_is_too_large(rt: HostRuntime) -> Result<(), Fail> {
+    let alloc = rt.alloc();
+    let mut section = Vec::from_slice(alloc, b"set k 1 0 1\r\na\r\nset k 2 0 1048577\r\n")?;
+    section.extend_from_slice(&vec![in alloc; b'x'; 1_048_577]?)?;
+    section.extend_from_slice(b"\r\ngets k\r\n")?;
+    let wanted =
+        b"STORED\r\nSERVER_ERROR object too large for cache\r\nVALUE k 1 1 1\r\na\r\nEND\r\n";
+    let answered = is_answered(alloc, &section, wanted)?;
+    assert!(rt; answered);
+    Ok(())
+}
+
+#[test]
+fn goes_to_a_thread_and_back(rt: HostRuntime) -> Result<(), Fail> {
+    let journal = applied(rt.alloc(), b"set k 0 0 1\r\na\r\n")?;
+    let (journal, ()) = join(&rt, move || journal, || ());
+    assert!(rt; journal.store().block(b"k") == Some(b"a".as_slice()));
     Ok(())
 }
 
