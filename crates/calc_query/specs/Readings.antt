@@ -10,7 +10,7 @@ use Rattle.cpu_set.specs.declared.fault.SetFault.{SetFault}
 use Rattle.cpu_set.specs.Sets.{numbers_where}
 use Rattle.cpu_set.specs.Readings.{hex_fault, is_in_hex}
 use Rattle.synth_text.specs.declared.description.Description.{Description}
-use Rattle.synth_text.specs.Cuts.{cut, first_piece}
+use Rattle.byte_text.specs.Cuts.{cut, first_piece}
 use Rattle.synth_text.specs.Flaws.{◌>>=◌}
 use Rattle.topo_tree.specs.declared.layer.Layer.{Layer}
 use Rattle.topo_tree.specs.Naming.{layer_named}

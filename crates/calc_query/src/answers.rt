@@ -7,7 +7,7 @@ ghost use Rattle.calc_query.specs.Answers.{intersecting, end_of, with_step, exte
 use crate::candidates::inside;
 use crate::query::{Path, Step2};
 use cpu_set::CpuSet;
-use edge_io::OutOfMemory;
+use out_of_memory::OutOfMemory;
 use std::alloc::{AllocError, Global};
 use synth_text::Sequence;
 use topo_tree::{Layer, Object, Topology};

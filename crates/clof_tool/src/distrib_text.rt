@@ -14,7 +14,7 @@ use crate::topology::topology;
 use crate::{Fault, OptionName, Status};
 use cpu_set::CpuSet;
 use distrib_rules::{DistribFault, distrib};
-use edge_io::OutOfMemory;
+use out_of_memory::OutOfMemory;
 use std::alloc::{AllocError, Global};
 use topo_tree::Topology;
 

@@ -19,7 +19,7 @@ use Rattle.cpu_set.specs.Bits.{word_of}
 use Rattle.cpu_set.specs.WordLaws.{word_of-below, is_bit-word_of}
 use Rattle.cpu_set.specs.Texts.{hex_digits, hex_text, word_text, places_down, highest}
 use Rattle.byte_text.specs.Numerals.{is_numeral}
-use Rattle.byte_text.specs.NumeralLaws.{Decides-is_numeral}
+use Rattle.byte_text.proofs.NumeralLaws.{Decides-is_numeral}
 use Rattle.cpu_set.specs.Readings.{parts_of, leftmost, word_value, is_word, is_gap, hex_rule, hex_fault, word_at, is_in_hex, ReadsHex}
 use Rattle.cpu_set.proofs.Ends.{highest-among, highest-above}
 use Rattle.cpu_set.proofs.HexSteps.{word_at-past}

@@ -11,7 +11,7 @@ use Rattle.std.proofs.lemmas.Nat.Bits.{bit_at-zero}
 use Rattle.byte_text.specs.declared.numerals.Numeral.{Numeral}
 use Rattle.byte_text.specs.declared.numerals.Numeral.TheVariants.{Number, TooLarge, NotNumeral}
 use Rattle.byte_text.specs.Numerals.{Reads, is_numeral}
-use Rattle.byte_text.specs.NumeralLaws.{Decides-is_numeral}
+use Rattle.byte_text.proofs.NumeralLaws.{Decides-is_numeral}
 use Rattle.cpu_set.specs.Sets.{has, numbers_where, IsSet}
 use Rattle.cpu_set.specs.SetLaws.{has-numbers_below, numbers_below-same, IsSet-numbers_where, numbers_where-has}
 use Rattle.cpu_set.specs.Readings.{parts_of, leftmost, without_prefix, word_value, is_word, hex_rule, word_at, is_in_hex}

@@ -12,7 +12,7 @@ use Rattle.byte_text.specs.Cuts.{IsCutAt}
 use Rattle.byte_text.specs.declared.numerals.Numeral.{Numeral}
 use Rattle.byte_text.specs.declared.numerals.Numeral.TheVariants.{Number, TooLarge as Over}
 use Rattle.byte_text.specs.Numerals.{Reads, is_numeral}
-use Rattle.byte_text.specs.NumeralLaws.{Decides-is_numeral}
+use Rattle.byte_text.proofs.NumeralLaws.{Decides-is_numeral}
 use Rattle.cpu_set.specs.declared.fault.SetFault.{SetFault}
 use Rattle.cpu_set.specs.declared.fault.SetFault.TheVariants.{Form, TooLarge, Infinite}
 use Rattle.cpu_set.specs.Readings.{is_range, range_fault, has_dash, low_end, high_end, low_value, high_value, is_open, list_rule, parts_of, items_of, leftmost, list_fault, covers, is_in_list, ReadsList}

@@ -2,17 +2,17 @@
 use Rattle.std.proofs.Common.{◌≡◌, ℕ, List, Option, Some, None, Result, Ok, refl, sym, ◌∙◌}
 use Rattle.std.specs.Prelude.{is_some, not}
 use Rattle.std.specs.Borrow.{Bor}
-use Rattle.synth_text.specs.Views.{text_at}
+use Rattle.byte_text.specs.Views.{text_at}
 use Rattle.synth_text.specs.declared.kind.Kind.{Kind}
 use Rattle.synth_text.specs.declared.attributes.Attributes.{Attributes}
 use Rattle.synth_text.specs.declared.fault.Flaw.{Flaw}
 use Rattle.synth_text.specs.declared.fault.Flaw.TheVariants as flaws
-use Rattle.synth_text.specs.Items.{is_white}
-use Rattle.synth_text.specs.Cuts.{first_piece, pieces}
+use Rattle.byte_text.specs.Classes.{is_white}
+use Rattle.byte_text.specs.Cuts.{first_piece, pieces}
 use Rattle.synth_text.specs.Flaws.{◌>>=◌, Fails}
 use Rattle.synth_text.specs.Attributes.{is_empty, no_attributes, attributes_in}
 use Rattle.synth_text.specs.AttributeSteps.{with_word, with_next, with_words}
-use Rattle.synth_text.proofs.CutLaws.{slice_split-first_piece, pieces-next}
+use Rattle.byte_text.proofs.CutLaws.{slice_split-first_piece, pieces-next}
 use Rattle.synth_text.proofs.AttributeFold.{attributes_read}
 
 -- a reading fails as its first step does

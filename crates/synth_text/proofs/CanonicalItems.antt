@@ -7,7 +7,8 @@ use Rattle.std.proofs.lemmas.List.{length-append, append-nil, take_at, drop_at}
 use Rattle.synth_text.specs.declared.items.Item.{Item}
 use Rattle.synth_text.specs.declared.parts.Part.{Part}
 use Rattle.synth_text.specs.declared.parts.Placed.{Placed}
-use Rattle.synth_text.specs.Items.{is_white, IsGap, IsInside, IsItem, AreItems, body_of}
+use Rattle.byte_text.specs.Classes.{is_white}
+use Rattle.synth_text.specs.Items.{IsGap, IsInside, IsItem, AreItems, body_of}
 use Rattle.synth_text.specs.Descriptions.{level_items, part_of, placed_part, parts_of}
 
 -- ---- places in a longer text

@@ -19,10 +19,10 @@ use Rattle.synth_text.specs.declared.attributes.Attributes.{Attributes}
 use Rattle.synth_text.specs.declared.attributes.Key.TheVariants as keys
 use Rattle.synth_text.specs.declared.parts.Part.{Part}
 use Rattle.synth_text.specs.Kinds.{is_cache, same_kind, long_name_of}
-use Rattle.synth_text.specs.Items.{is_white}
+use Rattle.byte_text.specs.Classes.{is_white}
 use Rattle.synth_text.specs.Names.{kind_named, name_of}
 use Rattle.byte_text.specs.Numerals.{number_in}
-use Rattle.synth_text.specs.Cuts.{cut, first_piece, without_front}
+use Rattle.byte_text.specs.Cuts.{cut, first_piece, without_front}
 use Rattle.synth_text.specs.Sizes.{size_of}
 use Rattle.synth_text.specs.IndexTexts.{index_of, loop_of, entries_of, indexes_of}
 use Rattle.synth_text.specs.Attributes.{key_of, takes, no_attributes, enclosed, attributes_of}
@@ -31,8 +31,8 @@ use Rattle.synth_text.specs.Parts.{level_name, head_of, level_part, level_of, me
 use Rattle.synth_text.specs.Canonical.{loop_text, size_texts, indexes_text, indexes_texts, in_parentheses, level_text, memory_text}
 use Rattle.synth_text.specs.Sound.{IsSoundLoop, AreSoundIndexes, IsSoundLevel, IsSoundMemory}
 use Rattle.synth_text.proofs.KindLaws.{same_kind-true, same_kind-equal}
-use Rattle.synth_text.proofs.Numerals.{in_range}
-use Rattle.synth_text.proofs.CutLaws.{cut-at, prefix_len-is, first_piece-none}
+use Rattle.byte_text.proofs.NumeralLaws.{in_range}
+use Rattle.byte_text.proofs.CutLaws.{cut-at, prefix_len-is, first_piece-none}
 use Rattle.synth_text.proofs.AttributeFold.{attributes_read}
 use Rattle.synth_text.proofs.Texts.{each_append, each_weaker, each_at, each_joined, IsSolid, is_solid, IsInner, IsDigit, Lacks, solid_test, solid_not_white, solid_is_inner, digit_is_solid, decimal_digits, lacks, split_joined}
 

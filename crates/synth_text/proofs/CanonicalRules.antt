@@ -12,7 +12,7 @@ use Rattle.synth_text.specs.declared.description.Memory.{Memory}
 use Rattle.synth_text.specs.declared.description.Description.{Description}
 use Rattle.synth_text.specs.declared.parts.Placed.{Placed}
 use Rattle.synth_text.specs.Kinds.{same_kind, long_name_of}
-use Rattle.synth_text.specs.Items.{is_white}
+use Rattle.byte_text.specs.Classes.{is_white}
 use Rattle.synth_text.specs.Parts.{untyped_kind}
 use Rattle.synth_text.specs.Rules.{is_level, has_nodes, levels_of, memory_in, description_of, pu_count, object_count, has_kind, any_of_kind, is_kind_again, is_again, first_again, from_last, wrong_end, is_large, broken}
 use Rattle.synth_text.specs.Descriptions.{Describes}

@@ -3,7 +3,8 @@ use Rattle.std.proofs.Common.{◌≡◌, ◌≢◌, ◌⊎◌, ℕ, zero, suc, �
 use Rattle.std.specs.Bool.{MatchBool}
 use Rattle.std.proofs.lemmas.Bool.{cases_Bool, cases_order, cases_eq, both_ways, or_from}
 use Rattle.synth_text.specs.declared.items.Item.{Item}
-use Rattle.synth_text.specs.Items.{is_white, IsGap, IsInside, EndsLevel, IsLevelItem, IsMemoryItem, IsItem, AreItems}
+use Rattle.byte_text.specs.Classes.{is_white}
+use Rattle.synth_text.specs.Items.{IsGap, IsInside, EndsLevel, IsLevelItem, IsMemoryItem, IsItem, AreItems}
 
 -- ---- no two
 

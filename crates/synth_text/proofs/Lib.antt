@@ -1,5 +1,3 @@
-pub mod Numerals
-pub mod CutLaws
 pub mod Entries
 pub mod AttributeFold
 pub mod AttributeLaws

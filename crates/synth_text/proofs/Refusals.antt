@@ -18,10 +18,11 @@ use Rattle.synth_text.specs.declared.fault.Flaw.{Flaw}
 use Rattle.synth_text.specs.declared.fault.Flaw.TheVariants as flaws
 use Rattle.synth_text.specs.declared.fault.SynthFault.{SynthFault}
 use Rattle.synth_text.specs.declared.fault.SynthFault.TheVariants as faults
-use Rattle.synth_text.specs.Items.{is_white, body_of}
+use Rattle.byte_text.specs.Classes.{is_white}
+use Rattle.synth_text.specs.Items.{body_of}
 use Rattle.synth_text.specs.Names.{name_of}
 use Rattle.byte_text.specs.Numerals.{number_in}
-use Rattle.synth_text.specs.Cuts.{cut, first_piece, without_front}
+use Rattle.byte_text.specs.Cuts.{cut, first_piece, without_front}
 use Rattle.synth_text.specs.Flaws.{◌>>=◌, or_flaw, fault_at, placed}
 use Rattle.synth_text.specs.Sizes.{size_of}
 use Rattle.synth_text.specs.IndexTexts.{indexes_of}

@@ -21,10 +21,10 @@ use Rattle.synth_text.specs.declared.parts.Part.{Part}
 use Rattle.synth_text.specs.declared.fault.Flaw.{Flaw}
 use Rattle.synth_text.specs.declared.fault.Flaw.TheVariants as flaws
 use Rattle.synth_text.specs.Kinds.{is_cache}
-use Rattle.synth_text.specs.Items.{is_white}
+use Rattle.byte_text.specs.Classes.{is_white}
 use Rattle.synth_text.specs.Names.{name_of}
 use Rattle.byte_text.specs.Numerals.{is_decimal, number_in}
-use Rattle.synth_text.specs.Cuts.{cut, first_piece, without_front}
+use Rattle.byte_text.specs.Cuts.{cut, first_piece, without_front}
 use Rattle.synth_text.specs.Flaws.{◌>>=◌, or_flaw}
 use Rattle.synth_text.specs.Sizes.{small_size, size_of}
 use Rattle.synth_text.specs.IndexTexts.{index_of, loop_of, entries_of, indexes_of}
@@ -33,7 +33,7 @@ use Rattle.synth_text.specs.AttributeSteps.{has, with_value, with_word, with_nex
 use Rattle.synth_text.specs.Parts.{untyped_kind, level_name, head_kind, head_arity, with_arity, head_of, level_part, level_of, node_name, opened, memory_part, named_memory, memory_in_brackets, cut_memory, memory_of}
 use Rattle.synth_text.specs.Sound.{IsSoundLoop, AreSoundIndexes, IsSoundLevel}
 use Rattle.synth_text.proofs.Bound.{ok_is, some_is, bind_ok, or_flaw-ok, guard_ok, guard_some, and_then_some, option_map_some}
-use Rattle.synth_text.proofs.CutLaws.{slice_split-first_piece}
+use Rattle.byte_text.proofs.CutLaws.{slice_split-first_piece}
 use Rattle.synth_text.proofs.AttributeFold.{attributes_read}
 
 -- ---- numbers and sizes

@@ -6,7 +6,7 @@ use Rattle.std.specs.List.{AllByRecursion, list_all, join_with_byte, slice_split
 use Rattle.std.proofs.lemmas.Bool.{and_parts, leb-true, eqb-false, ne_eqb, not-true, or_from}
 use Rattle.std.proofs.lemmas.Fmt.{decimal_is_IsNumeral}
 use Rattle.std.proofs.lemmas.Str.Parse.{digit_from_value}
-use Rattle.synth_text.specs.Items.{is_white}
+use Rattle.byte_text.specs.Classes.{is_white}
 
 -- ---- bytes of one kind
 

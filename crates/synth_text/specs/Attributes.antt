@@ -13,8 +13,8 @@ use Rattle.synth_text.specs.declared.attributes.Key.TheVariants as keys
 use Rattle.synth_text.specs.declared.fault.Flaw.{Flaw}
 use Rattle.synth_text.specs.declared.fault.Flaw.TheVariants as flaws
 use Rattle.synth_text.specs.Kinds.{is_cache}
-use Rattle.synth_text.specs.Items.{is_white}
-use Rattle.synth_text.specs.Cuts.{cut}
+use Rattle.byte_text.specs.Classes.{is_white}
+use Rattle.byte_text.specs.Cuts.{cut}
 use Rattle.synth_text.specs.Flaws.{◌>>=◌}
 use Rattle.synth_text.specs.Sizes.{size_of}
 use Rattle.synth_text.specs.IndexTexts.{indexes_of}

@@ -5,7 +5,7 @@ use Rattle.std.specs.List.{list_any, slice_split}
 use Rattle.synth_text.specs.declared.description.Loop.{Loop}
 use Rattle.synth_text.specs.declared.description.Indexes.{Indexes}
 use Rattle.synth_text.specs.declared.description.Indexes.TheVariants as indexes
-use Rattle.synth_text.specs.Cuts.{cut}
+use Rattle.byte_text.specs.Cuts.{cut}
 use Rattle.byte_text.specs.Numerals.{number_in}
 
 -- one number of a list

@@ -1,11 +1,8 @@
 -- How a text is cut into items. All places are offsets in the whole text.
 use Rattle.std.specs.Prelude.{◌≡◌, ◌≢◌, ◌⊎◌, ℕ, ◌+◌, ◌-◌, ◌<◌, ◌≤◌, Bool, true, false, ◌||◌, ◌==◌, List, [], ◌∷◌, length, take, drop, slice_index}
 use Rattle.std.specs.Bool.{MatchBool}
+use Rattle.byte_text.specs.Classes.{is_white}
 use Rattle.synth_text.specs.declared.items.Item.{Item}
-
--- space, tab, carriage return and line feed
-abbrev pub is_white : ℕ → Bool
-is_white byte = byte == 32 || byte == 9 || byte == 13 || byte == 10
 
 -- From one place up to another there is white space alone.
 abbrev pub IsGap : List ℕ → ℕ → ℕ → Type 0

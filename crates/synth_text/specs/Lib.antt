@@ -2,9 +2,6 @@ pub mod Kinds
 pub mod Names
 pub mod Tables
 pub mod Items
-pub mod Views
-pub mod Cuts
-pub mod Classes
 pub mod Flaws
 pub mod Sizes
 pub mod IndexTexts

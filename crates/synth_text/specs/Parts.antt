@@ -11,10 +11,10 @@ use Rattle.synth_text.specs.declared.attributes.Attributes.{Attributes}
 use Rattle.synth_text.specs.declared.parts.Part.{Part}
 use Rattle.synth_text.specs.declared.fault.Flaw.{Flaw}
 use Rattle.synth_text.specs.declared.fault.Flaw.TheVariants as flaws
-use Rattle.synth_text.specs.Items.{is_white}
+use Rattle.byte_text.specs.Classes.{is_white}
 use Rattle.synth_text.specs.Names.{name_of}
 use Rattle.byte_text.specs.Numerals.{number_in}
-use Rattle.synth_text.specs.Cuts.{first_piece, without_front}
+use Rattle.byte_text.specs.Cuts.{first_piece, without_front}
 use Rattle.synth_text.specs.Flaws.{◌>>=◌, or_flaw}
 use Rattle.synth_text.specs.Attributes.{attributes_of}
 

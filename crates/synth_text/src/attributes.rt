@@ -4,14 +4,14 @@ ghost use Rattle.synth_text.specs.declared.fault.Flaw.TheVariants as flaws;
 ghost use Rattle.synth_text.specs.Flaws.{Gives, GivesAs};
 ghost use Rattle.synth_text.specs.Attributes.{key_of, takes, no_attributes, attributes_in, enclosed, attributes_of};
 ghost use Rattle.synth_text.specs.AttributeSteps.{has, with_value, with_word, with_next};
-ghost use Rattle.synth_text.specs.Views.{text_at};
+ghost use Rattle.byte_text.specs.Views.{text_at};
 
-use crate::cuts::{cut_at, first_word, is_blank};
 use crate::description::Indexes;
 use crate::fault::Flaw;
 use crate::index_text::read_indexes;
 use crate::kind::Kind;
 use crate::size::read_size;
+use byte_text::{Class, are_all, cut, first_piece};
 use std::alloc::Global;
 
 /// The attributes of an item, as far as they are given.
@@ -51,8 +51,8 @@ pub fn read_attributes(alloc: Global, kind: Kind, text: Option<&[u8]>) -> Result
 fn enclosed(text: &[u8]) -> Result<&[u8], Flaw>
     ensures { GivesAs (λ inner. inner.now) result (enclosed text.now) }
 {
-    match cut_at(text, b')') {
-        Some((inner, behind)) if is_blank(behind) => Ok(inner),
+    match cut(text, Class::Byte(b')')) {
+        Some((inner, behind)) if are_all(behind, Class::White) => Ok(inner),
         _ => Err(Flaw::Attribute),
     }
 }
@@ -61,10 +61,10 @@ fn enclosed(text: &[u8]) -> Result<&[u8], Flaw>
 fn read_words(alloc: Global, kind: Kind, text: &[u8]) -> Result<Attributes, Flaw>
     ensures { Gives result (attributes_in kind text.now) }
 {
-    let (word, mut rest) = first_word(text);
+    let (word, mut rest) = first_piece(text, Class::White);
     let mut attributes = with_word(alloc, kind, Attributes::none(), word)?;
     while let Some(text) = rest {
-        let (word, behind) = first_word(text);
+        let (word, behind) = first_piece(text, Class::White);
         rest = behind;
         attributes = with_next(alloc, kind, attributes, word, behind.is_some())?;
     }
@@ -98,7 +98,7 @@ fn with_word(
 ) -> Result<Attributes, Flaw>
     ensures { Gives result (with_word kind attributes word.now) }
 {
-    let (key, value) = cut_at(word, b'=').ok_or(Flaw::Attribute)?;
+    let (key, value) = cut(word, Class::Byte(b'=')).ok_or(Flaw::Attribute)?;
     let key = read_key(key).ok_or(Flaw::Attribute)?;
     if takes(kind, key) && !attributes.has(key) {
         attributes.with_value(alloc, key, value)

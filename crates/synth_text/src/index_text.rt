@@ -6,11 +6,10 @@ ghost use Rattle.synth_text.specs.declared.fault.Flaw.TheVariants as flaws;
 ghost use Rattle.synth_text.specs.Flaws.{Gives, or_flaw};
 ghost use Rattle.synth_text.specs.IndexTexts.{index_of, loop_of, entries_of, indexes_of};
 
-use crate::cuts::{cut_at, first_piece};
 use crate::description::{Indexes, Loop};
 use crate::fault::Flaw;
-use crate::number::number_between;
-use crate::sequence::Sequence;
+use byte_text::{Class, cut, first_piece, number_in};
+use sequence::Sequence;
 use std::alloc::Global;
 
 // What a piece of a value of `indexes` may say.
@@ -26,7 +25,7 @@ impl Entry for u32 {
 
     #[tactic(auto, unfolding(crate::specs::IndexTexts::index_of))]
     fn read(piece: &[u8]) -> Option<u32> {
-        let number = number_between(0, u64::from(u32::MAX), piece)?;
+        let number = number_in(0, u64::from(u32::MAX), piece)?;
         Some(number as u32)
     }
 }
@@ -36,9 +35,9 @@ impl Entry for Loop {
 
     #[tactic(auto, unfolding(crate::specs::IndexTexts::loop_of))]
     fn read(piece: &[u8]) -> Option<Loop> {
-        let (step, count) = cut_at(piece, b'*')?;
-        let step = number_between(1, u64::from(u32::MAX), step)?;
-        let count = number_between(1, u64::from(u32::MAX), count)?;
+        let (step, count) = cut(piece, Class::Byte(b'*'))?;
+        let step = number_in(1, u64::from(u32::MAX), step)?;
+        let count = number_in(1, u64::from(u32::MAX), count)?;
         Some(Loop {
             step: step as u32,
             count: count as u32,
@@ -53,7 +52,7 @@ fn read_entries<E: Entry>(alloc: Global, text: &[u8], separator: u8) -> Result<S
     let mut entries = Vec::new(alloc);
     let mut rest = Some(text);
     while let Some(text) = rest {
-        let (piece, behind) = first_piece(text, separator);
+        let (piece, behind) = first_piece(text, Class::Byte(separator));
         let entry = E::read(piece).ok_or(Flaw::Indexes)?;
         entries.push(entry)?;
         rest = behind;

@@ -2,16 +2,15 @@
 ghost use Rattle.std.specs.Prelude.{◌≡◌, ◌<◌, length};
 ghost use Rattle.synth_text.specs.Names.{name_of};
 ghost use Rattle.synth_text.specs.Flaws.{Gives, GivesAs};
-ghost use Rattle.synth_text.specs.Views.{text_at};
+ghost use Rattle.byte_text.specs.Views.{text_at};
 ghost use Rattle.synth_text.specs.Parts.{level_name, with_arity, head_of, level_part, level_of, node_name, opened, memory_part, memory_in_brackets, memory_of};
 
 use crate::attributes::{Attributes, read_attributes};
-use crate::cuts::{Class, first_piece, is_blank, split_front};
 use crate::description::{Indexes, Level};
 use crate::fault::Flaw;
 use crate::kind::Kind;
 use crate::name::{Name, read_name};
-use crate::number::number_between;
+use byte_text::{Class, are_all, first_piece, number_in, split_front};
 use std::alloc::Global;
 
 /// What one item says: a level, nodes of memory at its objects, or both.
@@ -46,7 +45,7 @@ pub struct Nodes {
 pub fn read_level(alloc: Global, untyped: Kind, text: &[u8]) -> Result<Part, Flaw>
     ensures { Gives result (level_of untyped text.now) }
 {
-    let (head, behind) = first_piece(text, b'(');
+    let (head, behind) = first_piece(text, Class::Byte(b'('));
     let (kind, arity) = read_head(untyped, head)?;
     let attributes = read_attributes(alloc, kind, behind)?;
     Ok(level_part(kind, arity, attributes))
@@ -57,7 +56,7 @@ pub fn read_level(alloc: Global, untyped: Kind, text: &[u8]) -> Result<Part, Fla
 fn read_head(untyped: Kind, head: &[u8]) -> Result<(Kind, u32), Flaw>
     ensures { Gives result (head_of untyped head.now) }
 {
-    match first_piece(head, b':') {
+    match first_piece(head, Class::Byte(b':')) {
         (arity, None) => with_arity(untyped, arity),
         (name, Some(arity)) => with_arity(level_kind(name)?, arity),
     }
@@ -67,7 +66,7 @@ fn read_head(untyped: Kind, head: &[u8]) -> Result<(Kind, u32), Flaw>
 fn with_arity(kind: Kind, text: &[u8]) -> Result<(Kind, u32), Flaw>
     ensures { Gives result (with_arity kind text.now) }
 {
-    match number_between(1, u64::from(u32::MAX), text) {
+    match number_in(1, u64::from(u32::MAX), text) {
         Some(arity) => Ok((kind, arity as u32)),
         None => Err(Flaw::Arity),
     }
@@ -124,7 +123,7 @@ pub fn read_memory(alloc: Global, text: &[u8]) -> Result<Part, Flaw>
     requires { 0 < length text.now }
     ensures { Gives result (memory_of text.now) }
 {
-    match first_piece(&text[1..], b']') {
+    match first_piece(&text[1..], Class::Byte(b']')) {
         (_, None) => Err(Flaw::Name),
         (inner, Some(_)) => read_brackets(alloc, inner),
     }
@@ -175,7 +174,7 @@ fn memory_part(attributes: Attributes) -> Part
 fn opened(text: &[u8]) -> Result<Option<&[u8]>, Flaw>
     ensures { GivesAs text_at result (opened text.now) }
 {
-    if is_blank(text) {
+    if are_all(text, Class::White) {
         return Ok(None);
     }
     match text {

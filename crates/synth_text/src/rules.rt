@@ -9,7 +9,7 @@ use crate::description::{Description, Level, Memory};
 use crate::fault::SynthFault;
 use crate::kind::Kind;
 use crate::parts::{Nodes, Part, Placed};
-use crate::sequence::Sequence;
+use sequence::Sequence;
 use std::alloc::{AllocError, Global};
 
 // How many levels a description may have.

@@ -6,7 +6,7 @@ ghost use Rattle.synth_text.specs.Canonical.{loop_text, size_texts, indexes_text
 use crate::description::{Description, Indexes, Level, Loop, Memory};
 use crate::kind::Kind;
 use byte_text::push_decimal;
-use edge_io::OutOfMemory;
+use out_of_memory::OutOfMemory;
 use std::alloc::{AllocError, Global};
 
 /// The canonical text of a description.

@@ -3,9 +3,9 @@ use Rattle.std.specs.Prelude.{◌==◌}
 use Rattle.std.specs.Option.{ok_or}
 use Rattle.std.proofs.lemmas.Result.{err_from_is_err_and}
 use Rattle.synth_text.specs.declared.fault.Flaw.TheVariants as flaws
-use Rattle.synth_text.specs.Cuts.{pieces}
-use Rattle.synth_text.specs.Views.{text_at, piece_texts}
-use Rattle.synth_text.proofs.CutLaws.{pieces-next, left-falls}
+use Rattle.byte_text.specs.Cuts.{pieces}
+use Rattle.byte_text.specs.Views.{text_at, piece_texts}
+use Rattle.byte_text.proofs.CutLaws.{pieces-next, left-falls}
 use Rattle.synth_text.proofs.Entries.{goes_on, ends, ok_or_err, ok_or_ok}
 use Rattle.synth_text.proofs.index_text.read_entries.Goals as goal
 

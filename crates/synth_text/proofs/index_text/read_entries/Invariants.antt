@@ -1,11 +1,11 @@
 use Rattle.std.proofs.Common.{◌≡◌}
 use Rattle.std.specs.Prelude.{◌==◌}
 use Rattle.std.specs.List.{slice_split}
-use Rattle.synth_text.specs.Cuts.{pieces}
-use Rattle.synth_text.specs.Views.{text_at}
+use Rattle.byte_text.specs.Cuts.{pieces}
+use Rattle.byte_text.specs.Views.{text_at}
 use Rattle.synth_text.specs.IndexTexts.{entries_of}
 use Rattle.synth_text.proofs.Entries.{after}
-use Rattle.synth_text.proofs.CutLaws.{left}
+use Rattle.byte_text.proofs.CutLaws.{left}
 use Rattle.synth_text.proofs.index_text.read_entries.Given as goal
 
 -- what was said so far, and what the rest says

@@ -1,6 +1,6 @@
 use Rattle.std.proofs.Common.{sym, arith}
-use Rattle.synth_text.proofs.Numerals.{capped_is, capped_over, capped_none}
-use Rattle.synth_text.proofs.number.capped_number.Goals as goal
+use Rattle.byte_text.proofs.NumeralLaws.{capped_is, capped_over, capped_none}
+use Rattle.byte_text.proofs.decimals.number_capped.Goals as goal
 
 pub returns-in-Number : goal.returns-in-Number
 returns-in-Number c = let h = c.in-Number.ensures in sym (capped_is _ c.args.text.now h.0 h.1 (omega arith))

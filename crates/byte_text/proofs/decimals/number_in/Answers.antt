@@ -1,6 +1,6 @@
 use Rattle.std.proofs.Common.{sym}
-use Rattle.synth_text.proofs.Numerals.{in_range, under_range, over_range, no_number}
-use Rattle.synth_text.proofs.number.number_between.Goals as goal
+use Rattle.byte_text.proofs.NumeralLaws.{in_range, under_range, over_range, no_number}
+use Rattle.byte_text.proofs.decimals.number_in.Goals as goal
 
 pub returns-then-low-number-clause-number : goal.returns-then-low-number-clause-number
 returns-then-low-number-clause-number c =
@@ -13,7 +13,7 @@ returns-else-low-number-clause-number c =
     sym (under_range c.args.low c.args.high c.in-Number.number c.args.text.now h.0 h.1 c.if-low-number.false)
 
 pub returns-in-TooLarge-clause-number : goal.returns-in-TooLarge-clause-number
-returns-in-TooLarge-clause-number c = let h = c.in-TooLarge.ensures in sym (over_range c.args.low c.args.high c.args.text.now h.0 h.1 c.requires)
+returns-in-TooLarge-clause-number c = sym (over_range c.args.low c.args.high c.args.text.now c.in-TooLarge.ensures.1)
 
 pub returns-in-NotNumeral-clause-number : goal.returns-in-NotNumeral-clause-number
 returns-in-NotNumeral-clause-number c = sym (no_number c.args.low c.args.high c.args.text.now c.in-NotNumeral.ensures)
