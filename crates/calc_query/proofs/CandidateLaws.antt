@@ -19,7 +19,7 @@ use Rattle.topo_tree.specs.Objects.{count_at, count_of}
 use Rattle.topo_tree.specs.Building.{IsBuilt}
 use Rattle.topo_tree.specs.Beginnings.{width_at}
 use Rattle.topo_tree.specs.Coverage.{layer_depth, set_of, set_at}
-use Rattle.topo_tree.specs.CountLaws.{have_arities, last_count}
+use Rattle.topo_tree.proofs.CountLaws.{have_arities, last_count}
 use Rattle.topo_tree.proofs.Shown.{found_width}
 use Rattle.topo_tree.proofs.PlaceLaws.{widths, some_width, set_at-inside, last_within}
 use Rattle.calc_query.specs.Candidates.{candidates}

@@ -12,7 +12,7 @@ use Rattle.topo_tree.specs.Objects.{count_at, arity_at, children_of, depth_count
 use Rattle.topo_tree.specs.Building.{IsBuilt}
 use Rattle.topo_tree.specs.Coverage.{set_at}
 use Rattle.topo_tree.specs.Beginnings.{width_at}
-use Rattle.topo_tree.specs.CountLaws.{arity_some, children_within}
+use Rattle.topo_tree.proofs.CountLaws.{arity_some, children_within}
 use Rattle.topo_tree.proofs.PlaceLaws.{some_width, some_count}
 use Rattle.distrib_rules.specs.Shares.{rounded_up, share_of, Pair, weight_of, shared_behind, shared, in_order}
 use Rattle.distrib_rules.specs.Expansion.{Way, is_final, children_sharing, expanded, expansion, start}

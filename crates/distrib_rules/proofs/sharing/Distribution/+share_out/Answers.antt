@@ -1,7 +1,7 @@
 use Rattle.std.proofs.Common.{◌≡◌, ℕ, ◌+◌, ◌-◌, ◌*◌, ◌<◌, ◌≤◌, Bool, if◌then◌else◌, List, length, get_or, sym, ap, subst, ◌∙◌, arith}
 use Rattle.std.specs.List.{range_with_len}
 use Rattle.topo_tree.specs.Objects.{count_at, arity_at}
-use Rattle.topo_tree.specs.CountLaws.{few_objects, arity_some, children_within}
+use Rattle.topo_tree.proofs.CountLaws.{few_objects, arity_some, children_within}
 use Rattle.distrib_rules.specs.Shares.{Pair, rounded_up, shared, in_order}
 use Rattle.distrib_rules.specs.Expansion.{Way, expansion}
 use Rattle.distrib_rules.proofs.SharedLaws.{are_objects, length-in_order, in_order-at, length-shared, shared-at}

@@ -1,5 +1,35 @@
 -- Laws of the counts of objects, as products of arities.
-use Rattle.std.proofs.Common.{◌≡◌, ℕ, zero, suc, ◌+◌, ◌-◌, ◌*◌, ◌/◌, ◌<◌, ◌≤◌, List, [], ◌∷◌, ◌++◌, length, take, drop, get_or, Option, Some, None, refl, sym, ap, ◌∙◌, subst, inl, inr, arith}
+use Rattle.std.proofs.Common.{
+  ◌≡◌,
+  ℕ,
+  zero,
+  suc,
+  ◌+◌,
+  ◌-◌,
+  ◌*◌,
+  ◌/◌,
+  ◌<◌,
+  ◌≤◌,
+  List,
+  [],
+  ◌∷◌,
+  ◌++◌,
+  length,
+  take,
+  drop,
+  get_or,
+  Option,
+  Some,
+  None,
+  refl,
+  sym,
+  ap,
+  ◌∙◌,
+  subst,
+  inl,
+  inr,
+  arith,
+}
 use Rattle.std.proofs.Math.Nat.{mul_comm, mul_assoc, one-mul, mul-one, one-le-mul, mul-le-mul_left, mul-le-mul_right, div-eq_of_eq-mul_left}
 use Rattle.std.proofs.lemmas.Bool.{cases_lt}
 use Rattle.std.proofs.lemmas.Nat.{div-mul-add}
@@ -46,19 +76,24 @@ count_within depth levels some =
     omega (arith, product_split depth (arities levels), mul-le-mul_left p (width_some depth levels some), mul-one p)
 
 -- the next depth
-pub count_more : (depth : ℕ) (levels : List Level) → depth < length levels → product (take (depth + 1) (arities levels)) ≡ product (take depth (arities levels)) * get_or (arities levels) depth 0
+pub count_more : (depth : ℕ) (levels : List Level) → depth < length levels
+    → product (take (depth + 1) (arities levels)) ≡ product (take depth (arities levels)) * get_or (arities levels) depth 0
 count_more depth levels within =
-    ap product (take_more (arities levels) depth 0 (omega (arith, length-map levels (λ level. level.arity)))) ∙ product_push (take depth (arities levels)) (get_or (arities levels) depth 0)
+    ap product (take_more (arities levels) depth 0 (omega (arith, length-map levels (λ level. level.arity))))
+    ∙ product_push (take depth (arities levels)) (get_or (arities levels) depth 0)
 
 -- one more level
-pub count_next : (levels : List Level) (place : ℕ) (level : Level) → place < length levels → level ≡ get_or levels place level → product (take (place + 1) (arities levels)) ≡ product (take place (arities levels)) * level.arity
+pub count_next : (levels : List Level) (place : ℕ) (level : Level) → place < length levels → level ≡ get_or levels place level
+    → product (take (place + 1) (arities levels)) ≡ product (take place (arities levels)) * level.arity
 count_next levels place level within here =
     count_more place levels within
     ∙ ap (λ arity. product (take place (arities levels)) * arity)
     (get_or-map (λ (l : Level). l.arity) levels place level 0 within ∙ ap (λ (l : Level). l.arity) (sym here))
 
 -- one more level among the first so many
-pub count_step : (levels : List Level) (depth place : ℕ) (level : Level) → depth ≤ length levels → place < length (take depth levels) → level ≡ get_or (take depth levels) place level → product (take (place + 1) (arities levels)) ≡ product (take place (arities levels)) * level.arity
+pub count_step : (levels : List Level) (depth place : ℕ) (level : Level) → depth ≤ length levels → place < length (take depth levels)
+    → level ≡ get_or (take depth levels) place level
+    → product (take (place + 1) (arities levels)) ≡ product (take place (arities levels)) * level.arity
 count_step levels depth place level within below here =
     let long : length (take depth levels) ≡ depth = length-take-le depth levels within in
     let before : place < depth = omega arith in
@@ -87,16 +122,22 @@ few_nodes described sound = nodes_of described.memory
     nodes_of (Some memory) = few_objects described memory.above sound
 
 -- the PUs are divided among the objects of a depth without a rest
-pub divided : (depth : ℕ) (levels : List Level) → HaveArities levels → product (arities levels) / product (take depth (arities levels)) ≡ product (drop depth (arities levels))
+pub divided : (depth : ℕ) (levels : List Level) → HaveArities levels
+    → product (arities levels) / product (take depth (arities levels)) ≡ product (drop depth (arities levels))
 divided depth levels some =
-    div-eq_of_eq-mul_left (count_some depth levels some) (sym (product_split depth (arities levels)) ∙ mul_comm (product (take depth (arities levels))) (product (drop depth (arities levels))))
+    div-eq_of_eq-mul_left (count_some depth levels some)
+    (sym (product_split depth (arities levels))
+    ∙ mul_comm (product (take depth (arities levels))) (product (drop depth (arities levels))))
 
-pub whole_counts : (depth : ℕ) (levels : List Level) → HaveArities levels → product (take depth (arities levels)) * (product (arities levels) / product (take depth (arities levels))) ≡ product (arities levels)
-whole_counts depth levels some = ap (λ width. product (take depth (arities levels)) * width) (divided depth levels some) ∙ product_split depth (arities levels)
+pub whole_counts : (depth : ℕ) (levels : List Level) → HaveArities levels
+    → product (take depth (arities levels)) * (product (arities levels) / product (take depth (arities levels))) ≡ product (arities levels)
+whole_counts depth levels some =
+    ap (λ width. product (take depth (arities levels)) * width) (divided depth levels some) ∙ product_split depth (arities levels)
 
 -- the last depth has the PUs
 pub last_count : (levels : List Level) → product (take (length levels) (arities levels)) ≡ product (arities levels)
-last_count levels = ap product (take_all (length levels) (arities levels) (omega (arith, length-map levels (λ (level : Level). level.arity))))
+last_count levels =
+    ap product (take_all (length levels) (arities levels) (omega (arith, length-map levels (λ (level : Level). level.arity))))
 
 -- ---- children
 
@@ -110,23 +151,33 @@ pub arity_some : (described : Description) (depth : ℕ) → IsSound described �
 arity_some described depth sound within = arity_in described.levels depth (have_arities described sound) within
 
 -- the children of an object of a depth above the last are objects of the next depth
-pub children_within : (described : Description) (depth index : ℕ) → depth < length described.levels → index < count_at described depth → index * arity_at described depth + arity_at described depth ≤ count_at described (depth + 1)
+pub children_within : (described : Description) (depth index : ℕ) → depth < length described.levels → index < count_at described depth
+    → index * arity_at described depth + arity_at described depth ≤ count_at described (depth + 1)
 children_within described depth index within below =
     let more = mul-le-mul_right (arity_at described depth) (let next : index + 1 ≤ count_at described depth = omega arith in next) in
     omega (arith, more, count_more depth described.levels within)
 
 -- the number of children fits, and is 0 at the last depth
-pub children_few : (described : Description) (depth index : ℕ) → IsSound described → index < count_at described depth → index * arity_at described depth ≤ 4096
+pub children_few : (described : Description) (depth index : ℕ) → IsSound described → index < count_at described depth
+    → index * arity_at described depth ≤ 4096
 children_few described depth index sound below =
     elim (cases_lt depth (length described.levels)) [
       | inl within ↦ omega (arith, children_within described depth index within below, few_objects described (depth + 1) sound)
       | inr past ↦
-          let none : arity_at described depth ≡ 0 = get_or_past (arities described.levels) depth 0 (subst (λ n. n ≤ depth) (sym (length-map described.levels (λ (level : Level). level.arity))) past) in
+          let none : arity_at described depth ≡ 0 =
+          get_or_past (arities described.levels) depth 0
+          (subst (λ n. n ≤ depth) (sym (length-map described.levels (λ (level : Level). level.arity))) past) in
           omega (arith, ap (λ arity. index * arity) none)
     ]
 
 -- a child is an object, and has the parent whose child it is
-pub child-parent : (described : Description) (depth index child : ℕ) → IsSound described → depth < length described.levels → index < count_at described depth → index * arity_at described depth ≤ child → child < index * arity_at described depth + arity_at described depth → (child < count_at described (depth + 1)) × (child / arity_at described depth ≡ index)
+pub child-parent : (described : Description) (depth index child : ℕ) → IsSound described → depth < length described.levels
+    → index < count_at described depth → index * arity_at described depth ≤ child
+    → child < index * arity_at described depth + arity_at described depth → (child < count_at described (depth + 1))
+    × (child / arity_at described depth ≡ index)
 child-parent described depth index child sound within below from to =
-    let place : child ≡ index * arity_at described depth + (child - index * arity_at described depth) = omega arith in
-    (omega (arith, children_within described depth index within below), ap (λ n. n / arity_at described depth) place ∙ div-mul-add index (arity_at described depth) (child - index * arity_at described depth) (omega arith))
+    let place : child ≡ index * arity_at described depth + (child - index * arity_at described depth) = omega arith in (
+      omega (arith, children_within described depth index within below),
+      ap (λ n. n / arity_at described depth) place
+          ∙ div-mul-add index (arity_at described depth) (child - index * arity_at described depth) (omega arith),
+    )
