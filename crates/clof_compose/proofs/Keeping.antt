@@ -1,9 +1,8 @@
 -- How a node's value is kept for the next one, or gets ready for the release of the high lock.
-use Rattle.std.proofs.Common.{◌≡◌, ℕ, ◌+◌, ◌<◌, ◌≤◌, Bool, true, List, ◌++◌, refl, ap, sym, ◌∙◌, subst, arith, Option, Some, None}
+use Rattle.std.proofs.Common.{◌≡◌, ℕ, ◌+◌, ◌<◌, ◌≤◌, Bool, true, List, ◌++◌, refl, ap, sym, ◌∙◌, subst, arith, Some, None}
 use Rattle.std.specs.Prelude.{IfSome, IsSomeAnd, option_map}
 use Rattle.std.specs.Int.{bit_at}
 use Rattle.lock_rules.specs.Tag.{Tag}
-use Rattle.keep_local.specs.declared.turn.Turn.{Turn}
 use Rattle.keep_local.specs.Turns.{run}
 use Rattle.keep_local.specs.States.{TrailState, IsTrail, MayLeave, option_list, left_at, tested}
 use Rattle.clof_compose.specs.Calls.{MayRelease, SameBelow, tests_in, tests_of}

@@ -1,6 +1,6 @@
 -- How a node's holder notes the answer of `waiter`, and keeps the high lock or not.
-use Rattle.std.proofs.Common.{◌≡◌, ◌≢◌, ℕ, ◌+◌, ◌<◌, ◌≤◌, Bool, true, false, List, [], ◌∷◌, ◌++◌, map, refl, ap, sym, ◌∙◌, subst, arith}
-use Rattle.std.proofs.Common.{append_assoc, Option, Some, None}
+use Rattle.std.proofs.Common.{◌≡◌, ℕ, ◌+◌, ◌<◌, Bool, true, false, List, [], ◌∷◌, ◌++◌, refl, ap, sym, ◌∙◌, subst, arith}
+use Rattle.std.proofs.Common.{Option, Some, None}
 use Rattle.std.specs.Prelude.{IfSome, option_map, slice_index}
 use Rattle.std.specs.Int.{bit_at}
 use Rattle.std.proofs.lemmas.List.{append-nil}
@@ -12,14 +12,13 @@ use Rattle.lock_rules.specs.Tag.{Tag}
 use Rattle.keep_local.specs.declared.turn.Turn.{Turn}
 use Rattle.keep_local.specs.Shapes.{top_of, node_of}
 use Rattle.keep_local.specs.Turns.{run, last_turn, IsDue}
-use Rattle.keep_local.specs.States.{TrailState, IsTrail, IsNoting, MayLeave, callers_in, all_turns, option_list, left_at, tested, with_test}
+use Rattle.keep_local.specs.States.{TrailState, IsTrail, IsNoting, MayLeave, callers_in, all_turns, option_list, left_at, tested}
 use Rattle.keep_local.proofs.Runs.{run_same}
 use Rattle.keep_local.proofs.Trails.{with_test_other, with_test_same}
-use Rattle.clof_compose.specs.Calls.{MayRelease, SameBelow, tests_of}
-use Rattle.clof_compose.specs.Contexts.{IsContextOf}
+use Rattle.clof_compose.specs.Calls.{MayRelease, SameBelow}
 use Rattle.clof_compose.specs.Owns.{IsHandedOver, bit_of}
 use Rattle.clof_compose.specs.Releases.{IsReleasing}
-use Rattle.clof_compose.specs.Roots.{root_course, root_tag, IsInHand, IsKept}
+use Rattle.clof_compose.specs.Roots.{root_tag, IsKept}
 use Rattle.clof_compose.specs.declared.root.Root.{Root}
 use Rattle.clof_compose.proofs.Begun.{last_push, leaves_at_level}
 use Rattle.clof_compose.proofs.Tops.{calls_closed, closed_is}

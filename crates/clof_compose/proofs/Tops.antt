@@ -1,5 +1,5 @@
 -- How the top lock's root is taken and put back.
-use Rattle.std.proofs.Common.{◌≡◌, ℕ, ◌+◌, ◌<◌, ◌≤◌, List, [], ◌∷◌, ◌++◌, length, map, refl, ap, sym, ◌∙◌, subst, arith, Option, Some, None}
+use Rattle.std.proofs.Common.{◌≡◌, ℕ, ◌<◌, List, [], ◌∷◌, ◌++◌, length, map, refl, ap, sym, ◌∙◌, subst, Option, Some, None}
 use Rattle.std.specs.Prelude.{IfSome, slice_get, option_map}
 use Rattle.std.proofs.lemmas.Option.{slice_get-map}
 use Rattle.lock_rules.specs.Tag.{Tag}
@@ -9,9 +9,8 @@ use Rattle.keep_local.specs.declared.turn.Turn.{Turn}
 use Rattle.keep_local.specs.Shapes.{top_of, callers_of}
 use Rattle.keep_local.specs.Turns.{Begins, last_turn}
 use Rattle.keep_local.specs.States.{TrailState, IsTrail, MayLeave, option_list, callers_in, all_turns, opened, left_at}
-use Rattle.clof_compose.specs.Contexts.{Context}
 use Rattle.clof_compose.specs.Courses.{Course, course_of}
-use Rattle.clof_compose.specs.Roots.{root_course, root_tag, IsSettled, IsFit}
+use Rattle.clof_compose.specs.Roots.{root_course, root_tag, IsFit}
 use Rattle.clof_compose.specs.Calls.{MayRelease}
 use Rattle.clof_compose.specs.Passes.{AreAll, IsNumber}
 use Rattle.clof_compose.specs.Tops.{IsOfTop, top_context, fresh_pass, AreFresh}

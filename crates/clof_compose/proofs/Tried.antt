@@ -1,7 +1,7 @@
 -- One hold of a lock of the lowest level, and the passes and shares of two callers.
-use Rattle.std.proofs.Common.{◌≡◌, ℕ, zero, suc, ◌+◌, ◌<◌, List, [], ◌∷◌, ◌++◌, length, refl, ap, sym, ◌∙◌, subst, arith, length-append}
-use Rattle.std.proofs.Common.{Option, Some, None}
-use Rattle.std.specs.Prelude.{IsSomeAnd, slice_get}
+use Rattle.std.proofs.Common.{◌≡◌, ℕ, zero, suc, ◌<◌, List, [], ◌∷◌, ◌++◌, length, refl, ap, sym, ◌∙◌, subst, arith, length-append}
+use Rattle.std.proofs.Common.{Option, Some}
+use Rattle.std.specs.Prelude.{slice_get}
 use Rattle.lock_rules.specs.Tag.{Tag}
 use Rattle.atomic_table.specs.Seated.{TableId}
 use Rattle.keep_local.specs.declared.turn.Turn.{Turn}

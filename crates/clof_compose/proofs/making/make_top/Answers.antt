@@ -1,4 +1,4 @@
-use Rattle.std.proofs.Common.{List, length, map, ap, sym, ◌∙◌, subst, rules, arith}
+use Rattle.std.proofs.Common.{List, length, ap, sym, ◌∙◌, subst, arith}
 use Rattle.std.proofs.lemmas.List.{length-map}
 use Rattle.std.proofs.lemmas.Grind.{common_steps}
 use Rattle.keep_local.specs.Shapes.{top_of}
