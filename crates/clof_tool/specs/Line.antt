@@ -67,7 +67,11 @@ distrib_message distrib.Reversed = codes "distrib Reversed"
 distrib_message distrib.OutOfMemory = codes "out of memory"
 
 abbrev pub section_message : SectionFault → List ℕ
-section_message section.NotYet = codes "section NotYet"
+section_message (section.BadHead at) = with_number (codes "section BadHead") at
+section_message (section.BadPlace at) = with_number (codes "section BadPlace") at
+section_message (section.Short at) = with_number (codes "section Short") at
+section_message section.TooManyCallers = codes "section TooManyCallers"
+section_message section.OutOfMemory = codes "out of memory"
 
 -- the area, the name of the fault and its numbers
 abbrev pub fault_message : Fault → List ℕ

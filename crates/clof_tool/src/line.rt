@@ -2,6 +2,7 @@
 ghost use Rattle.std.specs.Prelude.{◌≡◌, ◌≤◌, ◌+◌, ◌++◌, codes, length};
 ghost use Rattle.arrayvec.specs.ArrayString.{array_string_len};
 ghost use Rattle.clof_tool.specs.Line.{with_number, set_message, synth_message, build_message, calc_message, type_message, distrib_message};
+ghost use Rattle.clof_tool.specs.Line.{section_message};
 ghost use Rattle.clof_tool.specs.Line.{fault_message, line_with, line_of};
 
 use crate::{Fault, OptionName, Status};
@@ -46,7 +47,7 @@ fn fault_line(fault: &Fault) -> Line
         Fault::Calc(fault) => calc_line(fault),
         Fault::TypeOf(option) => type_line(option),
         Fault::Distrib(fault) => distrib_line(fault),
-        Fault::Section(SectionFault::NotYet) => saying("section NotYet"),
+        Fault::Section(fault) => section_line(fault),
         Fault::Input => saying("input"),
     }
 }
@@ -58,6 +59,18 @@ fn set_line(fault: &SetFault) -> Line
         SetFault::Form { at } => saying_number("set Form", *at as u64),
         SetFault::TooLarge { at } => saying_number("set TooLarge", *at as u64),
         SetFault::Infinite { at } => saying_number("set Infinite", *at as u64),
+    }
+}
+
+fn section_line(fault: &SectionFault) -> Line
+    ensures { result.bytes ≡ line_with (section_message fault.now) }
+{
+    match fault {
+        SectionFault::BadHead { at } => saying_number("section BadHead", *at as u64),
+        SectionFault::BadPlace { at } => saying_number("section BadPlace", *at as u64),
+        SectionFault::Short { at } => saying_number("section Short", *at as u64),
+        SectionFault::TooManyCallers => saying("section TooManyCallers"),
+        SectionFault::OutOfMemory => saying("out of memory"),
     }
 }
 

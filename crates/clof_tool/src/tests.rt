@@ -60,8 +60,6 @@ fn ends<R: Threads + Wait + Sync + Abort>(
     Ok(())
 }
 
-const NOT_YET: Status = Status::Malformed(Fault::Section(SectionFault::NotYet));
-
 #[test]
 fn serves_one_section(rt: HostRuntime) -> Result<(), Fail> {
     let cases: [(&[u8], &[u8]); 4] = [
@@ -82,35 +80,82 @@ fn serves_one_section(rt: HostRuntime) -> Result<(), Fail> {
 }
 
 #[test]
-fn refuses_inputs_that_are_not_one_section(rt: HostRuntime) -> Result<(), Fail> {
-    let good = b"worker * 7\nget a\r\n\n";
-    assert_eq!(rt;
-        call(&rt, rt.alloc(), &["run"], good.to_vec(rt.alloc())?)?.status,
-        Status::Ok
-    );
-    let cases: [&[u8]; 11] = [
-        b"worker pu:0 7\nget a\r\n\n",
-        b"worker * 7\nget a\r\n\nworker * 0\n\n",
-        b"worker * 8\nget a\r\n\n",
-        b"worker * 7\nget a\r\n",
-        b"worker * 7\nget a\r\n\nx",
-        b"worker *  7\nget a\r\n\n",
-        b"worker * 00000000007\nget a\r\n\n",
-        b"worker * \nget a\r\n\n",
-        b"walker * 7\nget a\r\n\n",
-        b"worker * 0",
-        b"\n",
+fn refuses_the_first_broken_rule_of_the_sections(rt: HostRuntime) -> Result<(), Fail> {
+    use SectionFault::{BadHead, BadPlace, Short};
+    let cases: [(&str, &[u8], SectionFault, &[u8]); 6] = [
+        (
+            "PU:1",
+            b"worker * 9\nget a\r\n\n",
+            Short { at: 0 },
+            b"clof: section Short 0\n",
+        ),
+        (
+            "Core:1 PU:2",
+            b"worker core:0 0\n\n",
+            BadPlace { at: 0 },
+            b"clof: section BadPlace 0\n",
+        ),
+        (
+            "PU:1",
+            b"walker * 0\n\n",
+            BadHead { at: 0 },
+            b"clof: section BadHead 0\n",
+        ),
+        (
+            "PU:1",
+            b"worker * 7\nget a\r\n\nx",
+            BadHead { at: 19 },
+            b"clof: section BadHead 19\n",
+        ),
+        (
+            "PU:1",
+            b"worker * 7\nget a\r\n\nworker pu:1 9\n",
+            BadPlace { at: 19 },
+            b"clof: section BadPlace 19\n",
+        ),
+        ("PU:1", b"\n", BadHead { at: 0 }, b"clof: section BadHead 0\n"),
     ];
-    for input in cases {
-        ends(
-            &rt,
-            rt.alloc(),
-            input,
-            NOT_YET,
-            b"",
-            b"clof: section NotYet\n",
-        )?;
+    for (description, input, fault, line) in cases {
+        let alloc = rt.alloc();
+        let ended = call(&rt, alloc, &["run", description], input.to_vec(alloc)?)?;
+        assert_eq!(rt; ended.status, Status::Malformed(Fault::Section(fault)));
+        assert_eq!(rt; ended.out.len(), 0);
+        assert_eq!(rt; ended.err.as_slice(), line);
     }
+    Ok(())
+}
+
+#[test]
+fn limits_the_sections(rt: HostRuntime) -> Result<(), Fail> {
+    let mut input = Vec::new(rt.alloc());
+    for _ in 0..257 {
+        input.extend_from_slice(b"worker * 0\n\n")?;
+    }
+    let status = Status::Limit(Fault::Section(SectionFault::TooManyCallers));
+    ends(
+        &rt,
+        rt.alloc(),
+        &input,
+        status,
+        b"",
+        b"clof: section TooManyCallers\n",
+    )
+}
+
+#[test]
+fn serves_sections_one_after_another(rt: HostRuntime) -> Result<(), Fail> {
+    let alloc = rt.alloc();
+    let input = b"worker * 17\nset a 5 0 1\r\nx\r\n\nworker pu:1 7\nget a\r\n\n";
+    let ended = call(&rt, alloc, &["run", "Core:2 PU:2"], input.to_vec(alloc)?)?;
+    let text = b"turn 0 caller 0 pu 0 climb 0 tests 0 left 0 \"set a 5 0 1\\r\\nx\\r\\n\" \"STORED\\r\\n\"\n\
+          turn 1 caller 1 pu 1 climb 0 tests 0 left 0 \"get a\\r\\n\" \"VALUE a 5 1\\r\\nx\\r\\nEND\\r\\n\"\n\
+          caller 0 pu 0 commands 1 rest 0\n\
+          caller 1 pu 1 commands 1 rest 0\n";
+    assert_eq!(rt; ended.status, Status::Ok);
+    assert_eq!(rt; ended.out.as_slice(), text.as_slice());
+    let ended = call(&rt, alloc, &["run", "PU:0"], input.to_vec(alloc)?)?;
+    assert_eq!(rt; ended.status.code(), 3);
+    assert_eq!(rt; ended.err.as_slice(), b"clof: synth BadArity 0\n".as_slice());
     Ok(())
 }
 
@@ -138,7 +183,7 @@ fn refuses_other_words(rt: HostRuntime) -> Result<(), Fail> {
         &["topo", "-", "PU:1"],
         &[],
         &["frob"],
-        &["run", "PU:1"],
+        &["run", "--walk"],
         &["Run"],
         &[""],
         &["set"],
@@ -330,12 +375,24 @@ fn long_input(alloc: Global, length: usize) -> Result<Vec<u8>, Fail> {
 #[test]
 fn takes_values_and_keys_up_to_their_limits(rt: HostRuntime) -> Result<(), Fail> {
     let alloc = rt.alloc();
-    let cases = [
-        (250, 1_048_576, Status::Ok),
-        (251, 1_048_576, NOT_YET),
-        (250, 1_048_577, NOT_YET),
+    let cases: [(usize, usize, &[u8]); 3] = [
+        (
+            250,
+            1_048_576,
+            b"\" \"STORED\\r\\n\"\ncaller 0 pu 0 commands 1 rest 0\n",
+        ),
+        (
+            251,
+            1_048_576,
+            b"\" \"ERROR\\r\\n\"\ncaller 0 pu 0 commands 2 rest 0\n",
+        ),
+        (
+            250,
+            1_048_577,
+            b"\" \"SERVER_ERROR object too large for cache\\r\\n\"\ncaller 0 pu 0 commands 1 rest 0\n",
+        ),
     ];
-    for (key, value, status) in cases {
+    for (key, value, end) in cases {
         let mut section = Vec::new(alloc);
         section.extend_from_slice(b"set ")?;
         section.extend_from_slice(&filled(alloc, b'k', key)?)?;
@@ -347,14 +404,8 @@ fn takes_values_and_keys_up_to_their_limits(rt: HostRuntime) -> Result<(), Fail>
         let mut input = Vec::new(alloc);
         push_input(&mut input, &section)?;
         let ended = call(&rt, alloc, &["run"], input)?;
-        assert_eq!(rt; ended.status, status);
-        if ended.status == Status::Ok {
-            assert!(rt;
-                ended
-                    .out
-                    .ends_with(b"\" \"STORED\\r\\n\"\ncaller 0 pu 0 commands 1 rest 0\n")
-            );
-        }
+        assert_eq!(rt; ended.status, Status::Ok);
+        assert!(rt; ended.out.ends_with(end));
     }
     serves(&rt, alloc, b"set k 0 0 4294967295\r\nx\r\n", &[], 25)
 }

@@ -3,4 +3,5 @@ pub mod Escapes
 pub mod Numbered
 pub mod Runs
 pub mod Texts
+pub mod Uniqueness
 pub mod Walks

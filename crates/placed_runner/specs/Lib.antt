@@ -5,3 +5,4 @@ pub mod Running
 pub mod Text
 pub mod Entries
 pub mod Views
+pub mod Laws

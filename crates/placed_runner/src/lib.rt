@@ -4,6 +4,7 @@
 mod escape;
 mod fault;
 mod heads;
+mod laws;
 mod lines;
 mod place;
 mod printing;
@@ -11,6 +12,10 @@ mod running;
 mod sections;
 
 pub use fault::SectionFault;
+pub use laws::one_answer;
 pub use printing::text;
 pub use running::run_in_order;
 pub use sections::{Section, read_sections};
+
+#[cfg(test)]
+mod tests;

@@ -1,0 +1,23 @@
+-- What holds of every input.
+use Rattle.std.specs.Prelude.{◌≡◌, ℕ, List}
+use Rattle.synth_text.specs.declared.description.Description.{Description}
+use Rattle.placed_runner.specs.declared.fault.SectionFault.{SectionFault}
+use Rattle.placed_runner.specs.Sections.{Placed, Sections, IsRefused}
+
+-- at most one list of sections fits an input
+abbrev pub OneReading : Type 0
+OneReading =
+    (described : Description) (input : List ℕ) (sections others : List Placed) → Sections described input sections
+    → Sections described input others → sections ≡ others
+
+-- at most one refusal does
+abbrev pub OneRefusal : Type 0
+OneRefusal =
+    (described : Description) (input : List ℕ) (fault other : SectionFault) → IsRefused described input fault
+    → IsRefused described input other → fault ≡ other
+
+-- and not both
+abbrev pub NotBoth : Type 0
+NotBoth =
+    (described : Description) (input : List ℕ) (sections : List Placed) (fault : SectionFault) → Sections described input sections
+    → IsRefused described input fault → ⊥
