@@ -14,4 +14,3 @@ pub mod Texts
 pub mod CanonicalReading
 pub mod CanonicalItems
 pub mod CanonicalRules
-pub mod Refusals

@@ -24,7 +24,8 @@ loop_of piece =
 -- what each piece says, where each says something
 abbrev pub entries_of : {X : Type 0} → (List ℕ → Option X) → List (List ℕ) → Option (List X)
 entries_of reading [] = Some []
-entries_of reading (piece ∷ rest) = option_and_then (λ entry. option_map (λ entries. entry ∷ entries) (entries_of reading rest)) (reading piece)
+entries_of reading (piece ∷ rest) =
+    option_and_then (λ entry. option_map (λ entries. entry ∷ entries) (entries_of reading rest)) (reading piece)
 
 -- what a value says; one with a `*` is of loops
 unfoldable pub indexes_of : List ℕ → Option Indexes

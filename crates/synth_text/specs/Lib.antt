@@ -1,3 +1,4 @@
+pub mod Limits
 pub mod Kinds
 pub mod Names
 pub mod Tables
@@ -13,4 +14,4 @@ pub mod Descriptions
 pub mod Sound
 pub mod Canonical
 pub mod Laws
-pub mod Outcomes
+pub mod Faults

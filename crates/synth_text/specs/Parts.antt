@@ -98,7 +98,8 @@ named_memory name behind = do
 -- what stands in brackets: white space, a name as far as letters and digits go, and attributes
 unfoldable pub memory_in_brackets : List ℕ → Result Part Flaw
 memory_in_brackets text =
-    named_memory (take_while is_ascii_alphanumeric (without_front is_white text)) (without_front is_ascii_alphanumeric (without_front is_white text))
+    named_memory (take_while is_ascii_alphanumeric (without_front is_white text))
+    (without_front is_ascii_alphanumeric (without_front is_white text))
 
 -- what stands behind a `[`, up to the first `]`
 abbrev pub cut_memory : List ℕ × Option (List ℕ) → Result Part Flaw

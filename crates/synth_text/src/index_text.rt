@@ -7,7 +7,7 @@ ghost use Rattle.synth_text.specs.Flaws.{Gives, or_flaw};
 ghost use Rattle.synth_text.specs.IndexTexts.{index_of, loop_of, entries_of, indexes_of};
 
 use crate::description::{Indexes, Loop};
-use crate::fault::Flaw;
+use crate::fault::{Flaw, Unread};
 use byte_text::{Class, cut, first_piece, number_in};
 use sequence::Sequence;
 use std::alloc::Global;
@@ -46,7 +46,11 @@ impl Entry for Loop {
 }
 
 // What the pieces of a value between its separators say.
-fn read_entries<E: Entry>(alloc: Global, text: &[u8], separator: u8) -> Result<Sequence<E>, Flaw>
+fn read_entries<E: Entry>(
+    alloc: Global,
+    text: &[u8],
+    separator: u8,
+) -> Result<Sequence<E>, Unread<Flaw>>
     ensures { Gives result (or_flaw flaws.Indexes (entries_of E.says (slice_split (λ byte. byte == separator) text.now))) }
 {
     let mut entries = Vec::new(alloc);
@@ -62,7 +66,7 @@ fn read_entries<E: Entry>(alloc: Global, text: &[u8], separator: u8) -> Result<S
 
 /// What a value of `indexes` says.
 #[tactic(auto, unfolding(crate::specs::IndexTexts::indexes_of))]
-pub fn read_indexes(alloc: Global, text: &[u8]) -> Result<Indexes, Flaw>
+pub fn read_indexes(alloc: Global, text: &[u8]) -> Result<Indexes, Unread<Flaw>>
     ensures { Gives result (or_flaw flaws.Indexes (indexes_of text.now)) }
 {
     if text.contains(&b'*') {

@@ -33,7 +33,8 @@ pub fn items(alloc: Global, text: &[u8]) -> Result<Vec<Item>, AllocError>
 // The first item from a place on.
 fn next_item(text: &[u8], from: usize) -> Option<Item>
     requires { from ≤ length text.now }
-    ensures { MatchOption result (IsGap text.now from (length text.now)) (λ item. (from ≤ item.start) × IsGap text.now from item.start × IsItem text.now item) }
+    ensures { MatchOption result (IsGap text.now from (length text.now))
+        (λ item. (from ≤ item.start) × IsGap text.now from item.start × IsItem text.now item) }
 {
     let start = gap_end(text, from);
     if start == text.len() {

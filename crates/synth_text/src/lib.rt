@@ -19,7 +19,7 @@ mod table;
 mod writing;
 
 pub use description::{Description, Indexes, Level, Loop, Memory};
-pub use fault::SynthFault;
+pub use fault::{SynthFault, SynthRule};
 pub use kind::Kind;
 pub use laws::{canonical_text_describes, described_is_sound, exactly_one_applies};
 pub use name::{Name, read_name};

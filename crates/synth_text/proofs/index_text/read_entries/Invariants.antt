@@ -11,7 +11,8 @@ use Rattle.synth_text.proofs.index_text.read_entries.Given as goal
 -- what was said so far, and what the rest says
 abbrev pub invariant-loop-rest : goal.invariant-loop-rest
 invariant-loop-rest g l =
-    after l.entries.items (entries_of g.E.Entry.says (pieces (λ byte. byte == l.separator) (text_at l.rest))) ≡ entries_of g.E.Entry.says (slice_split (λ byte. byte == l.separator) l.fn.text)
+    after l.entries.items (entries_of g.E.Entry.says (pieces (λ byte. byte == l.separator) (text_at l.rest))) ≡ entries_of g.E.Entry.says
+    (slice_split (λ byte. byte == l.separator) l.fn.text)
 
 abbrev pub decreases-loop-rest : goal.decreases-loop-rest
 decreases-loop-rest g l = left (text_at l.rest)
