@@ -1,5 +1,37 @@
 -- The computed reading of a level item is how it is spelled.
-use Rattle.std.proofs.Common.{◌≡◌, ℕ, ◌≤◌, ◌-◌, ◌^◌, Bool, true, false, cond, ◌&&◌, List, [], ◌∷◌, ◌++◌, Option, Some, None, Ok, refl, sym, ap, subst, ◌∙◌, inl, inr, zero, suc, ◌<◌, length, get_or, arith}
+use Rattle.std.proofs.Common.{
+  ◌≡◌,
+  ℕ,
+  ◌≤◌,
+  ◌-◌,
+  ◌^◌,
+  Bool,
+  true,
+  false,
+  cond,
+  ◌&&◌,
+  List,
+  [],
+  ◌∷◌,
+  ◌++◌,
+  Option,
+  Some,
+  None,
+  Ok,
+  refl,
+  sym,
+  ap,
+  subst,
+  ◌∙◌,
+  inl,
+  inr,
+  zero,
+  suc,
+  ◌<◌,
+  length,
+  get_or,
+  arith,
+}
 use Rattle.std.specs.Prelude.{◌==◌, nat_le, not, is_some, IsSome, option_map, Contains, codes}
 use Rattle.std.specs.List.{list_all, slice_split}
 use Rattle.std.specs.Option.{option_or}
@@ -46,7 +78,20 @@ use Rattle.synth_text.specs.Attributes.{
   attributes_of,
 }
 use Rattle.synth_text.specs.Parts.{level_name, with_arity, cut_head, head_of, level_part, cut_level, level_of}
-use Rattle.synth_spelling.specs.Spelling.{IsNumber, NamesLevel, SpellsHead, key_text, IsValue, IsWord, AreWords, SpellsWords, SpellsEnclosed, SpellsAttributes, IsFront, SpellsLevel}
+use Rattle.synth_spelling.specs.Spelling.{
+  IsNumber,
+  NamesLevel,
+  SpellsHead,
+  key_text,
+  IsValue,
+  IsWord,
+  AreWords,
+  SpellsWords,
+  SpellsEnclosed,
+  SpellsAttributes,
+  IsFront,
+  SpellsLevel,
+}
 use Rattle.synth_text.proofs.Bound.{ok_is, some_is, bind_ok, or_flaw-ok, guard_ok, guard_some, option_map_some}
 
 -- ---- cuts at a byte

@@ -1,6 +1,30 @@
 -- How items are spelled: of which bytes an item is made that says this or that. `specs/Parts.antt` tells the same by reading an item
 -- from the left; the laws say that the two agree.
-use Rattle.std.specs.Prelude.{◌≡◌, ◌≢◌, ◌⊎◌, ◌↔◌, ℕ, ◌≤◌, ◌-◌, ◌^◌, Bool, true, false, List, [], ◌∷◌, ◌++◌, codes, drop, Contains, Option, Some, None, IsSome, Ok}
+use Rattle.std.specs.Prelude.{
+  ◌≡◌,
+  ◌≢◌,
+  ◌⊎◌,
+  ◌↔◌,
+  ℕ,
+  ◌≤◌,
+  ◌-◌,
+  ◌^◌,
+  Bool,
+  true,
+  false,
+  List,
+  [],
+  ◌∷◌,
+  ◌++◌,
+  codes,
+  drop,
+  Contains,
+  Option,
+  Some,
+  None,
+  IsSome,
+  Ok,
+}
 use Rattle.std.specs.Char.{is_ascii_alphanumeric}
 use Rattle.std.specs.List.{list_all, slice_split}
 use Rattle.std.specs.Str.Parse.{IsNumeral, digits_value}
