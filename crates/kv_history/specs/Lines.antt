@@ -16,6 +16,8 @@ use Rattle.kv_history.specs.declared.reply_line.FixedLine.TheVariants.{
   TooLarge,
   Fault,
 }
+use Rattle.mc_text.specs.Request as asked
+use Rattle.mc_text.specs.Request.{Request}
 use Rattle.kv_history.specs.Answer.{fault_words}
 
 abbrev pub words_of : FixedLine → List ℕ
@@ -37,3 +39,9 @@ fixed_line line = words_of line ++ codes "\r\n"
 abbrev pub written_line : ReplyLine → List ℕ
 written_line (Fixed line) = fixed_line line
 written_line (Number number) = decimal number ++ codes "\r\n"
+
+-- the reply to a request is one line at most
+abbrev pub HasLine : Request → Type 0
+HasLine (asked.Store storing) = ⊥
+HasLine (asked.Get uniques keys) = ⊥
+HasLine _ = Unit {0}

@@ -90,8 +90,8 @@ pub record Turn : Type 0 where
 
 -- the command of a caller that stands behind those of its entries
 abbrev pub next_command : List (List ℕ) → List Logged → ℕ → WholeCommand
-next_command sections entries caller =
-    slice_index_or (commands_of (slice_index_or sections caller [])) (length (own entries caller)) (record { request = Quit; spelling = [] })
+next_command sections entries caller = let section = slice_index_or sections caller [] in
+    slice_index_or (commands_of section) (length (own entries caller)) (record { request = Quit; spelling = [] })
 
 abbrev pub next_entry : List (List ℕ) → List Logged → Turn → Logged
 next_entry sections entries turn = let command = next_command sections entries turn.caller in

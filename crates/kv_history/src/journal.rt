@@ -1,13 +1,13 @@
 // The journal.
-ghost use Rattle.std.specs.Prelude.{◌≡◌, ◌^◌, ◌<◌, ◌≤◌, ◌↔◌, ◌++◌, ◌∷◌, [], length, map, option_map, slice_get, slice_range, sum_by, take, vec_capacity};
-ghost use Rattle.std.specs.Prelude.{vec_len, not, IfOk, IsTrue, OnErr, OnOk, Some};
+ghost use Rattle.std.specs.Prelude.{◌≡◌, ◌^◌, ◌<◌, ◌≤◌, ◌↔◌, ◌++◌, ◌∷◌, [], length, map, option_map, slice_get, slice_range};
+ghost use Rattle.std.specs.Prelude.{sum_by, take, vec_capacity, vec_len, not, IfOk, IsTrue, OnErr, OnOk, Some};
 ghost use Rattle.std.specs.Bool.{OnTrue};
 ghost use Rattle.std.specs.List.{list_all};
 ghost use Rattle.mc_text.specs.Request.{request_of, view};
 ghost use Rattle.mc_text.specs.Reading.{commands_of};
 ghost use Rattle.kv_history.specs.Answer.{store_after};
-ghost use Rattle.kv_history.specs.Log.{IsNext, IsOneThread, NoneVoid, VoidIsSilent, EachHasSection, EachOwnFirst, IsHistory, all_replies, applied, applied_entry};
-ghost use Rattle.kv_history.specs.Log.{void_entry, store_now};
+ghost use Rattle.kv_history.specs.Log.{IsNext, IsOneThread, NoneVoid, VoidIsSilent, EachHasSection, EachOwnFirst, IsHistory};
+ghost use Rattle.kv_history.specs.Log.{all_replies, applied, applied_entry, void_entry, store_now};
 
 use crate::Store;
 use crate::record::Record;

@@ -1,10 +1,11 @@
 // The store.
-ghost use Rattle.std.specs.Prelude.{◌≡◌, ℕ, List, ◌++◌, codes, IfOk, OnErr, OnOk, option_map};
+ghost use Rattle.std.specs.Prelude.{◌≡◌, ℕ, ◌+◌, ◌≤◌, List, ◌++◌, codes, OnErr, OnOk, option_map, vec_capacity, vec_len};
 ghost use Rattle.std.specs.FinMap as map;
 ghost use Rattle.std.specs.List.{flat_map};
 ghost use Rattle.mc_text.specs.Keys.{keys_left};
 ghost use Rattle.mc_text.specs.Request.{request_of};
 ghost use Rattle.kv_history.specs.Contents.{empty_store};
+ghost use Rattle.kv_history.specs.Lines.{HasLine};
 ghost use Rattle.kv_history.specs.Answer.{reply_of, store_after, written_key};
 
 use crate::items::Items;
@@ -77,6 +78,30 @@ impl Store {
                 tell(reply, quiet, ReplyLine::Fixed(line))
             }
             Command::Get { uniques, keys, .. } => self.give(uniques, keys, reply),
+            _ => self.answer_in_line(command, reply),
+        }
+    }
+
+    /// The value of a key's item; `None` where the key is absent.
+    pub fn block(&self, key: &[u8]) -> Option<&[u8]>
+        ensures { option_map (λ block. block.now) result ≡ option_map (λ item. item.block) (map.get self.now.items key.now) }
+    {
+        let item = self.items.get(key)?;
+        Some(&item.block)
+    }
+
+    // Appends the reply to a command whose reply is one line at most, and changes the store as the command asks. The reply
+    // has room for a line.
+    fn answer_in_line(&mut self, command: &Command<'_>, reply: &mut Vec<u8>) -> Result<(), OutOfMemory>
+        requires line { HasLine (request_of command.now) }
+        requires room { vec_len reply.old + 64 ≤ vec_capacity reply.old }
+        ensures reply { OnOk result (reply.new.items ≡ reply.old.items ++ reply_of self.old (request_of command.now)) }
+        ensures store { OnOk result (self.new ≡ store_after self.old (request_of command.now)) }
+        ensures reply_stays { OnErr result (reply.new.items ≡ reply.old.items) }
+        ensures store_stays { OnErr result (self.new ≡ self.old) }
+    {
+        match *command {
+            Command::Store { .. } | Command::Get { .. } => unreachable!(),
             Command::Delete { key, quiet, .. } => {
                 let line = self.delete(key);
                 tell(reply, quiet, ReplyLine::Fixed(line))
@@ -113,14 +138,6 @@ impl Store {
                 tell(reply, false, ReplyLine::Fixed(FixedLine::Fault(fault)))
             }
         }
-    }
-
-    /// The value of a key's item; `None` where the key is absent.
-    pub fn block(&self, key: &[u8]) -> Option<&[u8]>
-        ensures { option_map (λ block. block.now) result ≡ option_map (λ item. item.block) (map.get self.now.items key.now) }
-    {
-        let item = self.items.get(key)?;
-        Some(&item.block)
     }
 
     // Appends the reply to a retrieval command. Without memory the reply stays.

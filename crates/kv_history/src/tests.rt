@@ -72,7 +72,8 @@ fn stores_by_what_the_key_has(rt: HostRuntime) -> Result<(), Fail> {
         ),
         (
             b"set a 1 0 1\r\nx\r\nset b 2 0 1\r\ny\r\nset c 3 0 1\r\nz\r\ndelete a\r\ndelete a\r\ngets c a b d c\r\n",
-            b"STORED\r\nSTORED\r\nSTORED\r\nDELETED\r\nNOT_FOUND\r\nVALUE c 3 1 3\r\nz\r\nVALUE b 2 1 2\r\ny\r\nVALUE c 3 1 3\r\nz\r\nEND\r\n",
+            b"STORED\r\nSTORED\r\nSTORED\r\nDELETED\r\nNOT_FOUND\r\nVALUE c 3 1 3\r\nz\r\nVALUE b 2 1 2\r\ny\r\n\
+              VALUE c 3 1 3\r\nz\r\nEND\r\n",
         ),
     ];
     for (section, wanted) in cases {
@@ -107,15 +108,20 @@ fn counts_within_64_bits(rt: HostRuntime) -> Result<(), Fail> {
         ),
         (
             b"set n 0 0 21\r\n000000000000000000001\r\nincr n 1\r\ndecr n 1\r\ngets n\r\n",
-            b"STORED\r\nCLIENT_ERROR cannot increment or decrement non-numeric value\r\nCLIENT_ERROR cannot increment or decrement non-numeric value\r\nVALUE n 0 21 1\r\n000000000000000000001\r\nEND\r\n",
+            b"STORED\r\nCLIENT_ERROR cannot increment or decrement non-numeric value\r\n\
+              CLIENT_ERROR cannot increment or decrement non-numeric value\r\nVALUE n 0 21 1\r\n\
+              000000000000000000001\r\nEND\r\n",
         ),
         (
             b"set n 0 0 20\r\n18446744073709551616\r\nincr n 1\r\nset n 0 0 0\r\n\r\ndecr n 1\r\n",
-            b"STORED\r\nCLIENT_ERROR cannot increment or decrement non-numeric value\r\nSTORED\r\nCLIENT_ERROR cannot increment or decrement non-numeric value\r\n",
+            b"STORED\r\nCLIENT_ERROR cannot increment or decrement non-numeric value\r\nSTORED\r\n\
+              CLIENT_ERROR cannot increment or decrement non-numeric value\r\n",
         ),
         (
             b"set n 0 0 2\r\n+1\r\nincr n 1\r\nset n 0 0 2\r\n1 \r\nincr n 1\r\nset n 0 0 2\r\n1a\r\ndecr n 1\r\n",
-            b"STORED\r\nCLIENT_ERROR cannot increment or decrement non-numeric value\r\nSTORED\r\nCLIENT_ERROR cannot increment or decrement non-numeric value\r\nSTORED\r\nCLIENT_ERROR cannot increment or decrement non-numeric value\r\n",
+            b"STORED\r\nCLIENT_ERROR cannot increment or decrement non-numeric value\r\nSTORED\r\n\
+              CLIENT_ERROR cannot increment or decrement non-numeric value\r\nSTORED\r\n\
+              CLIENT_ERROR cannot increment or decrement non-numeric value\r\n",
         ),
     ];
     for (section, wanted) in cases {
@@ -149,7 +155,8 @@ fn lets_items_expire_at_once_where_the_time_is_negative(rt: HostRuntime) -> Resu
             b"NOT_FOUND\r\nSTORED\r\nTOUCHED\r\nTOUCHED\r\nVALUE k 1 1 1\r\na\r\nEND\r\nTOUCHED\r\nEND\r\nNOT_FOUND\r\n",
         ),
         (
-            b"set a 0 0 1\r\nx\r\nset b 0 0 1\r\ny\r\nflush_all\r\nget a b\r\nset a 0 0 1\r\nz\r\ngets a\r\nflush_all 0\r\ngets a\r\n",
+            b"set a 0 0 1\r\nx\r\nset b 0 0 1\r\ny\r\nflush_all\r\nget a b\r\nset a 0 0 1\r\nz\r\ngets a\r\n\
+              flush_all 0\r\ngets a\r\n",
             b"STORED\r\nSTORED\r\nOK\r\nEND\r\nSTORED\r\nVALUE a 0 1 3\r\nz\r\nEND\r\nOK\r\nEND\r\n",
         ),
     ];
@@ -164,11 +171,14 @@ fn lets_items_expire_at_once_where_the_time_is_negative(rt: HostRuntime) -> Resu
 fn leaves_out_the_replies_of_quiet_commands_alone(rt: HostRuntime) -> Result<(), Fail> {
     let cases: [(&[u8], &[u8]); 5] = [
         (
-            b"set k 1 0 1 noreply\r\n1\r\nadd k 1 0 1 noreply\r\n2\r\nreplace k 2 0 1 noreply\r\n3\r\nappend k 0 0 1 noreply\r\n4\r\nprepend k 0 0 1 noreply\r\n5\r\ncas k 3 0 1 9 noreply\r\n6\r\nincr k 2 noreply\r\ndecr k 1 noreply\r\ntouch k 5 noreply\r\nverbosity 1 noreply\r\ngets k\r\n",
+            b"set k 1 0 1 noreply\r\n1\r\nadd k 1 0 1 noreply\r\n2\r\nreplace k 2 0 1 noreply\r\n3\r\n\
+              append k 0 0 1 noreply\r\n4\r\nprepend k 0 0 1 noreply\r\n5\r\ncas k 3 0 1 9 noreply\r\n6\r\n\
+              incr k 2 noreply\r\ndecr k 1 noreply\r\ntouch k 5 noreply\r\nverbosity 1 noreply\r\ngets k\r\n",
             b"VALUE k 2 3 6\r\n535\r\nEND\r\n",
         ),
         (
-            b"set k 0 0 1 noreply\r\n1\r\ndelete k noreply\r\nget k\r\nset k 0 0 1 noreply\r\n1\r\nflush_all noreply\r\nget k\r\nflush_all 0 noreply\r\n",
+            b"set k 0 0 1 noreply\r\n1\r\ndelete k noreply\r\nget k\r\nset k 0 0 1 noreply\r\n1\r\n\
+              flush_all noreply\r\nget k\r\nflush_all 0 noreply\r\n",
             b"END\r\nEND\r\n",
         ),
         (
@@ -177,7 +187,8 @@ fn leaves_out_the_replies_of_quiet_commands_alone(rt: HostRuntime) -> Result<(),
         ),
         (
             b"frob\r\nset k x 0 1 noreply\r\nincr k x noreply\r\nset k 0 0 1 noreply\r\nxy\r\nincr k -1\r\nget k\r\n",
-            b"ERROR\r\nCLIENT_ERROR bad command line format\r\nCLIENT_ERROR invalid numeric delta argument\r\nCLIENT_ERROR bad data chunk\r\nCLIENT_ERROR invalid numeric delta argument\r\nEND\r\n",
+            b"ERROR\r\nCLIENT_ERROR bad command line format\r\nCLIENT_ERROR invalid numeric delta argument\r\n\
+              CLIENT_ERROR bad data chunk\r\nCLIENT_ERROR invalid numeric delta argument\r\nEND\r\n",
         ),
         (
             b"set k 0 0 1\r\nxy\r\nget k\r\n",
@@ -193,7 +204,8 @@ fn leaves_out_the_replies_of_quiet_commands_alone(rt: HostRuntime) -> Result<(),
 
 #[test]
 fn keeps_a_journal(rt: HostRuntime) -> Result<(), Fail> {
-    let section = b"set n 0 0 20\r\n18446744073709551615\r\nincr n 1\r\ndecr n 5\r\ncas n 0 0 1 1\r\n7\r\ncas n 0 0 1 3\r\n7\r\ngets n\r\nset n 0 0 1 noreply\r\n8\r\nget n";
+    let section = b"set n 0 0 20\r\n18446744073709551615\r\nincr n 1\r\ndecr n 5\r\ncas n 0 0 1 1\r\n7\r\n\
+        cas n 0 0 1 3\r\n7\r\ngets n\r\nset n 0 0 1 noreply\r\n8\r\nget n";
     let journal = applied(rt.alloc(), section)?;
     assert_eq!(rt; journal.entries(), 7);
     assert!(rt; journal.whole());
@@ -237,7 +249,8 @@ fn keeps_the_limit_of_a_value(rt: HostRuntime) -> Result<(), Fail> {
         (
             b"1048576",
             1_048_576,
-            b"STORED\r\nSERVER_ERROR object too large for cache\r\nSERVER_ERROR object too large for cache\r\nVALUE k 5 1048576 1\r\nxxxx",
+            b"STORED\r\nSERVER_ERROR object too large for cache\r\nSERVER_ERROR object too large for cache\r\n\
+              VALUE k 5 1048576 1\r\nxxxx",
             b"xxxx\r\nEND\r\n",
         ),
         (
