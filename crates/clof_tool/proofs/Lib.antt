@@ -1,5 +1,2 @@
 pub mod Codes
-pub mod OnTopologies
-pub mod Masks
 pub mod Stops
-pub mod Topologies

@@ -3,11 +3,11 @@ use Rattle.std.proofs.Common.{◌≡◌, ◌⊎◌, ℕ, List, Ok, Err, inl, inr
 use Rattle.std.specs.Prelude.{Result, IsOk}
 use Rattle.synth_text.specs.declared.description.Description.{Description}
 use Rattle.synth_text.specs.Descriptions.{Describes}
-use Rattle.clof_tool.specs.declared.status.Status.{Status}
-use Rattle.clof_tool.specs.declared.status.Status.TheVariants.{Ok as OkStatus, Usage, Malformed, Limit, ReadFault, WriteFault, OutOfMemory}
-use Rattle.clof_tool.specs.OnTopology.{RefusesOn}
-use Rattle.clof_tool.specs.Outcome.{EndsEarly, HasWritten}
-use Rattle.clof_tool.specs.TopoText.{IsBuilt, TopoRefuses}
+use Rattle.command_texts.specs.declared.status.Status.{Status}
+use Rattle.command_texts.specs.declared.status.Status.TheVariants.{Ok as OkStatus, Usage, Malformed, Limit, ReadFault, WriteFault, OutOfMemory}
+use Rattle.command_texts.specs.OnTopology.{RefusesOn}
+use Rattle.command_texts.specs.Ends.{EndsEarly, HasWritten}
+use Rattle.command_texts.specs.TopoText.{IsBuilt, TopoRefuses}
 
 module _ {T U : Type 0} where
   -- the same status, where nothing is built and where nothing is printed

@@ -10,9 +10,9 @@ use Rattle.synth_text.specs.Faults.{SynthRefused}
 use Rattle.topo_tree.specs.declared.fault.BuildFault.{BuildFault}
 use Rattle.topo_tree.specs.declared.fault.BuildFault.TheVariants as build
 use Rattle.topo_tree.specs.Building.{build_fault}
-use Rattle.clof_tool.specs.declared.status.Status.{Status}
-use Rattle.clof_tool.specs.declared.status.Status.TheVariants.{OutOfMemory}
-use Rattle.clof_tool.specs.TopoText.{synth_status, build_status, IsBuilt, TopoRefuses}
+use Rattle.command_texts.specs.declared.status.Status.{Status}
+use Rattle.command_texts.specs.declared.status.Status.TheVariants.{OutOfMemory}
+use Rattle.command_texts.specs.TopoText.{synth_status, build_status, IsBuilt, TopoRefuses}
 
 -- what a reading answers
 abbrev pub read_as : Description → Result Description SynthFault

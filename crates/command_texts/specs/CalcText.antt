@@ -13,13 +13,13 @@ use Rattle.calc_text.specs.declared.answer.Answer.TheVariants as answers
 use Rattle.calc_text.specs.Reading.{layers_named, names_in, terms_from}
 use Rattle.calc_text.specs.Texts.{answer_text}
 use Rattle.command_words.specs.Asked.{Calculation, Question, TheSet, Intersect, NumberOf, Hierarchical, Largest}
-use Rattle.clof_tool.specs.declared.status.Fault.TheVariants.{Calc, TypeOf}
-use Rattle.clof_tool.specs.declared.status.OptionName.{OptionName}
-use Rattle.clof_tool.specs.declared.status.OptionName.TheVariants as options
-use Rattle.clof_tool.specs.declared.status.Status.{Status}
-use Rattle.clof_tool.specs.declared.status.Status.TheVariants as statuses
-use Rattle.clof_tool.specs.Chosen.{chosen}
-use Rattle.clof_tool.specs.OnTopology.{PrintsOn, RefusesOn}
+use Rattle.command_texts.specs.declared.status.Fault.TheVariants.{Calc, TypeOf}
+use Rattle.command_texts.specs.declared.status.OptionName.{OptionName}
+use Rattle.command_texts.specs.declared.status.OptionName.TheVariants as options
+use Rattle.command_texts.specs.declared.status.Status.{Status}
+use Rattle.command_texts.specs.declared.status.Status.TheVariants as statuses
+use Rattle.command_texts.specs.Chosen.{chosen}
+use Rattle.command_texts.specs.OnTopology.{PrintsOn, RefusesOn}
 
 -- what an option's types give, or the refusal of the option
 abbrev pub typed : {A : Type 0} → OptionName → Option A → Result A Status

@@ -9,14 +9,14 @@ use Rattle.distrib_rules.specs.declared.fault.DistribFault.{DistribFault}
 use Rattle.distrib_rules.specs.declared.fault.DistribFault.TheVariants as faults
 use Rattle.distrib_rules.specs.Faults.{fault_of}
 use Rattle.distrib_rules.specs.Masks.{distribution}
-use Rattle.clof_tool.specs.declared.status.Fault.TheVariants.{Distrib, TypeOf}
-use Rattle.clof_tool.specs.declared.status.OptionName.{OptionName}
-use Rattle.clof_tool.specs.declared.status.OptionName.TheVariants as options
-use Rattle.clof_tool.specs.declared.status.Status.{Status}
-use Rattle.clof_tool.specs.declared.status.Status.TheVariants as statuses
+use Rattle.command_texts.specs.declared.status.Fault.TheVariants.{Distrib, TypeOf}
+use Rattle.command_texts.specs.declared.status.OptionName.{OptionName}
+use Rattle.command_texts.specs.declared.status.OptionName.TheVariants as options
+use Rattle.command_texts.specs.declared.status.Status.{Status}
+use Rattle.command_texts.specs.declared.status.Status.TheVariants as statuses
 use Rattle.command_words.specs.Asked.{Depths, Between, At, Distribution}
-use Rattle.clof_tool.specs.Chosen.{chosen}
-use Rattle.clof_tool.specs.OnTopology.{PrintsOn, RefusesOn}
+use Rattle.command_texts.specs.Chosen.{chosen}
+use Rattle.command_texts.specs.OnTopology.{PrintsOn, RefusesOn}
 
 abbrev pub mask_line : (single taskset : Bool) → List ℕ → List ℕ
 mask_line single taskset set = set_text taskset (chosen single set) ++ 10 ∷ []

@@ -12,12 +12,12 @@ use Rattle.synth_text.specs.declared.fault.SynthFault.{SynthFault}
 use Rattle.synth_text.specs.declared.fault.SynthFault.TheVariants as synth
 use Rattle.topo_tree.specs.declared.fault.BuildFault.{BuildFault}
 use Rattle.topo_tree.specs.declared.fault.BuildFault.TheVariants as build
-use Rattle.clof_tool.specs.declared.status.Fault.{Fault}
-use Rattle.clof_tool.specs.declared.status.Fault.TheVariants as faults
-use Rattle.clof_tool.specs.declared.status.OptionName.{OptionName}
-use Rattle.clof_tool.specs.declared.status.OptionName.TheVariants as options
-use Rattle.clof_tool.specs.declared.status.Status.{Status}
-use Rattle.clof_tool.specs.declared.status.Status.TheVariants as statuses
+use Rattle.command_texts.specs.declared.status.Fault.{Fault}
+use Rattle.command_texts.specs.declared.status.Fault.TheVariants as faults
+use Rattle.command_texts.specs.declared.status.OptionName.{OptionName}
+use Rattle.command_texts.specs.declared.status.OptionName.TheVariants as options
+use Rattle.command_texts.specs.declared.status.Status.{Status}
+use Rattle.command_texts.specs.declared.status.Status.TheVariants as statuses
 
 -- a text, a space and a number
 abbrev pub with_number : List ℕ → ℕ → List ℕ

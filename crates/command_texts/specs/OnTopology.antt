@@ -1,8 +1,8 @@
 -- How a command is answered that asks something of a topology.
 use Rattle.std.specs.Prelude.{◌≡◌, ◌⊎◌, ℕ, List, Result, Ok, Err}
 use Rattle.synth_text.specs.declared.description.Description.{Description}
-use Rattle.clof_tool.specs.declared.status.Status.{Status}
-use Rattle.clof_tool.specs.TopoText.{IsBuilt, TopoRefuses}
+use Rattle.command_texts.specs.declared.status.Status.{Status}
+use Rattle.command_texts.specs.TopoText.{IsBuilt, TopoRefuses}
 
 -- the text describes something that is built, and this is the answer on it
 pub record AnswersOn (text : List ℕ) (on : Description → Result (List ℕ) Status) (answer : Result (List ℕ) Status) : Type 0 where

@@ -1,7 +1,7 @@
 -- The exit status of the process.
 use Rattle.std.specs.Prelude.{ℕ}
-use Rattle.clof_tool.specs.declared.status.Status.{Status}
-use Rattle.clof_tool.specs.declared.status.Status.TheVariants.{Ok, Usage, Malformed, Limit, ReadFault, WriteFault, OutOfMemory}
+use Rattle.command_texts.specs.declared.status.Status.{Status}
+use Rattle.command_texts.specs.declared.status.Status.TheVariants.{Ok, Usage, Malformed, Limit, ReadFault, WriteFault, OutOfMemory}
 
 abbrev pub code_of : Status → ℕ
 code_of Ok = 0

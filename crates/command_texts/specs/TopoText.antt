@@ -10,9 +10,9 @@ use Rattle.topo_tree.specs.declared.fault.BuildFault.{BuildFault}
 use Rattle.topo_tree.specs.declared.fault.BuildFault.TheVariants as build
 use Rattle.topo_tree.specs.Building.{build_fault}
 use Rattle.topo_tree.specs.Lines.{topology_text}
-use Rattle.clof_tool.specs.declared.status.Fault.TheVariants.{Synth, Build}
-use Rattle.clof_tool.specs.declared.status.Status.{Status}
-use Rattle.clof_tool.specs.declared.status.Status.TheVariants as statuses
+use Rattle.command_texts.specs.declared.status.Fault.TheVariants.{Synth, Build}
+use Rattle.command_texts.specs.declared.status.Status.{Status}
+use Rattle.command_texts.specs.declared.status.Status.TheVariants as statuses
 
 -- the tree of a description, or its canonical text
 abbrev pub text_of : Bool → Description → List ℕ

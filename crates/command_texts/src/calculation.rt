@@ -3,10 +3,10 @@ ghost use Rattle.std.specs.Prelude.{◌≡◌, ◌⊎◌, ◌++◌, ◌∷◌, [
 ghost use Rattle.calc_text.specs.Layers.{HasLayers};
 ghost use Rattle.calc_text.specs.Texts.{answer_text};
 ghost use Rattle.command_words.specs.Plain.{plain_question, plain_calculation};
-ghost use Rattle.clof_tool.specs.declared.status.Fault.TheVariants.{TypeOf};
-ghost use Rattle.clof_tool.specs.declared.status.Status.{Status as AnyStatus};
-ghost use Rattle.clof_tool.specs.CalcText.{numbering_of, answer_for, calc_status, calc_on, PrintsCalc, CalcRefuses};
-ghost use Rattle.clof_tool.specs.Outcome.{EndsEarly};
+ghost use Rattle.command_texts.specs.declared.status.Fault.TheVariants.{TypeOf};
+ghost use Rattle.command_texts.specs.declared.status.Status.{Status as AnyStatus};
+ghost use Rattle.command_texts.specs.CalcText.{numbering_of, answer_for, calc_status, calc_on, PrintsCalc, CalcRefuses};
+ghost use Rattle.command_texts.specs.Ends.{EndsEarly};
 
 use crate::chosen::chosen;
 use crate::topology::topology;
@@ -20,7 +20,7 @@ use std::alloc::Global;
 use topo_tree::Topology;
 
 /// The answer on the set that locations select, or the status with which it is refused.
-pub(crate) fn calc_text(alloc: Global, asked: &Calculation<'_>) -> Result<Vec<u8>, Status>
+pub fn calc_text(alloc: Global, asked: &Calculation<'_>) -> Result<Vec<u8>, Status>
     ensures ok { IfOk result (λ printed. PrintsCalc (plain_calculation asked.now) printed.items) }
     ensures err { IfErr result (λ status. (status ≡ Status.OutOfMemory) ⊎ CalcRefuses (plain_calculation asked.now) status) }
     ensures refused { (status : AnyStatus) → CalcRefuses (plain_calculation asked.now) status →

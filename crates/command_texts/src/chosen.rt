@@ -1,11 +1,11 @@
 // What `--single` leaves of a set.
 ghost use Rattle.std.specs.Prelude.{◌≡◌, take};
-ghost use Rattle.clof_tool.specs.Chosen.{chosen};
+ghost use Rattle.command_texts.specs.Chosen.{chosen};
 
 use cpu_set::CpuSet;
 
 /// A set, or its first number alone.
-pub(crate) fn chosen(single: bool, set: &CpuSet) -> CpuSet
+pub fn chosen(single: bool, set: &CpuSet) -> CpuSet
     ensures { result ≡ chosen single set.now }
 {
     if single { first_alone(set) } else { *set }

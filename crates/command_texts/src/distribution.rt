@@ -2,12 +2,12 @@
 ghost use Rattle.std.specs.Prelude.{◌≡◌, ◌⊎◌, ◌<◌, ◌-◌, ◌++◌, ◌∷◌, [], ℕ, List, IfOk, IfErr, IfSome, IsOk, OnOk, MatchResult};
 ghost use Rattle.std.specs.Prelude.{Result as PlainResult};
 ghost use Rattle.topo_tree.specs.Objects.{depth_count};
-ghost use Rattle.clof_tool.specs.declared.status.OptionName.{OptionName as AnyOption};
-ghost use Rattle.clof_tool.specs.declared.status.Status.{Status as AnyStatus};
+ghost use Rattle.command_texts.specs.declared.status.OptionName.{OptionName as AnyOption};
+ghost use Rattle.command_texts.specs.declared.status.Status.{Status as AnyStatus};
 ghost use Rattle.command_words.specs.Plain.{plain_text, plain_depths, plain_distribution};
-ghost use Rattle.clof_tool.specs.DistribText.{mask_line, mask_lines, depth_of, span_of, distrib_status, answer_on};
-ghost use Rattle.clof_tool.specs.DistribText.{PrintsDistrib, DistribRefuses};
-ghost use Rattle.clof_tool.specs.Outcome.{EndsEarly};
+ghost use Rattle.command_texts.specs.DistribText.{mask_line, mask_lines, depth_of, span_of, distrib_status, answer_on};
+ghost use Rattle.command_texts.specs.DistribText.{PrintsDistrib, DistribRefuses};
+ghost use Rattle.command_texts.specs.Ends.{EndsEarly};
 
 use crate::chosen::chosen;
 use crate::topology::topology;
@@ -21,7 +21,7 @@ use std::alloc::{AllocError, Global};
 use topo_tree::Topology;
 
 /// The masks that are asked for, one a line, or the status with which they are refused.
-pub(crate) fn distrib_text(alloc: Global, asked: &Distribution<'_>) -> Result<Vec<u8>, Status>
+pub fn distrib_text(alloc: Global, asked: &Distribution<'_>) -> Result<Vec<u8>, Status>
     ensures ok { IfOk result (λ printed. PrintsDistrib (plain_distribution asked.now) printed.items) }
     ensures err { IfErr result (λ status. (status ≡ Status.OutOfMemory) ⊎ DistribRefuses (plain_distribution asked.now) status) }
     ensures refused { (status : AnyStatus) → DistribRefuses (plain_distribution asked.now) status →

@@ -1,8 +1,8 @@
 // The line that tells of a status, in room on the stack.
 ghost use Rattle.std.specs.Prelude.{◌≡◌, ◌≤◌, ◌+◌, ◌++◌, codes, length};
 ghost use Rattle.arrayvec.specs.ArrayString.{array_string_len};
-ghost use Rattle.clof_tool.specs.Line.{with_number, set_message, synth_message, build_message, calc_message, type_message, distrib_message};
-ghost use Rattle.clof_tool.specs.Line.{fault_message, line_with, line_of};
+ghost use Rattle.command_texts.specs.Line.{with_number, set_message, synth_message, build_message, calc_message, type_message, distrib_message};
+ghost use Rattle.command_texts.specs.Line.{fault_message, line_with, line_of};
 
 use crate::{Fault, OptionName, Status};
 use arrayvec::ArrayString;
@@ -18,11 +18,11 @@ use topo_tree::BuildFault;
 const ROOM: usize = 96;
 
 /// A line.
-pub(crate) type Line = ArrayString<ROOM>;
+pub type Line = ArrayString<ROOM>;
 
 /// The line that tells of a status that isn't Ok.
 #[tactic(auto, unfolding(crate::specs::Line::line_of))]
-pub(crate) fn line(status: &Status) -> Line
+pub fn line(status: &Status) -> Line
     ensures { result.bytes ≡ line_of status.now }
 {
     match status {

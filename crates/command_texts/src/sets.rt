@@ -1,8 +1,8 @@
 // What `set` prints.
 ghost use Rattle.std.specs.Prelude.{◌≡◌, ◌⊎◌, ◌++◌, ◌∷◌, [], IfErr, IfOk, IsOk, OnOk};
 ghost use Rattle.cpu_set.specs.declared.fault.SetFault.{SetFault as AnySetFault};
-ghost use Rattle.clof_tool.specs.declared.status.Fault.TheVariants.{Set as SetOf};
-ghost use Rattle.clof_tool.specs.SetText.{set_lines, Reads, IsRefused, PrintsSet};
+ghost use Rattle.command_texts.specs.declared.status.Fault.TheVariants.{Set as SetOf};
+ghost use Rattle.command_texts.specs.SetText.{set_lines, Reads, IsRefused, PrintsSet};
 
 use crate::{Fault, Status};
 use cpu_set::{CpuSet, SetFault};
@@ -10,7 +10,7 @@ use out_of_memory::OutOfMemory;
 use std::alloc::Global;
 
 /// The three lines of the set that a text tells, in hexadecimal or as a list, or the status with which it is refused.
-pub(crate) fn set_text(alloc: Global, list: bool, text: &[u8]) -> Result<Vec<u8>, Status>
+pub fn set_text(alloc: Global, list: bool, text: &[u8]) -> Result<Vec<u8>, Status>
     ensures ok { IfOk result (λ printed. PrintsSet list text.now printed.items) }
     ensures err { IfErr result (λ status. (status ≡ Status.OutOfMemory)
         ⊎ ((fault : AnySetFault) × (status ≡ Status.Malformed (SetOf fault)) × IsRefused list text.now fault)) }

@@ -78,7 +78,7 @@ pub enum Status {
 }
 
 impl Status {
-    ghost use Rattle.clof_tool.specs.Status.{code_of};
+    ghost use Rattle.command_texts.specs.Status.{code_of};
 
     /// The exit status of the process: 0 for Ok, and 2 to 7 for the others in their order.
     pub fn code(&self) -> u8

@@ -3,9 +3,9 @@ ghost use Rattle.std.specs.Prelude.{◌≡◌, ◌⊎◌, None, IfOk, IfErr, IsO
 ghost use Rattle.synth_text.specs.declared.description.Description.{Description as Described};
 ghost use Rattle.synth_text.specs.Descriptions.{Describes};
 ghost use Rattle.topo_tree.specs.Building.{build_fault};
-ghost use Rattle.clof_tool.specs.declared.status.Status.{Status as AnyStatus};
-ghost use Rattle.clof_tool.specs.TopoText.{synth_status, build_status, IsBuilt, TopoRefuses};
-ghost use Rattle.clof_tool.specs.Outcome.{EndsEarly};
+ghost use Rattle.command_texts.specs.declared.status.Status.{Status as AnyStatus};
+ghost use Rattle.command_texts.specs.TopoText.{synth_status, build_status, IsBuilt, TopoRefuses};
+ghost use Rattle.command_texts.specs.Ends.{EndsEarly};
 
 use crate::{Fault, Status};
 use std::alloc::Global;
@@ -13,7 +13,7 @@ use synth_text::{SynthFault, read};
 use topo_tree::{BuildFault, Topology};
 
 /// The topology that a text describes, or the status with which the text is refused.
-pub(crate) fn topology(alloc: Global, text: &[u8]) -> Result<Topology, Status>
+pub fn topology(alloc: Global, text: &[u8]) -> Result<Topology, Status>
     ensures ok { IfOk result (IsBuilt text.now) }
     ensures only { IfOk result (λ topology. (described : Described) → Describes text.now described → described ≡ topology) }
     ensures err { IfErr result (λ status. (status ≡ Status.OutOfMemory) ⊎ TopoRefuses text.now status) }

@@ -1,7 +1,7 @@
 // What `topo` prints.
 ghost use Rattle.std.specs.Prelude.{◌≡◌, ◌⊎◌, List, ℕ, IfErr, IfOk, IsOk};
-ghost use Rattle.clof_tool.specs.declared.status.Status.{Status as AnyStatus};
-ghost use Rattle.clof_tool.specs.TopoText.{text_of, PrintsTopo, TopoRefuses};
+ghost use Rattle.command_texts.specs.declared.status.Status.{Status as AnyStatus};
+ghost use Rattle.command_texts.specs.TopoText.{text_of, PrintsTopo, TopoRefuses};
 
 use crate::Status;
 use crate::topology::topology;
@@ -10,7 +10,7 @@ use std::alloc::Global;
 use topo_tree::Topology;
 
 /// The tree of the description that a text tells, or its canonical text, or the status with which it is refused.
-pub(crate) fn topo_text(alloc: Global, export: bool, text: &[u8]) -> Result<Vec<u8>, Status>
+pub fn topo_text(alloc: Global, export: bool, text: &[u8]) -> Result<Vec<u8>, Status>
     ensures ok { IfOk result (λ printed. PrintsTopo export text.now printed.items) }
     ensures err { IfErr result (λ status. (status ≡ Status.OutOfMemory) ⊎ TopoRefuses text.now status) }
     ensures refused { (status : AnyStatus) → TopoRefuses text.now status → (result ≡ Err status) ⊎ (result ≡ Err Status.OutOfMemory) }

@@ -1,22 +1,15 @@
 // What `calc` prints. Answers in tables are those of hwloc-calc 2.9.
-use super::{Ended, call, prints};
+use super::{prints, text};
 use crate::{Fault, OptionName, Status};
 use calc_query::CalcFault;
 use std::alloc::Global;
 use std::process::Abort;
-use std::sync::Wait;
 use std::test::Fail;
-use std::thread::Threads;
 use synth_text::SynthFault;
 use topo_tree::BuildFault;
 
 // Checks what is answered on a description. A line of the table has words, and behind a `=` the answer.
-fn answers<R: Threads + Wait + Sync + Abort>(
-    rt: &R,
-    alloc: Global,
-    description: &str,
-    table: &str,
-) -> Result<(), Fail> {
+fn answers<R: Abort>(rt: &R, alloc: Global, description: &str, table: &str) -> Result<(), Fail> {
     for line in table.split('\n') {
         let (words, answer) = line.split_once('=').ok_or("a line without an answer")?;
         let mut list = Vec::new(alloc);
@@ -25,14 +18,12 @@ fn answers<R: Threads + Wait + Sync + Abort>(
         for word in words.split(' ') {
             list.push(word)?;
         }
-        let ended: Ended = call(rt, alloc, &list, Vec::new(alloc))?;
-        assert_eq!(rt; ended.status, Status::Ok);
+        let printed = text(rt, alloc, &list)?;
         assert_eq!(rt;
-            ended.out.strip_suffix(b"\n".as_slice()),
+            printed.strip_suffix(b"\n".as_slice()),
             Some(answer.as_bytes()),
             "{words}"
         );
-        assert_eq!(rt; ended.err.len(), 0);
     }
     Ok(())
 }

@@ -1,35 +1,15 @@
 // What `distrib` prints, and how its words are read.
-use super::{Ended, call};
+use super::{prints, text};
 use crate::{Fault, OptionName, Status};
 use distrib_rules::DistribFault;
-use std::alloc::Global;
-use std::process::Abort;
-use std::sync::Wait;
 use std::test::Fail;
-use std::thread::Threads;
 use synth_text::SynthFault;
-
-// Checks how words end, on an input that isn't to be read.
-fn ends<R: Threads + Wait + Sync + Abort>(
-    rt: &R,
-    alloc: Global,
-    words: &[&str],
-    status: Status,
-    out: &str,
-    err: &str,
-) -> Result<(), Fail> {
-    let ended: Ended = call(rt, alloc, words, b"not read".to_vec(alloc)?)?;
-    assert_eq!(rt; ended.status, status);
-    assert_eq!(rt; ended.out.as_slice(), out.as_bytes());
-    assert_eq!(rt; ended.err.as_slice(), err.as_bytes());
-    Ok(())
-}
 
 const TREE: &str = "Package:2 Core:2 PU:2";
 
 #[test]
 fn prints_masks(rt: HostRuntime) -> Result<(), Fail> {
-    let cases: [(&[&str], &str); 14] = [
+    let cases: [(&[&str], &str); 16] = [
         (
             &["distrib", "3", TREE],
             "0x00000003\n0x0000000c\n0x000000f0\n",
@@ -71,25 +51,27 @@ fn prints_masks(rt: HostRuntime) -> Result<(), Fail> {
             "0x00000003\n0x0000000c\n",
         ),
         (&["distrib", "--", "1", "PU:2"], "0x00000003\n"),
+        (
+            &["distrib", "--from", "numa", "2", "Package:2 [numa] PU:2"],
+            "0x00000003\n0x0000000c\n",
+        ),
+        (
+            &["distrib", "5", "L1i:3 PU:5"],
+            "0x00000003\n0x0000001c\n0x00000060\n0x00000380\n0x00007c00\n",
+        ),
     ];
     for (words, out) in cases {
-        ends(&rt, rt.alloc(), words, Status::Ok, out, "")?;
+        prints(&rt, rt.alloc(), words, Status::Ok, out, "")?;
     }
     Ok(())
 }
 
 #[test]
 fn prints_as_many_masks_as_the_limit(rt: HostRuntime) -> Result<(), Fail> {
-    let ended = call(
-        &rt,
-        rt.alloc(),
-        &["distrib", "4096", "PU:2"],
-        b"".to_vec(rt.alloc())?,
-    )?;
-    assert_eq!(rt; ended.status, Status::Ok);
-    assert_eq!(rt; ended.out.len(), 4096 * 11);
+    let printed = text(&rt, rt.alloc(), &["distrib", "4096", "PU:2"])?;
+    assert_eq!(rt; printed.len(), 4096 * 11);
     assert_eq!(rt;
-        &ended.out[2047 * 11..2049 * 11],
+        &printed[2047 * 11..2049 * 11],
         b"0x00000001\n0x00000002\n".as_slice()
     );
     Ok(())
@@ -122,9 +104,9 @@ fn refuses_words(rt: HostRuntime) -> Result<(), Fail> {
         &["distrib", "-h", "1", "PU:2"],
     ];
     for words in cases {
-        ends(&rt, rt.alloc(), words, Status::Usage, "", USAGE)?;
+        prints(&rt, rt.alloc(), words, Status::Usage, "", USAGE)?;
     }
-    ends(
+    prints(
         &rt,
         rt.alloc(),
         &["distrib", "--version"],
@@ -132,7 +114,7 @@ fn refuses_words(rt: HostRuntime) -> Result<(), Fail> {
         "",
         USAGE,
     )?;
-    ends(
+    prints(
         &rt,
         rt.alloc(),
         &["Distrib", "1", "PU:2"],
@@ -202,7 +184,7 @@ fn refuses_types_and_numbers(rt: HostRuntime) -> Result<(), Fail> {
         ),
     ];
     for (words, status, err) in cases {
-        ends(&rt, rt.alloc(), words, status, "", err)?;
+        prints(&rt, rt.alloc(), words, status, "", err)?;
     }
     Ok(())
 }

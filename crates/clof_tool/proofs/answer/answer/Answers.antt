@@ -1,8 +1,8 @@
 use Rattle.std.proofs.Common.{subst}
 use Rattle.std.proofs.lemmas.Result.{IfErr-weaker}
 use Rattle.std.specs.Prelude.{IfErr}
-use Rattle.clof_tool.specs.Outcome.{EndsEarly}
-use Rattle.clof_tool.proofs.OnTopologies.{early_silent}
+use Rattle.command_texts.specs.Ends.{EndsEarly}
+use Rattle.command_texts.proofs.OnTopologies.{early_silent}
 use Rattle.clof_tool.proofs.answer.answer.Goals as goal
 
 pub returns-in-Distrib-clause-silent : goal.returns-in-Distrib-clause-silent

@@ -1,7 +1,7 @@
 use Rattle.std.proofs.Common.{ap, sym, ◌∙◌, [], ◌∷◌}
 use Rattle.cpu_set.specs.Sets.{union}
-use Rattle.clof_tool.proofs.Masks.{first_below, alone, first_taken}
-use Rattle.clof_tool.proofs.chosen.first_alone.Goals as goal
+use Rattle.command_texts.proofs.Masks.{first_below, alone, first_taken}
+use Rattle.command_texts.proofs.chosen.first_alone.Goals as goal
 
 pub returns-in-Some : goal.returns-in-Some
 returns-in-Some c =

@@ -1,6 +1,6 @@
 use Rattle.std.proofs.Common.{◌≡◌, take}
-use Rattle.clof_tool.specs.DistribText.{mask_lines}
-use Rattle.clof_tool.proofs.distrib_text.lines.Given as goal
+use Rattle.command_texts.specs.DistribText.{mask_lines}
+use Rattle.command_texts.proofs.distribution.lines.Given as goal
 
 -- the lines so far have been appended
 abbrev pub invariant-loop-mask : goal.invariant-loop-mask

@@ -1,7 +1,7 @@
 use Rattle.std.proofs.Common.{Err, inl, inr, ap, sym, ◌∙◌}
-use Rattle.clof_tool.specs.TopoText.{synth_status, build_status}
-use Rattle.clof_tool.proofs.Topologies.{read_refused, read_built, build_refused, build_built, built_not_refused, only_described}
-use Rattle.clof_tool.proofs.topology.topology.Goals as goal
+use Rattle.command_texts.specs.TopoText.{synth_status, build_status}
+use Rattle.command_texts.proofs.Topologies.{read_refused, read_built, build_refused, build_built, built_not_refused, only_described}
+use Rattle.command_texts.proofs.topology.topology.Goals as goal
 
 pub returns-in-Err-clause-err : goal.returns-in-Err-clause-err
 returns-in-Err-clause-err c =
