@@ -192,7 +192,6 @@ fn four_threads_a_core(rt: HostRuntime) -> Result<(), Fail> {
 core:5.pu:3=0x20000000
 -p pu:17=0x00020000
 pu:62:3=0x88000000,0x00000001
--I core 0x10001=0,4
 --taskset core:15=0x8888000000000000
 -p -I pu core:2-3=32,36,40,44,48,52,56,60";
     answers(
