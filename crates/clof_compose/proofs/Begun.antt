@@ -1,17 +1,16 @@
 -- How a turn begins and ends at a level of a composed lock.
-use Rattle.std.proofs.Common.{◌≡◌, ◌≢◌, ℕ, zero, suc, ◌+◌, ◌-◌, ◌<◌, ◌≤◌, List, [], ◌∷◌, ◌++◌, length, get_or, min, refl, ap, sym, ◌∙◌}
+use Rattle.std.proofs.Common.{◌≡◌, ℕ, ◌+◌, ◌-◌, ◌<◌, List, [], ◌∷◌, ◌++◌, length, get_or, refl, ap, sym, ◌∙◌}
 use Rattle.std.proofs.Common.{subst, arith, length-append, Option, Some, None}
-use Rattle.std.specs.Prelude.{All, IfSome, slice_get, slice_index}
-use Rattle.std.specs.Int.{bit_at}
+use Rattle.std.specs.Prelude.{All, IfSome, slice_get}
 use Rattle.std.specs.Option.{option_map_or}
 use Rattle.std.proofs.lemmas.List.{append-nil}
 use Rattle.std.proofs.lemmas.Option.{slice_get_within, get_or_from_slice_get}
-use Rattle.std.proofs.lemmas.List.Elements.{All-get_or, All-head, All-tail}
+use Rattle.std.proofs.lemmas.List.Elements.{All-get_or}
 use Rattle.keep_local.specs.declared.shape.Shape.{Shape}
 use Rattle.keep_local.specs.declared.turn.Turn.{Turn}
-use Rattle.keep_local.specs.Shapes.{top_of, callers_of, node_of, IsWellFormed}
-use Rattle.keep_local.specs.Turns.{run, last_turn, climb_after, Begins, IsDue, IsLeft, AreUnderOneNode}
-use Rattle.keep_local.specs.States.{TrailState, IsTrail, MayLeave, option_list, all_turns, opened}
+use Rattle.keep_local.specs.Shapes.{top_of, callers_of, node_of}
+use Rattle.keep_local.specs.Turns.{last_turn, Begins, IsDue, AreUnderOneNode}
+use Rattle.keep_local.specs.States.{TrailState, IsTrail, MayLeave, option_list, opened}
 
 abbrev blank : Turn
 blank = record { caller = 0; climb = 0; tests = 0; left = 0 }

@@ -1,24 +1,21 @@
 -- How a node's holder comes to the root.
-use Rattle.std.proofs.Common.{◌≡◌, ℕ, zero, suc, ◌+◌, ◌<◌, ◌≤◌, ◌⊎◌, inl, inr, ⊎_elim, Bool, true, false, List, [], ◌∷◌, ◌++◌, map}
+use Rattle.std.proofs.Common.{◌≡◌, ℕ, ◌+◌, ◌<◌, ◌⊎◌, inl, inr, ⊎_elim, List, [], ◌∷◌, ◌++◌, map}
 use Rattle.std.proofs.Common.{append_assoc, refl, ap, sym, ◌∙◌, subst, arith, Option, Some, None}
-use Rattle.std.specs.Prelude.{All, IfSome, IfNone, IsSomeAnd}
+use Rattle.std.specs.Prelude.{All, IfSome, IfNone}
 use Rattle.std.specs.Option.{option_map_or}
 use Rattle.std.proofs.lemmas.List.{append-nil}
 use Rattle.std.proofs.lemmas.List.Elements.{All-nil, All-head, All-tail}
 use Rattle.lock_rules.specs.Tag.{Tag}
 use Rattle.keep_local.specs.declared.shape.Shape.{Shape}
 use Rattle.keep_local.specs.declared.turn.Turn.{Turn}
-use Rattle.keep_local.specs.Shapes.{top_of, callers_of, node_of}
+use Rattle.keep_local.specs.Shapes.{top_of, node_of}
 use Rattle.keep_local.specs.Turns.{run, last_turn, climb_after, Begins}
 use Rattle.keep_local.specs.States.{TrailState, ShareState, IsTrail, IsShareOf, opened}
 use Rattle.keep_local.proofs.Runs.{run_none, run_lower, run_higher}
-use Rattle.clof_compose.specs.Calls.{MayTurn, HasOpened, IsOpen}
-use Rattle.clof_compose.specs.Contexts.{Context, IsContextOf}
+use Rattle.clof_compose.specs.Calls.{MayTurn, HasOpened}
 use Rattle.clof_compose.specs.Courses.{Course, course_of}
-use Rattle.clof_compose.specs.Levels.{IsHolding}
-use Rattle.clof_compose.specs.Meanings.{Stand}
-use Rattle.clof_compose.specs.Owns.{IsHandedOver, IsKeptFor}
-use Rattle.clof_compose.specs.Roots.{root_course, root_tag, IsSettled, IsInHand, IsKept}
+use Rattle.clof_compose.specs.Owns.{IsHandedOver}
+use Rattle.clof_compose.specs.Roots.{root_tag, IsKept}
 use Rattle.clof_compose.specs.declared.root.Root.{Root}
 use Rattle.clof_compose.proofs.Begun.{begins_at, last_push}
 use Rattle.clof_compose.proofs.Tops.{course_is}

@@ -1,6 +1,5 @@
 -- A context is told by the tag of the value that names it.
-use Rattle.std.proofs.Common.{◌≡◌, ℕ, refl, ap}
-use Rattle.lock_rules.specs.Tag.{Tag}
+use Rattle.std.proofs.Common.{◌≡◌, ℕ, refl}
 use Rattle.clof_compose.specs.Contexts.{Context, own_tag, root_tag_in}
 
 pub own_tag-tells : (n m : ℕ) (c d : Context) → own_tag n c ≡ own_tag m d → (n ≡ m) × (c ≡ d)

@@ -2,7 +2,7 @@
 use Rattle.std.proofs.Common.{◌≡◌, ℕ, List, [], ◌∷◌, refl, ap, sym, ◌∙◌}
 use Rattle.lock_rules.specs.Tag.{Tag}
 use Rattle.lock_rules.specs.Views.{tree_of}
-use Rattle.clof_compose.specs.Courses.{Course, course_of, course_tag, list_in, lists_in, tree_of_lists, name_from}
+use Rattle.clof_compose.specs.Courses.{Course, course_of, course_tag, list_in, lists_in, tree_of_lists}
 
 list_in-tree_of : (xs : List ℕ) → list_in (tree_of xs) ≡ xs
 list_in-tree_of [] = refl

@@ -12,7 +12,7 @@ use Rattle.clof_compose.specs.Levels.{IsHolding, IsStanding, kept_stand}
 use Rattle.clof_compose.specs.Meanings.{Rest, Stand}
 use Rattle.clof_compose.specs.Nodes.{IsContextOfNode}
 use Rattle.clof_compose.specs.Roots.{IsKept}
-use Rattle.clof_compose.specs.Owns.{IsHandedOver, IsKeptFor, IsIdle, IsOwnFit, context_in, is_kept, own_tag_of}
+use Rattle.clof_compose.specs.Owns.{IsHandedOver, IsKeptFor, IsOwnFit, context_in, is_kept, own_tag_of}
 use Rattle.clof_compose.specs.declared.own.High.{High}
 use Rattle.clof_compose.specs.declared.own.High.TheVariants.{Idle, Kept, Away}
 use Rattle.clof_compose.specs.declared.root.Root.{Root}

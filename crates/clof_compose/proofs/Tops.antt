@@ -1,5 +1,5 @@
 -- How the top lock's root is taken and put back.
-use Rattle.std.proofs.Common.{◌≡◌, ℕ, ◌+◌, ◌<◌, ◌≤◌, List, [], ◌∷◌, ◌++◌, length, map, refl, ap, sym, ◌∙◌, subst, arith, Option, Some, None}
+use Rattle.std.proofs.Common.{◌≡◌, ℕ, ◌<◌, List, [], ◌∷◌, ◌++◌, length, map, refl, ap, sym, ◌∙◌, subst, Option, Some, None}
 use Rattle.std.specs.Prelude.{IfSome, slice_get, option_map}
 use Rattle.std.proofs.lemmas.Option.{slice_get-map}
 use Rattle.lock_rules.specs.Tag.{Tag}
@@ -9,9 +9,8 @@ use Rattle.keep_local.specs.declared.turn.Turn.{Turn}
 use Rattle.keep_local.specs.Shapes.{top_of, callers_of}
 use Rattle.keep_local.specs.Turns.{Begins, last_turn}
 use Rattle.keep_local.specs.States.{TrailState, IsTrail, MayLeave, option_list, callers_in, all_turns, opened, left_at}
-use Rattle.clof_compose.specs.Contexts.{Context}
 use Rattle.clof_compose.specs.Courses.{Course, course_of}
-use Rattle.clof_compose.specs.Roots.{root_course, root_tag, IsSettled, IsFit}
+use Rattle.clof_compose.specs.Roots.{root_course, root_tag, IsFit}
 use Rattle.clof_compose.specs.Calls.{MayRelease}
 use Rattle.clof_compose.specs.Passes.{AreAll, IsNumber}
 use Rattle.clof_compose.specs.Tops.{IsOfTop, top_context, fresh_pass, AreFresh}
@@ -98,7 +97,7 @@ map_some v (Some a) b e = (a, refl, cc)
 -- all passes of the top lock have those of its basic lock
 pub top_passes : {T L : Type 0} (low : T → L) (place : L → Place) (at : T
     → ℕ) (level count : ℕ) (name tag : Tag) (passes : List T) (lows : List L)
-    → AreAll (λ p. top_context (at p) (place (low p))) (IsOfTop level name tag) count passes → lows ≡ map low passes
+    → AreAll (λ p. top_context (at p) (place (low p))) (IsOfTop level name tag) level tag count passes → lows ≡ map low passes
     → length lows ≡ length passes → AreAllLow place name tag count lows
 top_passes {T} {L} low place at level count name tag passes lows are e long = record {
   all = long ∙ are.all;
@@ -113,18 +112,20 @@ top_passes {T} {L} low place at level count name tag passes lows are e long = re
 -- the passes of a top lock as it is made
 pub fresh_passes : {L : Type 0} (place : L → Place) (level made count : ℕ) (name tag : Tag) (passes : List (TopPass L)) (lows : List L)
     → made ≡ count → AreAllLow place name tag made lows → passes ≡ map (fresh_pass level) lows → length passes ≡ length lows
-    → AreAll (λ p. top_context p.level (place p.low)) (IsOfTop level name tag) count passes
+    → AreAll (λ p. top_context p.level (place p.low)) (IsOfTop level name tag) level tag count passes
 fresh_passes {L} place level made count name tag passes lows same are e long = record {
   all = long ∙ are.all ∙ same;
   each = λ k p here.
       let found = map_some (fresh_pass level) (slice_get lows k) p (sym (slice_get-map (fresh_pass level) lows k)
       ∙ sym (ap (λ (l : List (TopPass L)). slice_get l k) e) ∙ here) in
       let is = are.each k found.0 found.1 in
-      let at : IsNumber (IsOfTop level name tag) k (top_context level (place found.0)) = record {
+      let at : IsNumber (IsOfTop level name tag) level tag k (top_context level (place found.0)) = record {
         own = record { pass_is = record { lock_is = ap (λ q. q.lock) is; tag_is = ap (λ q. q.tag) is }; context_is = refl };
+        level_is = refl;
+        tag_is = ap (λ q. q.tag) is;
         number_is = ap (λ q. q.number) is;
       } in
-      subst (λ (q : TopPass L). IsNumber (IsOfTop level name tag) k (top_context q.level (place q.low))) found.2 at;
+      subst (λ (q : TopPass L). IsNumber (IsOfTop level name tag) level tag k (top_context q.level (place q.low))) found.2 at;
 }
 
 pub all_fresh : {L : Type 0} (level : ℕ) (lows : List L) → AreFresh (map (fresh_pass level) lows)

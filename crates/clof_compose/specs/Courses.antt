@@ -1,6 +1,5 @@
 -- What the tag of a root tells.
-use Rattle.std.specs.Prelude.{◌≡◌, ℕ, List, [], ◌∷◌, slice_index, refl}
-use Rattle.std.proofs.Common.{ap}
+use Rattle.std.specs.Prelude.{ℕ, List, [], ◌∷◌}
 use Rattle.atomic_table.specs.Seated.{TableId}
 use Rattle.lock_rules.specs.Tag.{Tag, leaf, fork}
 use Rattle.lock_rules.specs.Views.{tree_of}

@@ -1,10 +1,8 @@
 -- What the tokens of a level mean.
-use Rattle.std.specs.Prelude.{◌≡◌, ℕ, ◌+◌, ◌<◌, Bool, List, Option, Some, None, IfSome}
+use Rattle.std.specs.Prelude.{◌≡◌, ℕ, ◌+◌, ◌<◌, Bool, None, IfSome}
 use Rattle.std.specs.Int.{bit_at}
 use Rattle.lock_rules.specs.Tag.{Tag}
-use Rattle.lock_rules.specs.Meanings.{Place, Holder}
-use Rattle.lock_rules.specs.Views.{answer_of}
-use Rattle.lock_rules.specs.declared.step.Answer.TheVariants.{Open}
+use Rattle.lock_rules.specs.Meanings.{Place}
 use Rattle.keep_local.specs.Turns.{run}
 use Rattle.clof_compose.specs.Contexts.{Context, own_tag, root_tag_in}
 use Rattle.clof_compose.specs.Meanings.{Rest, Climb, Stand, Descent}

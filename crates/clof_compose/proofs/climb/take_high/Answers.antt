@@ -1,8 +1,8 @@
-use Rattle.std.proofs.Common.{◌≡◌, true, ap, sym, ◌∙◌, subst}
+use Rattle.std.proofs.Common.{ap, sym, ◌∙◌, subst}
 use Rattle.lock_rules.specs.Holders.{held_view}
 use Rattle.keep_local.specs.Turns.{run}
 use Rattle.clof_compose.specs.Levels.{IsHolding, IsStanding, kept_stand}
-use Rattle.clof_compose.specs.Owns.{context_in, own_tag_of}
+use Rattle.clof_compose.specs.Owns.{context_in}
 use Rattle.clof_compose.proofs.Climbs.{share_own, kept_begins, kept_opened, kept_in_hand}
 use Rattle.clof_compose.proofs.Owned.{handed_over, kept_above, kept_tagged, holding_with, holding_anew, some_with}
 use Rattle.clof_compose.proofs.climb.take_high.Goals as goal

@@ -1,4 +1,4 @@
-use Rattle.std.proofs.Common.{length, map, ap, ◌∙◌}
+use Rattle.std.proofs.Common.{length, ap, ◌∙◌}
 use Rattle.std.proofs.lemmas.List.{length-map}
 use Rattle.clof_compose.proofs.Tops.{top_passes}
 use Rattle.clof_compose.proofs.top.TopPassComposed.close.Goals as goal
