@@ -19,7 +19,8 @@ kept n x y =
     let passes : ltb 0 (suc n) ≡ true = grind (arith, nat_tests) in
     ap (λ b. cond b x y) passes
 
-split_cut : (text before behind : List ℕ) → IsCutAt 32 text before behind → slice_split (λ x. eqb x 32) text ≡ before ∷ slice_split (λ x. eqb x 32) behind
+split_cut : (text before behind : List ℕ) → IsCutAt 32 text before behind
+    → slice_split (λ x. eqb x 32) text ≡ before ∷ slice_split (λ x. eqb x 32) behind
 split_cut text before behind cut =
     rw cut.parts (slice_split_at (λ x. eqb x 32) before 32 behind (fails_each 32 before cut.first) refl)
 

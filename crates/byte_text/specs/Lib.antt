@@ -1,4 +1,6 @@
+pub mod Classes
+pub mod InClass
 pub mod Cuts
+pub mod Views
 pub mod Numerals
-pub mod NumeralLaws
 pub mod Words

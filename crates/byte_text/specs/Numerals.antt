@@ -1,5 +1,24 @@
 -- What a text says as a number in a base, up to a limit, and as a decimal number within limits.
-use Rattle.std.specs.Prelude.{◌≡◌, ◌≤◌, ◌<◌, ◌+◌, ◌-◌, ◌^◌, ℕ, Bool, ◌&&◌, List, length, Option, Some, None, nat_lt, nat_le, min, if◌then◌else◌}
+use Rattle.std.specs.Prelude.{
+  ◌≡◌,
+  ◌≤◌,
+  ◌<◌,
+  ◌+◌,
+  ◌-◌,
+  ◌^◌,
+  ℕ,
+  Bool,
+  ◌&&◌,
+  List,
+  length,
+  Option,
+  Some,
+  None,
+  nat_lt,
+  nat_le,
+  min,
+  if◌then◌else◌,
+}
 use Rattle.std.specs.Char.{digit_value}
 use Rattle.std.specs.List.{list_all}
 use Rattle.std.specs.Str.Parse.{IsNumeral, digits_value}

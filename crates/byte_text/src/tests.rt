@@ -1,5 +1,8 @@
 // Examples from outside the definitions.
-use crate::{Numeral, cut_at, first_part, hex_digit, push_decimal, read_numeral};
+use crate::{
+    Class, Numeral, are_all, cut, cut_at, first_part, first_piece, hex_digit, number_capped,
+    number_in, number_up_to, push_decimal, read_numeral, split_front,
+};
 use std::test::Fail;
 
 #[test]
@@ -48,6 +51,34 @@ fn the_first_part_is_the_whole_text_without_such_a_byte(rt: HostRuntime) {
     assert!(rt; first_part(b",", b',') == (b"".as_slice(), Some(b"".as_slice())));
     assert!(rt; first_part(b"abc", b',') == (b"abc".as_slice(), None));
     assert!(rt; first_part(b"", b',') == (b"".as_slice(), None));
+}
+
+#[test]
+fn cuts_at_the_first_byte_of_a_class(rt: HostRuntime) {
+    assert!(rt; cut(b"a\t b", Class::White) == Some((b"a".as_slice(), b" b".as_slice())));
+    assert!(rt; cut(b"ab", Class::White).is_none());
+    assert!(rt;
+        first_piece(b"L2:8", Class::Byte(b':')) == (b"L2".as_slice(), Some(b"8".as_slice()))
+    );
+    assert!(rt; first_piece(b"core", Class::Digit) == (b"core".as_slice(), None));
+    assert!(rt; split_front(b"64KiB", Class::Digit) == (b"64".as_slice(), b"KiB".as_slice()));
+    assert!(rt; split_front(b"l1i(", Class::Alphanumeric) == (b"l1i".as_slice(), b"(".as_slice()));
+    assert!(rt; are_all(b" \t\r\n", Class::White) && !are_all(b" .", Class::White));
+    assert!(rt; are_all(b"", Class::Digit));
+}
+
+#[test]
+fn reads_decimal_numbers_within_limits(rt: HostRuntime) {
+    assert!(rt; number_up_to(0, b"00") == Some(0) && number_up_to(0, b"1").is_none());
+    assert!(rt; number_up_to(u64::MAX, b"18446744073709551615") == Some(u64::MAX));
+    assert!(rt; number_up_to(u64::MAX, b"18446744073709551616").is_none());
+    assert!(rt; number_up_to(9, b"+5").is_none() && number_up_to(9, b"").is_none());
+    assert!(rt; number_in(1, 4096, b"0").is_none() && number_in(1, 4096, b"4097").is_none());
+    assert!(rt; number_in(1, 4096, b"01") == Some(1) && number_in(1, 4096, b"4096") == Some(4096));
+    assert!(rt; number_in(2, 1, b"1").is_none());
+    assert!(rt; number_capped(b"4294967295") == Some(u32::MAX));
+    assert!(rt; number_capped(b"99999999999999999999999") == Some(u32::MAX));
+    assert!(rt; number_capped(b"1x").is_none());
 }
 
 #[test]

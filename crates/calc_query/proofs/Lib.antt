@@ -7,3 +7,5 @@ pub mod PartReadings
 pub mod LocationReadings
 pub mod ChainLaws
 pub mod PathLaws
+pub mod Kept
+pub mod FitLaws

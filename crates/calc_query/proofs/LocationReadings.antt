@@ -1,5 +1,6 @@
 -- Locations and terms, by what their parts say.
-use Rattle.std.proofs.Common.{◌≡◌, ℕ, suc, ◌+◌, ◌-◌, ◌<◌, ◌≤◌, Bool, true, false, cond, ◌==◌, List, [], ◌∷◌, length, drop, get_or, Ok, Err, refl, sym, ap, ◌∙◌, arith}
+use Rattle.std.proofs.Common.{◌≡◌, ℕ, suc, ◌+◌, ◌-◌, ◌<◌, ◌≤◌, Bool, true, false, cond, ◌==◌, List, [], ◌∷◌, length, drop, get_or, Ok, Err}
+use Rattle.std.proofs.Common.{refl, sym, ap, ◌∙◌, arith}
 use Rattle.std.specs.Prelude.{Result}
 use Rattle.std.specs.Char.{is_ascii_digit}
 use Rattle.std.specs.List.{slice_split}
@@ -16,7 +17,8 @@ use Rattle.calc_query.specs.declared.query.Location.TheVariants as locations
 use Rattle.calc_query.specs.Readings.{parts_from, numbers_location, set_or_parts, is_whole, location_of, op_of, op_len, term_of, FailsWith}
 
 -- what fails still fails where more was to be read
-pub fails_after : {A B : Type 0} (fault : CalcFault) (reading : Result A CalcFault) (next : A → Result B CalcFault) → FailsWith fault reading → FailsWith fault (reading >>= next)
+pub fails_after : {A B : Type 0} (fault : CalcFault) (reading : Result A CalcFault) (next : A → Result B CalcFault)
+    → FailsWith fault reading → FailsWith fault (reading >>= next)
 fails_after faults.OutOfMemory reading next fails = tt
 fails_after (faults.Location word at) reading next fails = ap (λ r. r >>= next) fails
 fails_after (faults.NoSuchType word) reading next fails = ap (λ r. r >>= next) fails
@@ -53,27 +55,36 @@ module _ (described : Description) (word at : ℕ) where
   abbrev in_parts : List ℕ → Result Location CalcFault
   in_parts text = parts_from described word at (slice_split (λ byte. byte == 46) text) >>= λ parts. Ok (locations.Parts parts)
 
-  pub location-set : (text : List ℕ) → 0 < length text → is_ascii_digit (get_or text 0 0) ≡ true → set_or_parts described word at text ≡ numbers_location word at text (hex_fault text)
+  pub location-set : (text : List ℕ) → 0 < length text → is_ascii_digit (get_or text 0 0) ≡ true
+      → set_or_parts described word at text ≡ numbers_location word at text (hex_fault text)
   location-set [] some digit = absurd (omega arith)
-  location-set (byte ∷ bytes) some digit = ap (λ b. cond b (numbers_location word at (byte ∷ bytes) (hex_fault (byte ∷ bytes))) (in_parts (byte ∷ bytes))) digit
+  location-set (byte ∷ bytes) some digit = ap
+      (λ b. cond b (numbers_location word at (byte ∷ bytes) (hex_fault (byte ∷ bytes))) (in_parts (byte ∷ bytes))) digit
 
-  pub location-parts : (text : List ℕ) → 0 < length text → is_ascii_digit (get_or text 0 0) ≡ false → set_or_parts described word at text ≡ in_parts text
+  pub location-parts : (text : List ℕ) → 0 < length text → is_ascii_digit (get_or text 0 0) ≡ false
+      → set_or_parts described word at text ≡ in_parts text
   location-parts [] some other = absurd (omega arith)
-  location-parts (byte ∷ bytes) some other = ap (λ b. cond b (numbers_location word at (byte ∷ bytes) (hex_fault (byte ∷ bytes))) (in_parts (byte ∷ bytes))) other
+  location-parts (byte ∷ bytes) some other =
+      ap (λ b. cond b (numbers_location word at (byte ∷ bytes) (hex_fault (byte ∷ bytes))) (in_parts (byte ∷ bytes))) other
 
 -- a term is its operator and the location behind it
 pub term_reading : (described : Description) (number : ℕ) (word : List ℕ) (op : Op) (len : ℕ) → op ≡ op_of word → len ≡ op_len op
-    → term_of described number word ≡ (location_of described number (length word - length (drop len word)) (drop len word) >>= λ location. Ok (record { op = op; location = location }))
+    → term_of described number word ≡ (location_of described number (length word - length (drop len word)) (drop len word) >>=
+    λ location. Ok (record { op = op; location = location }))
 unfolding term_of
 term_reading described number word op len is long =
     let same : len ≡ op_len (op_of word) = long ∙ ap op_len is in
     let at : len ≡ length word - length (drop len word) = omega (arith, same, op_fits word, length-drop len word) in
     sym (ap (λ n. location_of described number n (drop len word) >>= λ location. Ok (record { op = op; location = location })) (sym at)
     ∙ ap (λ n. location_of described number n (drop n word) >>= λ location. Ok (record { op = op; location = location })) same
-    ∙ ap (λ o. location_of described number (op_len (op_of word)) (drop (op_len (op_of word)) word) >>= λ location. Ok (record { op = o; location = location })) is)
+    ∙ ap (λ o. location_of described number (op_len (op_of word)) (drop (op_len (op_of word)) word) >>=
+    λ location. Ok (record { op = o; location = location })) is)
 
-pub term_behind : (described : Description) (number : ℕ) (word : List ℕ) (op : Op) (len : ℕ) (behind : List ℕ) → op ≡ op_of word → len ≡ op_len op → behind ≡ drop len word
-    → term_of described number word ≡ (location_of described number (length word - length behind) behind >>= λ location. Ok (record { op = op; location = location }))
+pub term_behind : (described : Description) (number : ℕ) (word : List ℕ) (op : Op) (len : ℕ) (behind : List ℕ) → op ≡ op_of word
+    → len ≡ op_len op → behind ≡ drop len word
+    → term_of described number word ≡ (location_of described number (length word - length behind) behind >>=
+    λ location. Ok (record { op = op; location = location }))
 term_behind described number word op len behind is long back =
     term_reading described number word op len is long
-    ∙ ap (λ text. location_of described number (length word - length text) text >>= λ location. Ok (record { op = op; location = location })) (sym back)
+    ∙ ap (λ text. location_of described number (length word - length text) text >>=
+    λ location. Ok (record { op = op; location = location })) (sym back)

@@ -1,5 +1,6 @@
 -- The paths of a hierarchical answer are chains.
-use Rattle.std.proofs.Common.{◌≡◌, ℕ, zero, suc, ◌+◌, ◌<◌, ◌≤◌, Bool, true, false, cond, List, [], ◌∷◌, ◌++◌, length, map, slice_index, get_or, refl, sym, ap, subst, ◌∙◌, inl, inr, arith}
+use Rattle.std.proofs.Common.{◌≡◌, ℕ, zero, suc, ◌+◌, ◌<◌, ◌≤◌, Bool, true, false, cond, List, [], ◌∷◌, ◌++◌, length, map, slice_index}
+use Rattle.std.proofs.Common.{get_or, refl, sym, ap, subst, ◌∙◌, inl, inr, arith}
 use Rattle.std.specs.List.{All, AllByRecursion, filter, fold, flat_map, range_with_len}
 use Rattle.std.proofs.lemmas.Bool.{cases_Bool}
 use Rattle.std.proofs.lemmas.List.Elements.{filter_passes, All-from_recursion, All-get_or}
@@ -16,34 +17,7 @@ use Rattle.calc_query.specs.Candidates.{candidates}
 use Rattle.calc_query.specs.Answers.{end_of, step_to, with_step, extended, chains}
 use Rattle.calc_query.specs.Laws.{IsChain}
 use Rattle.calc_query.proofs.ChainLaws.{end_of-with_step}
-
--- ---- lists
-
-all_append : {X : Type 0} (P : X → Type 0) (xs ys : List X) → AllByRecursion P xs → AllByRecursion P ys → AllByRecursion P (xs ++ ys)
-all_append P [] ys one other = other
-all_append P (x ∷ xs) ys one other = (one.0, all_append P xs ys one.1 other)
-
-all_flat : {X Y : Type 0} (P : X → Type 0) (Q : Y → Type 0) (f : X → List Y) → ((x : X) → P x → AllByRecursion Q (f x)) → (xs : List X) → AllByRecursion P xs → AllByRecursion Q (flat_map f xs)
-all_flat P Q f each [] all = tt
-all_flat P Q f each (x ∷ xs) all = all_append Q (f x) (flat_map f xs) (each x all.0) (all_flat P Q f each xs all.1)
-
-all_mapped : {X Y : Type 0} (P : X → Type 0) (Q : Y → Type 0) (f : X → Y) → ((x : X) → P x → Q (f x)) → (xs : List X) → AllByRecursion P xs → AllByRecursion Q (map f xs)
-all_mapped P Q f each [] all = tt
-all_mapped P Q f each (x ∷ xs) all = (each x all.0, all_mapped P Q f each xs all.1)
-
-module _ (test : ℕ → Bool) (limit : ℕ) where
-  abbrev Passes : ℕ → Type 0
-  Passes n = (n < limit) × (test n ≡ true)
-
-  kept_pass : (start count : ℕ) → start + count ≤ limit → AllByRecursion Passes (filter test (range_with_len start count))
-  kept_pass start zero within = tt
-  kept_pass start (suc count) within =
-      let rest = filter test (range_with_len (start + 1) count) in
-      let later = kept_pass (start + 1) count (omega arith) in
-      elim (cases_Bool (test start)) [
-        | inl yes_a ↦ subst (AllByRecursion Passes) (sym (ap (λ b. cond b (start ∷ rest) rest) yes_a)) ((omega arith, yes_a), later)
-        | inr no_a ↦ subst (AllByRecursion Passes) (sym (ap (λ b. cond b (start ∷ rest) rest) no_a)) later
-      ]
+use Rattle.calc_query.proofs.Kept.{Passes, all_flat, all_mapped, kept_pass}
 
 -- ---- the object that steps behind another end with
 
@@ -63,18 +37,22 @@ module _ (described : Description) (set : List ℕ) where
   set_in object = set_of described object.layer object.index
 
   longer_chain : (outer : Object) (steps : List Step2) (step : Step2) → IsChain described set outer steps
-      → is_inside (set_in step.object) (set_in (end_behind outer steps)) ≡ true → meets (set_in step.object) set ≡ true → IsChain described set outer (steps ++ step ∷ [])
+      → is_inside (set_in step.object) (set_in (end_behind outer steps)) ≡ true → meets (set_in step.object) set ≡ true
+      → IsChain described set outer (steps ++ step ∷ [])
   longer_chain outer [] step chain inside meeting = (inside, meeting, tt)
-  longer_chain outer (first ∷ steps) step chain inside meeting = (chain.0, chain.1, longer_chain first.object steps step chain.2 inside meeting)
+  longer_chain outer (first ∷ steps) step chain inside meeting =
+      (chain.0, chain.1, longer_chain first.object steps step chain.2 inside meeting)
 
   -- a chain inside Machine, with its end as `end_of` finds it
   abbrev IsGood : Path → Type 0
   IsGood path = IsChain described set machine path.steps × (end_of path ≡ end_behind machine path.steps)
 
-  candidate_inside : (layer : Layer) (outer : List ℕ) (place : ℕ) → place < length (candidates described layer outer) → is_inside (set_of described layer (slice_index (candidates described layer outer) place)) outer ≡ true
+  candidate_inside : (layer : Layer) (outer : List ℕ) (place : ℕ) → place < length (candidates described layer outer)
+      → is_inside (set_of described layer (slice_index (candidates described layer outer) place)) outer ≡ true
   unfolding candidates
   candidate_inside layer outer place within =
-      All-get_or (λ index. is_inside (set_of described layer index) outer ≡ true) (filter (λ index. is_inside (set_of described layer index) outer) (range_with_len 0 (count_of described layer))) place 0 within
+      All-get_or (λ index. is_inside (set_of described layer index) outer ≡ true)
+      (filter (λ index. is_inside (set_of described layer index) outer) (range_with_len 0 (count_of described layer))) place 0 within
       (filter_passes (λ index. is_inside (set_of described layer index) outer) (range_with_len 0 (count_of described layer)))
 
   good_extended : (layer : Layer) (path : Path) → IsGood path → AllByRecursion IsGood (extended described set layer path)
@@ -85,7 +63,9 @@ module _ (described : Description) (set : List ℕ) where
       let test : ℕ → Bool = λ place. meets (set_of described layer (slice_index among place)) set in
       all_mapped (Passes test (length among)) IsGood (λ place. with_step path (step_to layer among place)) (λ place passes.
       let step : Step2 = step_to layer among place in (
-        longer_chain machine path.steps step good.0 (subst (λ end. is_inside (set_in step.object) (set_in end) ≡ true) good.1 (candidate_inside layer outer place passes.0)) passes.1,
+        longer_chain machine path.steps step good.0
+            (subst (λ end. is_inside (set_in step.object) (set_in end) ≡ true) good.1 (candidate_inside layer outer place passes.0))
+            passes.1,
         end_of-with_step path step ∙ sym (end_behind-push machine path.steps step),
       ))
       (filter test (range_with_len 0 (length among))) (kept_pass test (length among) 0 (length among) (omega arith))
@@ -95,7 +75,8 @@ module _ (described : Description) (set : List ℕ) where
 
   good_fold : (asked : List Layer) (paths : List Path) → AllByRecursion IsGood paths → AllByRecursion IsGood (fold extend_all paths asked)
   good_fold [] paths good = good
-  good_fold (layer ∷ asked) paths good = good_fold asked (extend_all paths layer) (all_flat IsGood IsGood (extended described set layer) (good_extended layer) paths good)
+  good_fold (layer ∷ asked) paths good = good_fold asked (extend_all paths layer)
+      (all_flat IsGood IsGood (extended described set layer) (good_extended layer) paths good)
 
   first_parts : (paths : List Path) → AllByRecursion IsGood paths → AllByRecursion (λ path. IsChain described set machine path.steps) paths
   first_parts [] good = tt

@@ -1,5 +1,6 @@
 -- Sets collected one number after another.
-use Rattle.std.proofs.Common.{◌≡◌, ℕ, ◌+◌, ◌<◌, Bool, true, false, ◌||◌, ◌&&◌, ◌==◌, List, [], ◌∷◌, length, lit<, refl, sym, ap, ◌∙◌, arith, ◌↔◌}
+use Rattle.std.proofs.Common.{◌≡◌, ℕ, ◌+◌, ◌<◌, Bool, true, false, ◌||◌, ◌&&◌, ◌==◌, List, [], ◌∷◌, length, lit<, refl, sym, ap, ◌∙◌, arith}
+use Rattle.std.proofs.Common.{◌↔◌}
 use Rattle.std.specs.Prelude.{IsTrue}
 use Rattle.std.specs.List.{range_with_len, list_any, Contains}
 use Rattle.std.proofs.lemmas.Bool.{false_from_ne_true, false≢true}
@@ -23,7 +24,11 @@ empty_is_set : IsSet []
 empty_is_set = record { ascending = λ k within. absurd (omega arith); below = All-nil (λ n. n < 4096) }
 
 zero_is_set : IsSet (0 ∷ [])
-zero_is_set = record { ascending = λ k within. absurd (omega arith); below = All-cons (λ n. n < 4096) 0 [] (lit< tt) (All-nil (λ n. n < 4096)) }
+zero_is_set = record {
+  ascending = λ k within. absurd (omega arith);
+  below =
+      All-cons (λ n. n < 4096) 0 [] (lit< tt) (All-nil (λ n. n < 4096));
+}
 
 -- Machine alone
 pub machine_alone : union [] (0 ∷ []) ≡ 0 ∷ []
@@ -37,7 +42,8 @@ module _ (test : ℕ → ℕ → Bool) where
   pub collect_none : [] ≡ collected 0
   collect_none = sym (numbers_where-has [] empty_is_set)
 
-  pub collect_more : (set other : List ℕ) (place : ℕ) → set ≡ collected place → ((n : ℕ) → n < 4096 → has other n ≡ test n place) → union set other ≡ collected (place + 1)
+  pub collect_more : (set other : List ℕ) (place : ℕ) → set ≡ collected place → ((n : ℕ) → n < 4096 → has other n ≡ test n place)
+      → union set other ≡ collected (place + 1)
   collect_more set other place so_far here =
       ap (λ s. union s other) so_far
       ∙ numbers_below-same 4096 (λ n. has (collected place) n || has other n) (λ n. list_any (test n) (range_with_len 0 (place + 1)))
@@ -45,11 +51,13 @@ module _ (test : ℕ → ℕ → Bool) where
       ap (λ b. b || has other n) (has-numbers_below 4096 (λ m. list_any (test m) (range_with_len 0 place)) n below)
       ∙ ap (λ b. list_any (test n) (range_with_len 0 place) || b) (here n below) ∙ sym (any_more (test n) place))
 
-  pub collect_same : (set : List ℕ) (place : ℕ) → set ≡ collected place → ((n : ℕ) → n < 4096 → test n place ≡ false) → set ≡ collected (place + 1)
+  pub collect_same : (set : List ℕ) (place : ℕ) → set ≡ collected place → ((n : ℕ) → n < 4096 → test n place ≡ false)
+      → set ≡ collected (place + 1)
   collect_same set place so_far none =
       so_far
       ∙ numbers_below-same 4096 (λ n. list_any (test n) (range_with_len 0 place)) (λ n. list_any (test n) (range_with_len 0 (place + 1)))
-      (λ n below. sym (any_more (test n) place ∙ ap (λ b. list_any (test n) (range_with_len 0 place) || b) (none n below) ∙ or_none (list_any (test n) (range_with_len 0 place))))
+      (λ n below. sym (any_more (test n) place ∙ ap (λ b. list_any (test n) (range_with_len 0 place) || b) (none n below)
+      ∙ or_none (list_any (test n) (range_with_len 0 place))))
 
 -- one number passes where it is the one
 pub has_one : (one n : ℕ) → has (one ∷ []) n ≡ (one == n)

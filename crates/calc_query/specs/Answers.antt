@@ -1,5 +1,6 @@
 -- What is answered of a set (after hwloc-calc's `--intersect`, `--number-of`, `--hierarchical` and `--largest`).
-use Rattle.std.specs.Prelude.{ℕ, ◌-◌, ◌&&◌, Bool, false, not, List, [], ◌∷◌, ◌++◌, length, map, slice_index, slice_get, Option, Some, None, option_map, unwrap_or}
+use Rattle.std.specs.Prelude.{ℕ, ◌-◌, ◌&&◌, Bool, false, not, List, [], ◌∷◌, ◌++◌, length, map, slice_index, slice_get, Option, Some, None}
+use Rattle.std.specs.Prelude.{option_map, unwrap_or}
 use Rattle.std.specs.List.{filter, fold, flat_map, range_with_len}
 use Rattle.cpu_set.specs.Tests.{meets, is_inside}
 use Rattle.synth_text.specs.declared.description.Description.{Description}
@@ -21,7 +22,8 @@ intersecting described set layer = filter (λ index. meets (set_of described lay
 
 -- the object that a path ends with: Machine for a path without a step
 abbrev pub end_of : Path → Object
-end_of path = unwrap_or (option_map (λ step. step.object) (slice_get path.steps (length path.steps - 1))) (record { layer = layers.Depth 0; index = 0 })
+end_of path = unwrap_or (option_map (λ step. step.object) (slice_get path.steps (length path.steps - 1)))
+    (record { layer = layers.Depth 0; index = 0 })
 
 -- the step to the candidate at a place
 abbrev pub step_to : Layer → List ℕ → ℕ → Step2
@@ -50,7 +52,8 @@ is_above_inside described set (Some object) = is_inside (set_of described object
 -- whether the set has all PUs of an object, and not all of the object above
 abbrev pub is_largest : Description → List ℕ → Object → Bool
 is_largest described set object =
-    is_inside (set_of described object.layer object.index) set && not (is_above_inside described set (parent_of described object.layer object.index))
+    is_inside (set_of described object.layer object.index) set
+    && not (is_above_inside described set (parent_of described object.layer object.index))
 
 -- the largest objects inside the set, in tree order
 unfoldable pub largest : Description → List ℕ → List Object

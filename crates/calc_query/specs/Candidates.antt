@@ -11,7 +11,8 @@ use Rattle.calc_query.specs.declared.query.Numbering.TheVariants as numberings
 
 -- the objects of a layer whose sets lie inside a set, in logical order
 unfoldable pub candidates : Description → Layer → List ℕ → List ℕ
-candidates described layer outer = filter (λ index. is_inside (set_of described layer index) outer) (range_with_len 0 (count_of described layer))
+candidates described layer outer = filter (λ index. is_inside (set_of described layer index) outer)
+    (range_with_len 0 (count_of described layer))
 
 -- the number of a candidate: its place among them, or its object's physical number
 abbrev pub number_of : Description → Numbering → Layer → ℕ → ℕ → ℕ

@@ -1,6 +1,7 @@
 -- What words say as locations and terms, and which fault they have (after hwloc-calc's locations). 46 is a dot, 58 a
 -- colon, 45 a dash; 126, 120 and 94 are the operators `~`, `x` and `^`.
-use Rattle.std.specs.Prelude.{◌≡◌, ℕ, ◌+◌, ◌-◌, ◌^◌, ◌==◌, ◌||◌, Bool, if◌then◌else◌, List, [], ◌∷◌, length, drop, codes, Option, Some, None, option_map, Result, Ok, Err}
+use Rattle.std.specs.Prelude.{◌≡◌, ℕ, ◌+◌, ◌-◌, ◌^◌, ◌==◌, ◌||◌, Bool, if◌then◌else◌, List, [], ◌∷◌, length, drop, codes, Option, Some}
+use Rattle.std.specs.Prelude.{None, option_map, Result, Ok, Err}
 use Rattle.std.specs.Char.{is_ascii_digit}
 use Rattle.std.specs.List.{slice_split}
 use Rattle.std.specs.Option.{option_and_then}
@@ -10,7 +11,7 @@ use Rattle.cpu_set.specs.declared.fault.SetFault.{SetFault}
 use Rattle.cpu_set.specs.Sets.{numbers_where}
 use Rattle.cpu_set.specs.Readings.{hex_fault, is_in_hex}
 use Rattle.synth_text.specs.declared.description.Description.{Description}
-use Rattle.synth_text.specs.Cuts.{cut, first_piece}
+use Rattle.byte_text.specs.Cuts.{cut, first_piece}
 use Rattle.synth_text.specs.Flaws.{◌>>=◌}
 use Rattle.topo_tree.specs.declared.layer.Layer.{Layer}
 use Rattle.topo_tree.specs.Naming.{layer_named}
@@ -108,7 +109,8 @@ location_of described word at text =
 -- the operation that a word's first byte says, and whether it is an operator
 abbrev pub op_of : List ℕ → Op
 op_of [] = ops.Join
-op_of (first ∷ bytes) = if first == 126 then ops.Remove else (if first == 120 then ops.Meet else (if first == 94 then ops.Differ else ops.Join))
+op_of (first ∷ bytes) = if first == 126 then ops.Remove else
+    (if first == 120 then ops.Meet else (if first == 94 then ops.Differ else ops.Join))
 
 -- how many bytes the operator has
 abbrev pub op_len : Op → ℕ
@@ -118,7 +120,8 @@ op_len op = 1
 -- what a word says as a term
 unfoldable pub term_of : Description → ℕ → List ℕ → Result Term CalcFault
 term_of described word text =
-    location_of described word (op_len (op_of text)) (drop (op_len (op_of text)) text) >>= λ location. Ok (record { op = op_of text; location = location })
+    location_of described word (op_len (op_of text)) (drop (op_len (op_of text)) text) >>=
+    λ location. Ok (record { op = op_of text; location = location })
 
 -- ---- answers
 

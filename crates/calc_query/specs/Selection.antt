@@ -20,25 +20,29 @@ use Rattle.calc_query.specs.Candidates.{candidates, number_at}
 -- whether a part picks an object among candidates of its layer
 unfoldable pub is_picked_among : Description → Numbering → Part → List ℕ → ℕ → Bool
 is_picked_among described numbering part among index =
-    list_any (λ place. slice_index among place == index && is_picked numbering part.pick (length among) (number_at described numbering part.layer among place))
+    list_any (λ place. slice_index among place == index
+    && is_picked numbering part.pick (length among) (number_at described numbering part.layer among place))
     (range_with_len 0 (length among))
 
 -- The objects of a part's layer that it selects: those that it picks among the candidates inside some object selected
 -- before. An object is given by its index in the layer.
 unfoldable pub selected_inside : Description → Numbering → Layer → List ℕ → Part → List ℕ
 selected_inside described numbering layer before part =
-    numbers_where (λ index. list_any (λ outer. has before outer && is_picked_among described numbering part (candidates described part.layer (set_of described layer outer)) index)
+    numbers_where (λ index. list_any (λ outer. has before outer
+    && is_picked_among described numbering part (candidates described part.layer (set_of described layer outer)) index)
     (range_with_len 0 (count_of described layer)))
 
 -- the union of the sets of objects of a layer
 unfoldable pub union_of : Description → Layer → List ℕ → List ℕ
 union_of described layer indexes =
-    numbers_where (λ number. list_any (λ index. has indexes index && has (set_of described layer index) number) (range_with_len 0 (count_of described layer)))
+    numbers_where (λ number. list_any (λ index. has indexes index && has (set_of described layer index) number)
+    (range_with_len 0 (count_of described layer)))
 
 -- The set that parts select, walked from the left, beginning with objects of a layer.
 abbrev pub selected_from : Description → Numbering → Layer → List ℕ → List Part → List ℕ
 selected_from described numbering layer before [] = union_of described layer before
-selected_from described numbering layer before (part ∷ parts) = selected_from described numbering part.layer (selected_inside described numbering layer before part) parts
+selected_from described numbering layer before (part ∷ parts) =
+    selected_from described numbering part.layer (selected_inside described numbering layer before part) parts
 
 -- The set of a location. Parts begin with Machine, inside which all objects lie.
 abbrev pub located : Description → Numbering → Location → List ℕ

@@ -1,13 +1,13 @@
 // What is answered of a set.
-ghost use Rattle.std.specs.Prelude.{◌≡◌, ◌++◌, All, IfOk, OnOk};
+ghost use Rattle.std.specs.Prelude.{◌≡◌, ◌<◌, ◌++◌, All, IfOk, OnOk};
 ghost use Rattle.std.specs.List.{AllByRecursion, flat_map};
-ghost use Rattle.topo_tree.specs.Objects.{IsLayer, IsObject};
+ghost use Rattle.topo_tree.specs.Objects.{count_of, IsLayer, IsObject};
 ghost use Rattle.calc_query.specs.Answers.{intersecting, end_of, with_step, extended, chains, is_largest, largest};
 
 use crate::candidates::inside;
 use crate::query::{Path, Step2};
 use cpu_set::CpuSet;
-use edge_io::OutOfMemory;
+use out_of_memory::OutOfMemory;
 use std::alloc::{AllocError, Global};
 use synth_text::Sequence;
 use topo_tree::{Layer, Object, Topology};
@@ -20,7 +20,8 @@ pub fn intersecting(
     layer: Layer,
 ) -> Result<Vec<u32>, OutOfMemory>
     requires { IsLayer topology.now layer }
-    ensures { IfOk result (λ indexes. indexes.items ≡ intersecting topology.now set.now layer) }
+    ensures indexes { IfOk result (λ indexes. indexes.items ≡ intersecting topology.now set.now layer) }
+    ensures fit { IfOk result (λ indexes. All (λ index. index < count_of topology.now layer) indexes.items) }
 {
     let mut indexes = Vec::new(alloc);
     for index in 0..topology.count(layer) {
@@ -40,7 +41,8 @@ pub fn hierarchical(
     layers: &[Layer],
 ) -> Result<Vec<Path>, OutOfMemory>
     requires { AllByRecursion (IsLayer topology.now) layers.now }
-    ensures { IfOk result (λ paths. paths.items ≡ chains topology.now set.now layers.now) }
+    ensures paths { IfOk result (λ paths. paths.items ≡ chains topology.now set.now layers.now) }
+    ensures fit { IfOk result (λ paths. All (λ path. All (λ step. IsObject topology.now step.object) path.steps) paths.items) }
 {
     let mut paths = Vec::new(alloc);
     paths.push(Path {
@@ -128,7 +130,8 @@ fn with_step(alloc: Global, path: &Path, step: Step2) -> Result<Path, AllocError
 
 /// The objects of a depth that a set has all PUs of, while it hasn't all of the object above; in tree order.
 pub fn largest(alloc: Global, topology: &Topology, set: &CpuSet) -> Result<Vec<Object>, OutOfMemory>
-    ensures { IfOk result (λ objects. objects.items ≡ largest topology.now set.now) }
+    ensures objects { IfOk result (λ objects. objects.items ≡ largest topology.now set.now) }
+    ensures fit { IfOk result (λ objects. All (IsObject topology.now) objects.items) }
 {
     let mut objects = Vec::new(alloc);
     for object in &topology.tree_order(alloc)? {

@@ -4,7 +4,7 @@ ghost use Rattle.std.specs.Option.{option_and_then};
 ghost use Rattle.calc_query.specs.Readings.{index_number, span_from, wrap_from, pick_of};
 
 use crate::query::Pick;
-use synth_text::{cut_at, number_between};
+use byte_text::{Class, cut, number_in};
 
 /// What an index says; `None` where it has none of the forms.
 #[tactic(auto, unfolding(crate::specs::Readings::pick_of))]
@@ -20,10 +20,10 @@ pub fn read_pick(text: &[u8]) -> Option<Pick>
     if text == b"even".as_slice() {
         return Some(Pick::Even);
     }
-    if let Some((first, count)) = cut_at(text, b':') {
+    if let Some((first, count)) = cut(text, Class::Byte(b':')) {
         return read_wrap(first, count);
     }
-    match cut_at(text, b'-') {
+    match cut(text, Class::Byte(b'-')) {
         Some((first, last)) => read_span(first, last),
         None => Some(Pick::One(read_number(text)?)),
     }
@@ -55,6 +55,6 @@ fn read_span(first: &[u8], last: &[u8]) -> Option<Pick>
 fn read_number(text: &[u8]) -> Option<u32>
     ensures { result ≡ index_number text.now }
 {
-    let number = number_between(0, u64::from(u32::MAX), text)?;
+    let number = number_in(0, u64::from(u32::MAX), text)?;
     Some(number as u32)
 }

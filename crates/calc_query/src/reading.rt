@@ -10,10 +10,10 @@ ghost use Rattle.calc_query.specs.Selection.{HasLayers};
 use crate::fault::CalcFault;
 use crate::indexes::read_pick;
 use crate::query::{Location, Op, Part, Term};
-use byte_text::first_part;
+use byte_text::{Class, first_part, first_piece};
 use cpu_set::CpuSet;
 use std::alloc::Global;
-use synth_text::{Sequence, first_piece};
+use synth_text::Sequence;
 use topo_tree::Topology;
 
 /// Reads a word as an operator, if it has one, and a location. A fault carries the word's number.
@@ -142,7 +142,7 @@ fn read_part(topology: &Topology, piece: &[u8], word: u32, at: usize) -> Result<
     ensures part { result ≡ part_of topology.now word at piece.now }
     ensures layer { IfOk result (λ part. IsLayer topology.now part.layer) }
 {
-    let (name, index) = first_piece(piece, b':');
+    let (name, index) = first_piece(piece, Class::Byte(b':'));
     let Some(layer) = topology.layer_named(name) else {
         return Err(CalcFault::NoSuchType { word });
     };

@@ -5,7 +5,8 @@ ghost use Rattle.cpu_set.specs.Sets.{numbers_where};
 ghost use Rattle.topo_tree.specs.declared.layer.Layer.TheVariants as layers;
 ghost use Rattle.topo_tree.specs.Objects.{count_of, IsLayer};
 ghost use Rattle.calc_query.specs.Candidates.{number_of};
-ghost use Rattle.calc_query.specs.Selection.{is_picked_among, selected_inside, union_of, selected_from, located, operated, selected, HasLayers, HaveLayers};
+ghost use Rattle.calc_query.specs.Selection.{is_picked_among, selected_inside, union_of, selected_from, located, operated, selected};
+ghost use Rattle.calc_query.specs.Selection.{HasLayers, HaveLayers};
 
 use crate::candidates::{Run, inside};
 use crate::query::{Location, Numbering, Op, Part, Term};

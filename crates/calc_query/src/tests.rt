@@ -2,12 +2,12 @@ ghost use Rattle.topo_tree.specs.Objects.{IsLayer};
 ghost use Rattle.calc_query.specs.Selection.{HaveLayers};
 
 use super::*;
-use byte_text::Words;
+use byte_text::{Words, cut_at, number_in};
 use cpu_set::CpuSet;
 use std::alloc::Global;
 use std::process::Abort;
 use std::test::Fail;
-use synth_text::{cut_at, number_between, read};
+use synth_text::read;
 use topo_tree::{Layer, Topology};
 
 mod answers;

@@ -1,5 +1,5 @@
 -- How the seats of a CLH lock's queue stand one behind another.
-use Rattle.std.proofs.Common.{◌≡◌, ◌≢◌, ℕ, zero, suc, ◌+◌, ◌≤◌, Bool, true, false, cond, ◌&&◌, ◌==◌, eq-eqb, List, [], ◌∷◌, ◌++◌, length}
+use Rattle.std.proofs.Common.{◌≡◌, ◌≢◌, ℕ, zero, suc, ◌+◌, ◌≤◌, true, false, cond, ◌&&◌, ◌==◌, eq-eqb, List, [], ◌∷◌, ◌++◌, length}
 use Rattle.std.proofs.Common.{map, set, refl, ap, sym, ◌∙◌, subst, ⊎_elim, arith, append_assoc}
 use Rattle.std.proofs.lemmas.List.{append-nil}
 use mathlib.Core.Option.{some, some-injective, some-ne-none}
@@ -9,7 +9,7 @@ use Rattle.atomic_table.proofs.Lists.{at_set}
 use Rattle.lock_rules.specs.declared.view.View.{View}
 use Rattle.lock_tables.specs.Laws.{number_at}
 use Rattle.lock_tables.specs.Rule.{is_busy, IsBusyAt}
-use Rattle.lock_tables.proofs.Lists.{number_is}
+use Rattle.lock_tables.proofs.Lists.{number_is, both_true}
 use Rattle.clh_lock.specs.Rule.{owner_of, passes_to, Leads}
 
 -- the seat j had a view with the same node and predecessor
@@ -98,12 +98,6 @@ module _ (views : List View) where
   leads_within n [] first last busy within h e = omega (arith, e, h)
   leads_within n (j ∷ js) first last busy within h l = let b = busy 0 j refl in leads_within n js b.view.node last
       (λ i. busy (suc i)) within (within j b) (l b.view b.at).1
-
-both_true : (a b : Bool) → (a && b) ≡ true → (a ≡ true) × (b ≡ true)
-both_true true true e = (refl, refl)
-both_true true false e = absurd (cc)
-both_true false true e = absurd (cc)
-both_true false false e = absurd (cc)
 
 owner_is : (views : List View) (j : ℕ) (v : View) (t : ℕ) → get_elem? views j ≡ some v → is_busy false v.phase ≡ true → v.node ≡ t
     → ((k : ℕ) (u : View) → get_elem? views k ≡ some u → is_busy false u.phase ≡ true → u.node ≡ t → k ≡ j) → owner_of views t ≡ v

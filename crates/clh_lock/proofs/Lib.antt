@@ -3,5 +3,4 @@ pub mod Chain
 pub mod Queue
 pub mod Kept
 pub mod Tokens
-pub mod Stands
 pub mod Owners

@@ -1,5 +1,5 @@
 -- The nodes of a CLH lock: each once, and their flags.
-use Rattle.std.proofs.Common.{◌≡◌, ◌≢◌, ℕ, zero, suc, ◌+◌, ◌<◌, ◌≤◌, true, false, cond, ◌==◌, eq-eqb, List, [], ◌∷◌, length, set}
+use Rattle.std.proofs.Common.{◌≡◌, ◌≢◌, ℕ, zero, suc, ◌+◌, ◌<◌, ◌≤◌, true, false, cond, ◌==◌, List, [], ◌∷◌, length, set}
 use Rattle.std.proofs.Common.{replicate, slice_index, nat_le, nat_lt, refl, ap, ◌∙◌, arith}
 use Rattle.std.specs.List.{sum_by}
 use Rattle.std.proofs.lemmas.Bool.Decides.{nat_tests}
@@ -7,7 +7,7 @@ use mathlib.Core.Option.{some}
 use lib.ListN.{get_elem?}
 use Rattle.lock_rules.specs.declared.view.View.{View}
 use Rattle.lock_tables.specs.Numbers.{by_node, stands_in}
-use Rattle.lock_tables.proofs.Numbers.{own_stands, own_apart, hits}
+use Rattle.lock_tables.proofs.Numbers.{own_stands, own_apart, hits, hits_self}
 use Rattle.lock_rules.proofs.Sums.{sum_set, part_le}
 use Rattle.clh_lock.specs.Rule.{tail, flag, pending}
 
@@ -38,9 +38,6 @@ zeros (suc count) (suc i) = zeros count i
 -- the nodes 0 to n stand each once among those of the views and the free one
 abbrev pub Once : ℕ → List View → ℕ → Type 0
 Once n views free = (k : ℕ) → sum_by (stands_in by_node k) views + cond (free == k) 1 0 ≡ cond (nat_le k n) 1 0
-
-pub hits_self : (a : ℕ) → hits a a ≡ 1
-hits_self a = let e : (a == a) ≡ true = eq-eqb a a refl in rw e refl
 
 pub is_within : (k n : ℕ) → 0 < cond (nat_le k n) 1 0 → k ≤ n
 is_within k n h = grind (arith, nat_tests)

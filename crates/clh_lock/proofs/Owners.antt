@@ -9,46 +9,33 @@ use lib.ListN.{get_elem?}
 use Rattle.lock_rules.specs.Tag.{Tag}
 use Rattle.lock_rules.specs.declared.view.View.{View}
 use Rattle.lock_tables.specs.Numbers.{by_node, stands_in}
-use Rattle.lock_tables.specs.Points.{IsAt}
+use Rattle.lock_tables.specs.Points.{IsAt, Has, HasOneSeat}
 use Rattle.lock_tables.specs.Queue.{IsHead}
 use Rattle.lock_tables.specs.Laws.{number_at}
 use Rattle.lock_tables.specs.Rule.{IsQueued}
 use Rattle.lock_tables.proofs.Lists.{head_cut, mapped, number_is}
-use Rattle.lock_tables.proofs.Numbers.{hits}
+use Rattle.lock_tables.proofs.Numbers.{hits, hits_self}
 use Rattle.lock_tables.proofs.Queues.{lives, one_seat_of}
-use Rattle.lock_rules.proofs.Sums.{part_le, parts_le, some_part}
-use Rattle.clh_lock.specs.Nodes.{HasNode, HasOneOwner, AreNodes}
+use Rattle.lock_tables.proofs.Stands.{hit, has_stands, one_seat_has}
+use Rattle.lock_rules.proofs.Sums.{part_le}
+use Rattle.clh_lock.specs.Nodes.{AreNodes}
 use Rattle.clh_lock.specs.Rule.{tail, queue_of, Leads, clh_discipline}
 use Rattle.clh_lock.proofs.Chain.{leads_none}
-use Rattle.clh_lock.proofs.Nodes.{Once, hits_self, is_within, at_most_one, free_within}
+use Rattle.clh_lock.proofs.Nodes.{Once, is_within, at_most_one, free_within}
 use Rattle.clh_lock.proofs.Queue.{disciplined}
-use Rattle.clh_lock.proofs.Stands.{hit, stands_has, has_stands}
 
 no_hit : (a k : ℕ) → ¬ (k ≡ a) → hits a k ≡ 0
 no_hit a k ne = dite (ℕ_discrete (hits a k) 0) (λ z. z) (λ some_hit. absurd (ne (sym (hit a k (omega arith)))))
 
 module _ (n : ℕ) (views : List View) (free : ℕ) (once : Once n views free) where
-  one_owner : (k : ℕ) → k ≤ n → ¬ (k ≡ free) → HasOneOwner k views
+  one_owner : (k : ℕ) → k ≤ n → ¬ (k ≡ free) → HasOneSeat by_node k views
   one_owner k within other =
       let c : ℕ = cond (nat_le k n) 1 0 in
       let is_one : c ≡ 1 = grind (arith, nat_tests) in
       let o : sum_by (stands_in by_node k) views + hits free k ≡ c = once k in
-      let not_free = no_hit free k other in
-      let one : sum_by (stands_in by_node k) views ≡ 1 = omega (arith, o, is_one, not_free) in
-      let p = some_part (stands_in by_node k) views (omega (arith, one)) in
-      let h = stands_has by_node k p.1 p.3 in record {
-        seat = p.0;
-        view = p.1;
-        at = record { at = p.2; unspent = h.0 };
-        has = h.1;
-        alone = λ j v at has. dite (ℕ_discrete j p.0) (λ e. e) (λ ne. absurd (
-            let both = parts_le (stands_in by_node k) views j p.0 v p.1 ne at.at p.2 in
-            let mine = has_stands by_node k v at.unspent has in
-            let its = p.3 in
-            omega (arith, both, mine, its, one)));
-      }
+      let not_free = no_hit free k other in one_seat_has by_node k views (omega (arith, o, is_one, not_free))
 
-  unowned : (j : ℕ) (v : View) → IsAt views j v → ¬ HasNode free v
+  unowned : (j : ℕ) (v : View) → IsAt views j v → ¬ Has by_node free v
   unowned j v at has =
       let o : sum_by (stands_in by_node free) views + hits free free ≡ cond (nat_le free n) 1 0 = once free in
       let most = at_most_one free n in
@@ -57,7 +44,7 @@ module _ (n : ℕ) (views : List View) (free : ℕ) (once : Once n views free) w
       let part = part_le (stands_in by_node free) views j v at.at in
       omega (arith, o, most, self, mine, part)
 
-  no_other : (k j : ℕ) (v : View) → IsAt views j v → HasNode k v → k ≤ n
+  no_other : (k j : ℕ) (v : View) → IsAt views j v → Has by_node k v → k ≤ n
   no_other k j v at has =
       let c : ℕ = cond (nat_le k n) 1 0 in
       let o : sum_by (stands_in by_node k) views + hits free k ≡ c = once k in

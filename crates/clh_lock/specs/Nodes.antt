@@ -1,33 +1,22 @@
 -- What the rule of a CLH lock says of its nodes.
-use Rattle.std.specs.Prelude.{◌≡◌, ◌⊎◌, ℕ, ◌<◌, ◌≤◌, Bool, true, List, [], slice_index, Option}
+use Rattle.std.specs.Prelude.{◌≡◌, ℕ, ◌≤◌, Bool, true, List, [], slice_index, Option}
 use Rattle.atomic_table.specs.Table.{State}
 use Rattle.lock_rules.specs.Tag.{Tag}
 use Rattle.lock_rules.specs.declared.view.View.{View}
-use Rattle.lock_tables.specs.Points.{IsAt}
-use Rattle.lock_tables.specs.Queue.{IsIn, IsHead}
+use Rattle.lock_tables.specs.Numbers.{by_node}
+use Rattle.lock_tables.specs.Points.{IsAt, Has, HasOneSeat}
+use Rattle.lock_tables.specs.Queue.{IsHead}
 use Rattle.lock_tables.specs.Rule.{IsLock}
 use Rattle.clh_lock.specs.Rule.{tail, flag, pending, granted, queue_of, is_pending, clh_discipline}
-
--- the node k is the seat's own, or that of a pass that was not split off yet, or taken over by joining
-abbrev pub HasNode : ℕ → View → Type 0
-HasNode k v = (v.node ≡ k) ⊎ (((v.from ≤ k) × (k < v.to)) ⊎ IsIn k v.nodes)
-
--- exactly one seat has the node k
-pub record HasOneOwner (k : ℕ) (views : List View) : Type 0 where
-  pub seat : ℕ
-  pub view : View
-  pub at : IsAt views seat view
-  pub has : HasNode k view
-  pub alone : (j : ℕ) (v : View) → IsAt views j v → HasNode k v → j ≡ seat
 
 -- the nodes of a lock with n passes, which has this queue
 pub record AreNodes (n : ℕ) (queue : List ℕ) (words : List ℕ) (views : List View) : Type 0 where
   -- of the nodes 0 to n one is free, and each other one has exactly one seat
   pub free : ℕ
   pub free_within : free ≤ n
-  pub one_owner : (k : ℕ) → k ≤ n → ¬ (k ≡ free) → HasOneOwner k views
-  pub unowned : (j : ℕ) (v : View) → IsAt views j v → ¬ HasNode free v
-  pub no_other : (k j : ℕ) (v : View) → IsAt views j v → HasNode k v → k ≤ n
+  pub one_owner : (k : ℕ) → k ≤ n → ¬ (k ≡ free) → HasOneSeat by_node k views
+  pub unowned : (j : ℕ) (v : View) → IsAt views j v → ¬ Has by_node free v
+  pub no_other : (k j : ℕ) (v : View) → IsAt views j v → Has by_node k v → k ≤ n
   -- the free node is `tail` where the queue is empty, and else the one that the head watches
   pub empty : queue ≡ [] → slice_index words tail ≡ free
   pub watched : (j : ℕ) (v : View) → IsAt views j v → IsHead v.number queue → v.predecessor ≡ free

@@ -1,8 +1,7 @@
 -- What `distrib` prints, and why it is refused.
-use Rattle.std.specs.Prelude.{◌≡◌, ◌⊎◌, ◌-◌, ℕ, Bool, false, true, List, [], ◌∷◌, ◌++◌, Option, Some, None, Result, Ok, Err, take}
-use Rattle.std.specs.Prelude.{if◌then◌else◌}
+use Rattle.std.specs.Prelude.{◌≡◌, ◌⊎◌, ◌-◌, ℕ, Bool, false, true, List, [], ◌∷◌, ◌++◌, Option, Some, None, Result, Ok, Err}
 use Rattle.std.specs.List.{flat_map}
-use Rattle.cpu_set.specs.Texts.{hex_text, taskset_text}
+use Rattle.calc_text.specs.Texts.{set_text}
 use Rattle.synth_text.specs.declared.description.Description.{Description}
 use Rattle.topo_tree.specs.Naming.{depth_named}
 use Rattle.topo_tree.specs.Objects.{depth_count}
@@ -15,16 +14,12 @@ use Rattle.clof_tool.specs.declared.status.OptionName.{OptionName}
 use Rattle.clof_tool.specs.declared.status.OptionName.TheVariants as options
 use Rattle.clof_tool.specs.declared.status.Status.{Status}
 use Rattle.clof_tool.specs.declared.status.Status.TheVariants as statuses
-use Rattle.clof_tool.specs.DistribWords.{Depths, Between, At, Distribution}
-use Rattle.clof_tool.specs.TopoText.{IsBuilt, TopoRefuses}
-
--- the text of a set: its first number's alone where that is asked for, in taskset's form or in hexadecimal
-abbrev pub mask_text : (single taskset : Bool) → List ℕ → List ℕ
-mask_text single false set = hex_text (if single then take 1 set else set)
-mask_text single true set = taskset_text (if single then take 1 set else set)
+use Rattle.command_words.specs.Asked.{Depths, Between, At, Distribution}
+use Rattle.clof_tool.specs.Chosen.{chosen}
+use Rattle.clof_tool.specs.OnTopology.{PrintsOn, RefusesOn}
 
 abbrev pub mask_line : (single taskset : Bool) → List ℕ → List ℕ
-mask_line single taskset set = mask_text single taskset set ++ 10 ∷ []
+mask_line single taskset set = set_text taskset (chosen single set) ++ 10 ∷ []
 
 -- masks, one a line
 abbrev pub mask_lines : (single taskset : Bool) → List (List ℕ) → List ℕ
@@ -73,15 +68,8 @@ in_span described asked (Ok span) = between described asked span (fault_of asked
 unfoldable pub answer_on : Description → Distribution → Result (List ℕ) Status
 answer_on described asked = in_span described asked (span_of described asked.depths)
 
--- the text describes something that is built, and this is the answer on it
-pub record AnswersDistrib (asked : Distribution) (answer : Result (List ℕ) Status) : Type 0 where
-  pub described : Description
-  pub built : IsBuilt asked.description described
-  pub answer_is : answer_on described asked ≡ answer
-
 abbrev pub PrintsDistrib : Distribution → List ℕ → Type 0
-PrintsDistrib asked printed = AnswersDistrib asked (Ok printed)
+PrintsDistrib asked printed = PrintsOn asked.description (λ described. answer_on described asked) printed
 
--- the description is refused, or what is asked of it
 abbrev pub DistribRefuses : Distribution → Status → Type 0
-DistribRefuses asked status = TopoRefuses asked.description status ⊎ AnswersDistrib asked (Err status)
+DistribRefuses asked status = RefusesOn asked.description (λ described. answer_on described asked) status

@@ -1,12 +1,11 @@
-pub mod Asked
-pub mod CommandLine
+pub mod CalcText
+pub mod Chosen
 pub mod DistribText
-pub mod DistribWords
 pub mod Line
+pub mod OnTopology
 pub mod Outcome
 pub mod Process
 pub mod Run
 pub mod SetText
 pub mod Status
 pub mod TopoText
-pub mod Words

@@ -1,5 +1,7 @@
 -- The line on standard error that tells of a status.
 use Rattle.std.specs.Prelude.{ℕ, List, [], ◌∷◌, ◌++◌, codes, decimal}
+use Rattle.calc_query.specs.declared.fault.CalcFault.{CalcFault}
+use Rattle.calc_query.specs.declared.fault.CalcFault.TheVariants as calc
 use Rattle.cpu_set.specs.declared.fault.SetFault.{SetFault}
 use Rattle.cpu_set.specs.declared.fault.SetFault.TheVariants as set
 use Rattle.distrib_rules.specs.declared.fault.DistribFault.{DistribFault}
@@ -44,8 +46,16 @@ build_message (build.IndexRange number) = with_number (codes "build IndexRange")
 build_message (build.IndexTwice number) = with_number (codes "build IndexTwice") number
 build_message build.OutOfMemory = codes "out of memory"
 
+abbrev pub calc_message : CalcFault → List ℕ
+calc_message (calc.Location word at) = with_number (with_number (codes "location Location") word) at
+calc_message (calc.NoSuchType word) = with_number (codes "location NoSuchType") word
+calc_message calc.OutOfMemory = codes "out of memory"
+
 -- the option whose type is refused
 abbrev pub type_message : OptionName → List ℕ
+type_message options.Intersect = codes "type -I"
+type_message options.NumberOf = codes "type -N"
+type_message options.Hierarchical = codes "type -H"
 type_message options.From = codes "type --from"
 type_message options.To = codes "type --to"
 type_message options.At = codes "type --at"
@@ -64,6 +74,7 @@ abbrev pub fault_message : Fault → List ℕ
 fault_message (faults.Set fault) = set_message fault
 fault_message (faults.Synth fault) = synth_message fault
 fault_message (faults.Build fault) = build_message fault
+fault_message (faults.Calc fault) = calc_message fault
 fault_message (faults.TypeOf option) = type_message option
 fault_message (faults.Distrib fault) = distrib_message fault
 fault_message (faults.Section fault) = section_message fault

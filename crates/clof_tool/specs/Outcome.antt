@@ -6,10 +6,11 @@ use Rattle.placed_runner.specs.declared.fault.SectionFault.TheVariants.{NotYet}
 use Rattle.clof_tool.specs.declared.status.Fault.TheVariants.{Set as SetOf, Section, Input}
 use Rattle.clof_tool.specs.declared.status.Status.{Status}
 use Rattle.clof_tool.specs.declared.status.Status.TheVariants as statuses
-use Rattle.clof_tool.specs.Words.{Asked, Run, Set, Topo, Distrib}
+use Rattle.command_words.specs.Asked.{Asked, Run, Set, Topo, Calc, Distrib}
 use Rattle.cpu_set.specs.declared.fault.SetFault.{SetFault}
 use Rattle.clof_tool.specs.Run.{input_limit, Prints, IsNotYet}
 use Rattle.clof_tool.specs.SetText.{PrintsSet, IsRefused}
+use Rattle.clof_tool.specs.CalcText.{PrintsCalc, CalcRefuses}
 use Rattle.clof_tool.specs.DistribText.{PrintsDistrib, DistribRefuses}
 use Rattle.clof_tool.specs.TopoText.{PrintsTopo, TopoRefuses}
 
@@ -18,6 +19,7 @@ abbrev pub ReadsInput : Asked → Type 0
 ReadsInput Run = Unit {0}
 ReadsInput (Set list text) = ⊥
 ReadsInput (Topo export text) = ⊥
+ReadsInput (Calc asked) = ⊥
 ReadsInput (Distrib asked) = ⊥
 
 -- the input of what is asked for: all that the source had left, or any text where it doesn't depend on one
@@ -25,6 +27,7 @@ abbrev pub IsInput : Asked → Option (List ℕ) → List ℕ → Type 0
 IsInput Run left input = left ≡ Some input
 IsInput (Set list text) left input = Unit {0}
 IsInput (Topo export text) left input = Unit {0}
+IsInput (Calc asked) left input = Unit {0}
 IsInput (Distrib asked) left input = Unit {0}
 
 -- a source gave this input and came to its end: as many bytes as its count of given ones rose by, which are what it had
@@ -38,6 +41,7 @@ abbrev pub HasRead : Asked → Option (List ℕ) → ℕ → ℕ → List ℕ �
 HasRead Run left given given_now input = WasRead left given given_now input
 HasRead (Set list text) left given given_now input = Unit {0}
 HasRead (Topo export text) left given given_now input = Unit {0}
+HasRead (Calc asked) left given given_now input = Unit {0}
 HasRead (Distrib asked) left given given_now input = Unit {0}
 
 -- the text that is printed
@@ -45,6 +49,7 @@ abbrev pub IsAnswer : Asked → List ℕ → List ℕ → Type 0
 IsAnswer Run input printed = (length input ≤ input_limit) × Prints input printed
 IsAnswer (Set list text) input printed = PrintsSet list text printed
 IsAnswer (Topo export text) input printed = PrintsTopo export text printed
+IsAnswer (Calc asked) input printed = PrintsCalc asked printed
 IsAnswer (Distrib asked) input printed = PrintsDistrib asked printed
 
 -- why `set` refuses its text: by the leftmost rule that it breaks
@@ -62,6 +67,7 @@ abbrev pub WordsRefused : Asked → Status → Type 0
 WordsRefused Run status = ⊥
 WordsRefused (Set list text) status = SetRefuses list text status
 WordsRefused (Topo export text) status = TopoRefuses text status
+WordsRefused (Calc asked) status = CalcRefuses asked status
 WordsRefused (Distrib asked) status = DistribRefuses asked status
 
 -- why `run` refuses an input: it is too long, or it is no section that can be served yet
@@ -79,6 +85,7 @@ abbrev pub InputRefused : Asked → List ℕ → Status → Type 0
 InputRefused Run input status = RunRefuses input status
 InputRefused (Set list text) input status = ⊥
 InputRefused (Topo export text) input status = ⊥
+InputRefused (Calc asked) input status = ⊥
 InputRefused (Distrib asked) input status = ⊥
 
 -- the source had more left than an input may have, where it tells that, and one byte more than that was read
@@ -102,6 +109,7 @@ abbrev pub WasFound : Asked → Option (List ℕ) → ℕ → ℕ → Status →
 WasFound Run left given given_now status = RunFound left given given_now status
 WasFound (Set list text) left given given_now status = ⊥
 WasFound (Topo export text) left given given_now status = ⊥
+WasFound (Calc asked) left given given_now status = ⊥
 WasFound (Distrib asked) left given given_now status = ⊥
 
 -- the cause of a refusal: the words, or what was read

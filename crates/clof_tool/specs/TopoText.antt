@@ -3,7 +3,8 @@ use Rattle.std.specs.Prelude.{◌≡◌, ◌⊎◌, ℕ, Bool, false, true, List
 use Rattle.synth_text.specs.declared.description.Description.{Description}
 use Rattle.synth_text.specs.declared.fault.SynthFault.{SynthFault}
 use Rattle.synth_text.specs.declared.fault.SynthFault.TheVariants as synth
-use Rattle.synth_text.specs.Descriptions.{Describes, SynthRefused}
+use Rattle.synth_text.specs.Descriptions.{Describes}
+use Rattle.synth_text.specs.Faults.{SynthRefused}
 use Rattle.synth_text.specs.Canonical.{canonical}
 use Rattle.topo_tree.specs.declared.fault.BuildFault.{BuildFault}
 use Rattle.topo_tree.specs.declared.fault.BuildFault.TheVariants as build

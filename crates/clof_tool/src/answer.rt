@@ -5,17 +5,18 @@ ghost use Rattle.edge_io.specs.Contents.{IsDrained};
 ghost use Rattle.edge_io.specs.Reading.{HasGiven};
 ghost use Rattle.clof_tool.specs.declared.status.Status.{Status as AnyStatus};
 ghost use Rattle.clof_tool.specs.declared.status.Fault.TheVariants.{Input as InputOf};
-ghost use Rattle.clof_tool.specs.Asked.{plain};
+ghost use Rattle.command_words.specs.Plain.{plain};
 ghost use Rattle.clof_tool.specs.Run.{input_limit};
 ghost use Rattle.clof_tool.specs.Outcome.{ReadsInput, IsInput, WasRead, WasTooLong, HasRead, IsAnswer, WordsRefused, InputRefused};
 ghost use Rattle.clof_tool.specs.Outcome.{HasCause, IsRefusal, HasWritten};
 
+use crate::calculation::calc_text;
 use crate::distrib_text::distrib_text;
 use crate::running::run_text;
 use crate::set_text::set_text;
 use crate::topo_text::topo_text;
-use crate::words::Asked;
 use crate::{Fault, Status};
+use command_words::Asked;
 use edge_io::{ReadAllFault, Source, read_all};
 use std::alloc::Global;
 
@@ -56,6 +57,7 @@ pub(crate) fn answer<S: Source>(
         Asked::Run => run_text(alloc, &read_input(alloc, source)?),
         Asked::Set { list, text } => set_text(alloc, list, text),
         Asked::Topo { export, text } => topo_text(alloc, export, text),
+        Asked::Calc(asked) => calc_text(alloc, &asked),
         Asked::Distrib(asked) => distrib_text(alloc, &asked),
     }
 }

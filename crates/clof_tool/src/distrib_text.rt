@@ -1,20 +1,22 @@
 // What `distrib` prints.
-ghost use Rattle.std.specs.Prelude.{◌≡◌, ◌⊎◌, ◌<◌, ◌-◌, ◌++◌, ◌∷◌, [], ℕ, List, take, IfOk, IfErr, IfSome, IsOk, OnOk, MatchResult};
+ghost use Rattle.std.specs.Prelude.{◌≡◌, ◌⊎◌, ◌<◌, ◌-◌, ◌++◌, ◌∷◌, [], ℕ, List, IfOk, IfErr, IfSome, IsOk, OnOk, MatchResult};
 ghost use Rattle.std.specs.Prelude.{Result as PlainResult};
 ghost use Rattle.topo_tree.specs.Objects.{depth_count};
 ghost use Rattle.clof_tool.specs.declared.status.OptionName.{OptionName as AnyOption};
 ghost use Rattle.clof_tool.specs.declared.status.Status.{Status as AnyStatus};
-ghost use Rattle.clof_tool.specs.Asked.{plain_name, plain_depths, plain_distribution};
-ghost use Rattle.clof_tool.specs.DistribText.{mask_text, mask_line, mask_lines, depth_of, span_of, distrib_status, answer_on};
+ghost use Rattle.command_words.specs.Plain.{plain_text, plain_depths, plain_distribution};
+ghost use Rattle.clof_tool.specs.DistribText.{mask_line, mask_lines, depth_of, span_of, distrib_status, answer_on};
 ghost use Rattle.clof_tool.specs.DistribText.{PrintsDistrib, DistribRefuses};
 ghost use Rattle.clof_tool.specs.Outcome.{EndsEarly};
 
-use crate::distrib_words::{Depths, Distribution};
+use crate::chosen::chosen;
 use crate::topology::topology;
 use crate::{Fault, OptionName, Status};
+use calc_text::set_text;
+use command_words::{Depths, Distribution};
 use cpu_set::CpuSet;
 use distrib_rules::{DistribFault, distrib};
-use edge_io::OutOfMemory;
+use out_of_memory::OutOfMemory;
 use std::alloc::{AllocError, Global};
 use topo_tree::Topology;
 
@@ -88,8 +90,8 @@ fn depth(
     name: Option<&[u8]>,
 ) -> Result<u32, Status>
     requires { default < depth_count topology.now }
-    ensures ok { IfOk result (λ depth. depth_of topology.now option default (plain_name name.entry) ≡ Ok depth) }
-    ensures err { IfErr result (λ status. depth_of topology.now option default (plain_name name.entry) ≡ Err status) }
+    ensures ok { IfOk result (λ depth. depth_of topology.now option default (plain_text name.entry) ≡ Ok depth) }
+    ensures err { IfErr result (λ status. depth_of topology.now option default (plain_text name.entry) ≡ Err status) }
     ensures fit { IfOk result (λ depth. depth < depth_count topology.now) }
     ensures early { IfErr result EndsEarly }
 {
@@ -140,36 +142,8 @@ fn push_line(
 ) -> Result<(), OutOfMemory>
     ensures { OnOk result (text.new.items ≡ text.old.items ++ mask_line single taskset mask.now) }
 {
-    let line = mask_text(alloc, single, taskset, mask)?;
+    let line = set_text(alloc, taskset, &chosen(single, mask))?;
     text.extend_from_slice(&line)?;
     text.push(b'\n')?;
     Ok(())
-}
-
-// The text of a set, or of its first number alone.
-fn mask_text(
-    alloc: Global,
-    single: bool,
-    taskset: bool,
-    mask: &CpuSet,
-) -> Result<Vec<u8>, OutOfMemory>
-    ensures { IfOk result (λ text. text.items ≡ mask_text single taskset mask.now) }
-{
-    let shown = if single { first_alone(mask) } else { *mask };
-    if taskset {
-        shown.write_taskset(alloc)
-    } else {
-        shown.write_hex(alloc)
-    }
-}
-
-// The set of a set's first number alone.
-fn first_alone(set: &CpuSet) -> CpuSet
-    ensures { result ≡ take 1 set.now }
-{
-    let mut alone = CpuSet::empty();
-    if let Some(number) = set.first() {
-        alone.with(number);
-    }
-    alone
 }

@@ -2,9 +2,9 @@
 #![tactic(auto)]
 
 mod answer;
-mod command_line;
+mod calculation;
+mod chosen;
 mod distrib_text;
-mod distrib_words;
 mod line;
 mod process;
 mod report;
@@ -14,7 +14,6 @@ mod status;
 mod top_call;
 mod topo_text;
 mod topology;
-mod words;
 
 pub use process::Process;
 pub use status::{Fault, OptionName, Status};

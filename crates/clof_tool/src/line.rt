@@ -1,11 +1,12 @@
 // The line that tells of a status, in room on the stack.
 ghost use Rattle.std.specs.Prelude.{◌≡◌, ◌≤◌, ◌+◌, ◌++◌, codes, length};
 ghost use Rattle.arrayvec.specs.ArrayString.{array_string_len};
-ghost use Rattle.clof_tool.specs.Line.{with_number, set_message, synth_message, build_message, type_message, distrib_message};
+ghost use Rattle.clof_tool.specs.Line.{with_number, set_message, synth_message, build_message, calc_message, type_message, distrib_message};
 ghost use Rattle.clof_tool.specs.Line.{fault_message, line_with, line_of};
 
 use crate::{Fault, OptionName, Status};
 use arrayvec::ArrayString;
+use calc_query::CalcFault;
 use cpu_set::SetFault;
 use distrib_rules::DistribFault;
 use itoa::Buffer;
@@ -42,6 +43,7 @@ fn fault_line(fault: &Fault) -> Line
         Fault::Set(fault) => set_line(fault),
         Fault::Synth(fault) => synth_line(fault),
         Fault::Build(fault) => build_line(fault),
+        Fault::Calc(fault) => calc_line(fault),
         Fault::TypeOf(option) => type_line(option),
         Fault::Distrib(fault) => distrib_line(fault),
         Fault::Section(SectionFault::NotYet) => saying("section NotYet"),
@@ -89,10 +91,25 @@ fn build_line(fault: &BuildFault) -> Line
     }
 }
 
+fn calc_line(fault: &CalcFault) -> Line
+    ensures { result.bytes ≡ line_with (calc_message fault.now) }
+{
+    match fault {
+        CalcFault::Location { word, at } => {
+            saying_two("location Location", u64::from(*word), *at as u64)
+        }
+        CalcFault::NoSuchType { word } => saying_number("location NoSuchType", u64::from(*word)),
+        CalcFault::OutOfMemory => saying("out of memory"),
+    }
+}
+
 fn type_line(option: &OptionName) -> Line
     ensures { result.bytes ≡ line_with (type_message option.now) }
 {
     match option {
+        OptionName::Intersect => saying("type -I"),
+        OptionName::NumberOf => saying("type -N"),
+        OptionName::Hierarchical => saying("type -H"),
         OptionName::From => saying("type --from"),
         OptionName::To => saying("type --to"),
         OptionName::At => saying("type --at"),

@@ -1,11 +1,11 @@
 // The process that the program runs in: its words, its streams and its exit status.
-ghost use Rattle.std.specs.Prelude.{◌≡◌, ◌≢◌, ◌⊎◌, IfErr, IfOk, map, string_bytes};
+ghost use Rattle.std.specs.Prelude.{◌≡◌, ◌≢◌, ◌⊎◌, IfErr, IfOk};
 ghost use Rattle.std.specs.IoError.{error_kind};
 ghost use Rattle.std.specs.Process.{exit_status};
 ghost use Rattle.clof_tool.specs.declared.status.Status.{Status as AnyStatus};
 ghost use Rattle.clof_tool.specs.Process.{words_of_process, IsUnused};
 ghost use Rattle.clof_tool.specs.Status.{code_of};
-ghost use Rattle.clof_tool.specs.Words.{IsTabled, IsUsage};
+ghost use Rattle.command_words.specs.Words.{IsTabled, IsUsage};
 
 use crate::report::report;
 use crate::{Status, top};
@@ -45,7 +45,7 @@ impl Process {
         ensures code { (status : AnyStatus) × (exit_status result ≡ code_of status) }
         ensures usage { IfOk (words_of_process self) (λ words. exit_status result ≡ 2 → IsUsage words.items) }
         ensures usage_else { IfOk (words_of_process self) (λ words. IsUsage words.items →
-            (exit_status result ≡ 2) ⊎ ((exit_status result ≡ 7) × IsTabled (map string_bytes words.items))) }
+            (exit_status result ≡ 2) ⊎ ((exit_status result ≡ 7) × IsTabled words.items)) }
         ensures no_words { IfErr (words_of_process self) (λ error. error_kind error ≢ ErrorKind.OutOfMemory → exit_status result ≡ 2) }
         ensures no_memory { IfErr (words_of_process self) (λ error. error_kind error ≡ ErrorKind.OutOfMemory → exit_status result ≡ 7) }
     {

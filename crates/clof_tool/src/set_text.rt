@@ -6,7 +6,7 @@ ghost use Rattle.clof_tool.specs.SetText.{set_lines, Reads, IsRefused, PrintsSet
 
 use crate::{Fault, Status};
 use cpu_set::{CpuSet, SetFault};
-use edge_io::OutOfMemory;
+use out_of_memory::OutOfMemory;
 use std::alloc::Global;
 
 /// The three lines of the set that a text tells, in hexadecimal or as a list, or the status with which it is refused.

@@ -1,6 +1,7 @@
 // How a call of the program ends.
 ghost use Rattle.std.specs.Prelude.{◌≡◌};
 
+use calc_query::CalcFault;
 use cpu_set::SetFault;
 use distrib_rules::DistribFault;
 use placed_runner::SectionFault;
@@ -11,6 +12,12 @@ use topo_tree::BuildFault;
 /// An option whose value is a type.
 #[derive(Clone, Copy, Debug, PartialEq, Eq)]
 pub enum OptionName {
+    /// `-I`
+    Intersect,
+    /// `-N`
+    NumberOf,
+    /// `-H`
+    Hierarchical,
     /// `--from`
     From,
     /// `--to`
@@ -31,6 +38,9 @@ pub enum Fault {
     /// The physical numbers of a description.
     #[error("the topology: {0}")]
     Build(BuildFault),
+    /// The locations of a calculation.
+    #[error("the locations: {0}")]
+    Calc(CalcFault),
     /// The type of an option names no layer.
     #[error("the type of an option")]
     TypeOf(OptionName),

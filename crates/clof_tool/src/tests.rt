@@ -1,4 +1,5 @@
 // The top call over sources and sinks in memory.
+mod calc;
 mod distrib;
 
 use crate::report::report;
@@ -160,7 +161,7 @@ fn refuses_commands_that_are_not_built(rt: HostRuntime) -> Result<(), Fail> {
 
 #[test]
 fn refuses_other_words(rt: HostRuntime) -> Result<(), Fail> {
-    let cases: [&[&str]; 18] = [
+    let cases: [&[&str]; 15] = [
         &["topo"],
         &["topo", "--export"],
         &["topo", "--list", "PU:1"],
@@ -171,12 +172,9 @@ fn refuses_other_words(rt: HostRuntime) -> Result<(), Fail> {
         &["Run"],
         &[""],
         &["set"],
-        &["set", "-"],
         &["set", "--list"],
         &["set", "--list", "-1"],
-        &["set", "0x1", "--list"],
         &["set", "--list", "1", "2"],
-        &["set", "--", "0x1"],
         &["set", "--list", "1", "2", "3"],
         &[
             "run", "run", "run", "run", "run", "run", "run", "run", "run", "run",
@@ -459,7 +457,10 @@ fn prints<R: Threads + Wait + Sync + Abort>(
 
 #[test]
 fn prints_the_three_texts_of_a_set(rt: HostRuntime) -> Result<(), Fail> {
-    let cases: [(&[&str], &str); 5] = [
+    let cases: [(&[&str], &str); 8] = [
+        (&["set", "--", "0x1"], "0x00000001\n0\n0x1\n"),
+        (&["set", "4", "--list"], "0x00000010\n4\n0x10\n"),
+        (&["set", "--list", "--", ""], "0x0\n\n0x0\n"),
         (&["set", "--list", ""], "0x0\n\n0x0\n"),
         (&["set", "0x0"], "0x0\n\n0x0\n"),
         (
@@ -477,7 +478,17 @@ fn prints_the_three_texts_of_a_set(rt: HostRuntime) -> Result<(), Fail> {
 
 #[test]
 fn refuses_texts_that_are_no_sets(rt: HostRuntime) -> Result<(), Fail> {
-    let cases: [(&[&str], SetFault, &str); 4] = [
+    let cases: [(&[&str], SetFault, &str); 6] = [
+        (
+            &["set", "-"],
+            SetFault::Form { at: 0 },
+            "clof: set Form 0\n",
+        ),
+        (
+            &["set", "--list", "--", "-1"],
+            SetFault::Form { at: 0 },
+            "clof: set Form 0\n",
+        ),
         (
             &["set", "--list", "3,4096"],
             SetFault::TooLarge { at: 2 },

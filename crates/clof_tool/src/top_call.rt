@@ -1,11 +1,13 @@
 // The top call.
-ghost use Rattle.std.specs.Prelude.{◌≡◌, ◌≢◌, ◌<◌, ◌⊎◌, ◌↔◌, ℕ, List, Some, length, map, string_bytes, take, IfErr, IfOk, IfSome};
+ghost use Rattle.std.specs.Prelude.{◌≡◌, ◌≢◌, ◌<◌, ◌⊎◌, ◌↔◌, ℕ, List, Some, length, take, IfErr, IfOk, IfSome};
 ghost use Rattle.edge_io.specs.Counts.{Rose};
 ghost use Rattle.edge_io.specs.Contents.{Gains, IsDrained};
 ghost use Rattle.edge_io.specs.Reading.{HasGiven};
 ghost use Rattle.clof_tool.specs.declared.status.Status.{Status as AnyStatus};
 ghost use Rattle.clof_tool.specs.Line.{line_of};
-ghost use Rattle.clof_tool.specs.Words.{Asked, Says, IsTabled, IsUsage};
+ghost use Rattle.command_words.specs.Asked.{Asked as PlainAsked};
+ghost use Rattle.command_words.specs.Plain.{plain};
+ghost use Rattle.command_words.specs.Words.{Says, IsTabled, IsUsage};
 ghost use Rattle.clof_tool.specs.Run.{input_limit};
 ghost use Rattle.clof_tool.specs.Outcome.{ReadsInput, IsInput, HasRead, IsAnswer, WordsRefused, InputRefused, HasCause, IsRefusal};
 ghost use Rattle.clof_tool.specs.Outcome.{HasWritten};
@@ -13,7 +15,7 @@ ghost use Rattle.clof_tool.specs.Outcome.{HasWritten};
 use crate::Status;
 use crate::answer::answer;
 use crate::report::report;
-use crate::words::read_words;
+use command_words::{Asked, WordsFault, read_words};
 use edge_io::{Sink, Source, Stopped, write_all};
 use std::alloc::Global;
 use std::sync::Wait;
@@ -38,30 +40,30 @@ pub fn top<R: Threads + Wait + Sync, S: Source, K: Sink, E: Sink>(
     // The words.
     ensures usage { result ≡ Status.Usage → IsUsage words.now }
     ensures usage_else { IsUsage words.now →
-        (result ≡ Status.Usage) ⊎ ((result ≡ Status.OutOfMemory) × IsTabled (map string_bytes words.now)) }
+        (result ≡ Status.Usage) ⊎ ((result ≡ Status.OutOfMemory) × IsTabled words.now) }
     ensures unread { IsUsage words.now → source.new ≡ source.old }
-    ensures unread_else { (asked : Asked) → Says words.now asked → (ReadsInput asked → ⊥) → source.new ≡ source.old }
+    ensures unread_else { (asked : PlainAsked) → Says words.now asked → (ReadsInput asked → ⊥) → source.new ≡ source.old }
 
     // What is refused by the words alone, whatever the input is.
-    ensures words_refused { (asked : Asked) (status : AnyStatus) → Says words.now asked → WordsRefused asked status →
+    ensures words_refused { (asked : PlainAsked) (status : AnyStatus) → Says words.now asked → WordsRefused asked status →
         (result ≡ status) ⊎ (result ≡ Status.OutOfMemory) }
-    ensures unread_refused { (asked : Asked) (status : AnyStatus) → Says words.now asked → WordsRefused asked status →
+    ensures unread_refused { (asked : PlainAsked) (status : AnyStatus) → Says words.now asked → WordsRefused asked status →
         source.new ≡ source.old }
 
     // What is refused by what was read, and the cause of each refusal.
-    ensures input_refused { (asked : Asked) (input : List ℕ) (status : AnyStatus) → Says words.now asked →
+    ensures input_refused { (asked : PlainAsked) (input : List ℕ) (status : AnyStatus) → Says words.now asked →
         S.left source.old ≡ Some input → InputRefused asked input status → (Rose (S.faults source.old) (S.faults source.new) → ⊥) →
         (result ≡ status) ⊎ (result ≡ Status.OutOfMemory) }
-    ensures cause { (asked : Asked) → Says words.now asked → IsRefusal result →
+    ensures cause { (asked : PlainAsked) → Says words.now asked → IsRefusal result →
         HasCause asked (S.left source.old) (S.given source.old) (S.given source.new) result }
 
     // What is printed, and that the input was read to its end.
-    ensures printed { (asked : Asked) → Says words.now asked → result ≡ Status.Ok →
+    ensures printed { (asked : PlainAsked) → Says words.now asked → result ≡ Status.Ok →
         (input : List ℕ) × (text : List ℕ) × HasRead asked (S.left source.old) (S.given source.old) (S.given source.new) input
         × IsAnswer asked input text × Gains (K.held out.old) (K.held out.new) text }
-    ensures at_end { (asked : Asked) → Says words.now asked → ReadsInput asked → result ≡ Status.Ok →
+    ensures at_end { (asked : PlainAsked) → Says words.now asked → ReadsInput asked → result ≡ Status.Ok →
         IsDrained (S.left source.old) (S.left source.new) }
-    ensures complete { (asked : Asked) (input text : List ℕ) →
+    ensures complete { (asked : PlainAsked) (input text : List ℕ) →
         Says words.now asked → IsInput asked (S.left source.old) input → IsAnswer asked input text →
         (ReadsInput asked → Rose (S.faults source.old) (S.faults source.new) → ⊥) →
         (Rose (K.faults out.old) (K.faults out.new) → ⊥) → (Rose (K.stalls out.old) (K.stalls out.new) → ⊥) →
@@ -69,7 +71,7 @@ pub fn top<R: Threads + Wait + Sync, S: Source, K: Sink, E: Sink>(
 
     // Faults of the source.
     ensures read_fault { result ≡ Status.ReadFault → Rose (S.faults source.old) (S.faults source.new) }
-    ensures read_fault_input { (asked : Asked) → Says words.now asked → result ≡ Status.ReadFault → ReadsInput asked }
+    ensures read_fault_input { (asked : PlainAsked) → Says words.now asked → result ≡ Status.ReadFault → ReadsInput asked }
     ensures read_in_part { result ≡ Status.ReadFault →
         HasGiven input_limit (S.left source.old) (S.left source.new) (S.given source.old) (S.given source.new) }
     ensures read_calm { result ≢ Status.ReadFault → S.faults source.new ≡ S.faults source.old }
@@ -79,7 +81,7 @@ pub fn top<R: Threads + Wait + Sync, S: Source, K: Sink, E: Sink>(
         Rose (K.faults out.old) (K.faults out.new) ⊎ Rose (K.stalls out.old) (K.stalls out.new) }
     ensures write_full { (written : ℕ) → result ≡ Status.WriteFault written →
         Rose (K.faults out.old) (K.faults out.new) ⊎ IfSome (K.room out.old) (λ room. room ≡ written) }
-    ensures cut_short { (asked : Asked) (written : ℕ) → Says words.now asked → result ≡ Status.WriteFault written →
+    ensures cut_short { (asked : PlainAsked) (written : ℕ) → Says words.now asked → result ≡ Status.WriteFault written →
         (input : List ℕ) × (text : List ℕ) × HasRead asked (S.left source.old) (S.given source.old) (S.given source.new) input
         × IsAnswer asked input text × (written < length text) × Gains (K.held out.old) (K.held out.new) (take written text) }
     ensures unwritten { (HasWritten result → ⊥) → out.new ≡ out.old }
@@ -94,7 +96,7 @@ pub fn top<R: Threads + Wait + Sync, S: Source, K: Sink, E: Sink>(
     ensures told_in_part { result ≢ Status.Ok → (written : ℕ) × Gains (E.held err.old) (E.held err.new) (take written (line_of result)) }
 {
     let _runtime = rt;
-    let asked = match read_words(alloc, words) {
+    let asked = match read(alloc, words) {
         Ok(asked) => asked,
         Err(status) => {
             report(err, &status);
@@ -104,6 +106,20 @@ pub fn top<R: Threads + Wait + Sync, S: Source, K: Sink, E: Sink>(
     let status = print(answer(alloc, asked, source), out);
     report(err, &status);
     status
+}
+
+// What the words ask for, or the status where they ask for nothing.
+fn read(alloc: Global, words: &[String]) -> Result<Asked<'_>, Status>
+    ensures asked { IfOk result (λ asked. Says words.now (plain asked)) }
+    ensures only { IfOk result (λ asked. (other : PlainAsked) → Says words.now other → other ≡ plain asked) }
+    ensures refused { IfErr result (λ status. ((status ≡ Status.OutOfMemory) × IsTabled words.now)
+        ⊎ ((status ≡ Status.Usage) × IsUsage words.now)) }
+{
+    match read_words(alloc, words) {
+        Ok(asked) => Ok(asked),
+        Err(WordsFault::Usage) => Err(Status::Usage),
+        Err(WordsFault::OutOfMemory) => Err(Status::OutOfMemory),
+    }
 }
 
 // Writes the text of an answer, or hands on the status where there is none.

@@ -5,7 +5,7 @@ ghost use Rattle.clof_tool.specs.TopoText.{text_of, PrintsTopo, TopoRefuses};
 
 use crate::Status;
 use crate::topology::topology;
-use edge_io::OutOfMemory;
+use out_of_memory::OutOfMemory;
 use std::alloc::Global;
 use topo_tree::Topology;
 

@@ -1,5 +1,8 @@
 -- The list text of a set is read as that set.
-use Rattle.std.proofs.Common.{◌≡◌, ℕ, ◌+◌, ◌<◌, ◌≤◌, Bool, true, false, cond, ◌&&◌, ◌||◌, ◌==◌, nat_le, List, [], ◌∷◌, ◌++◌, length, map, get_or, None, refl, sym, ap, ◌∙◌, arith, decimal}
+use Rattle.std.proofs.Common.{
+  ◌≡◌, ℕ, ◌+◌, ◌<◌, ◌≤◌, Bool, true, false, cond, ◌&&◌, ◌||◌, ◌==◌, nat_le, List, [], ◌∷◌, ◌++◌, length, map, get_or,
+  None, refl, sym, ap, ◌∙◌, arith, decimal
+}
 use Rattle.std.specs.List.{All, AllByRecursion, Contains, flat_map, join_with_byte, list_any}
 use Rattle.std.specs.Str.Parse.{AllDigits, digits_value}
 use Rattle.std.proofs.lemmas.Bool.{ne_eqb, eqb-true, eqb-false}
@@ -34,7 +37,8 @@ in_run number run = nat_le run.0 number && nat_le number run.1
 one_in : (n number : ℕ) → (nat_le number n && nat_le n number) ≡ (number == n)
 one_in n number = grind (arith, nat_tests)
 
-grown_in : (n number first last : ℕ) → first ≡ number + 1 → first ≤ last → (nat_le number n && nat_le n last) ≡ (number == n || (nat_le first n && nat_le n last))
+grown_in : (n number first last : ℕ) → first ≡ number + 1 → first ≤ last
+    → (nat_le number n && nat_le n last) ≡ (number == n || (nat_le first n && nat_le n last))
 grown_in n number first last follows order = grind (arith, nat_tests)
 
 -- a number before the others makes good runs, and they have it besides
@@ -43,16 +47,22 @@ module _ (number : ℕ) (low : number < 4096) where
   onto_good [] good = ((omega arith, low), tt)
   onto_good ((first, last) ∷ runs) good = pick (first == number + 1) refl
     where
-      pick : (next : Bool) → (first == number + 1) ≡ next → AllByRecursion GoodRun (cond next ((number, last) ∷ runs) ((number, number) ∷ (first, last) ∷ runs))
+      pick : (next : Bool) → (first == number + 1) ≡ next
+          → AllByRecursion GoodRun (cond next ((number, last) ∷ runs) ((number, number) ∷ (first, last) ∷ runs))
       pick true is = ((omega (arith, good.0.0, eqb-true first (number + 1) is), good.0.1), good.1)
       pick false is = ((omega arith, low), good)
 
-  onto_any : (n : ℕ) (runs : List (ℕ × ℕ)) → AllByRecursion GoodRun runs → list_any (in_run n) (onto_runs number runs) ≡ (number == n || list_any (in_run n) runs)
+  onto_any : (n : ℕ) (runs : List (ℕ × ℕ)) → AllByRecursion GoodRun runs
+      → list_any (in_run n) (onto_runs number runs) ≡ (number == n || list_any (in_run n) runs)
   onto_any n [] good = ap (λ t. t || false) (one_in n number)
   onto_any n ((first, last) ∷ runs) good = pick (first == number + 1) refl
     where
-      pick : (next : Bool) → (first == number + 1) ≡ next → list_any (in_run n) (cond next ((number, last) ∷ runs) ((number, number) ∷ (first, last) ∷ runs)) ≡ (number == n || (in_run n (first, last) || list_any (in_run n) runs))
-      pick true is = ap (λ t. t || list_any (in_run n) runs) (grown_in n number first last (eqb-true first (number + 1) is) good.0.0) ∙ or_assoc (number == n) (in_run n (first, last)) (list_any (in_run n) runs)
+      pick : (next : Bool) → (first == number + 1) ≡ next
+          → list_any (in_run n) (cond next ((number, last) ∷ runs) ((number, number) ∷ (first, last) ∷ runs))
+          ≡ (number == n || (in_run n (first, last) || list_any (in_run n) runs))
+      pick true is =
+          ap (λ t. t || list_any (in_run n) runs) (grown_in n number first last (eqb-true first (number + 1) is) good.0.0)
+          ∙ or_assoc (number == n) (in_run n (first, last)) (list_any (in_run n) runs)
       pick false is = ap (λ t. t || (in_run n (first, last) || list_any (in_run n) runs)) (one_in n number)
 
 runs_good : (numbers : List ℕ) → AllByRecursion (λ n. n < 4096) numbers → AllByRecursion GoodRun (runs_of numbers)
@@ -101,12 +111,17 @@ two_numbers : (first last : ℕ) → first ≤ last → last < 4096 → RunText 
 two_numbers first last order low =
     let first_reads = number_text first (omega arith) in
     let last_reads = number_text last low in
-    let cut : IsCutAt 45 (decimal first ++ 45 ∷ decimal last) (decimal first) (decimal last) = record { parts = refl; first = lacks (decimal first) 45 (not_digit (decimal first) 45 first_reads.0.1 (omega arith)) } in
+    let cut : IsCutAt 45 (decimal first ++ 45 ∷ decimal last) (decimal first) (decimal last) =
+        record { parts = refl; first = lacks (decimal first) 45 (not_digit (decimal first) 45 first_reads.0.1 (omega arith)) } in
     let ends = cut_ends (decimal first ++ 45 ∷ decimal last) (decimal first) (decimal last) cut in
     record {
-      no_comma = All-append (λ byte. (byte == 44) ≡ false) (decimal first) (45 ∷ decimal last) (not_digit (decimal first) 44 first_reads.0.1 (omega arith))
+      no_comma =
+          All-append (λ byte. (byte == 44) ≡ false) (decimal first) (45 ∷ decimal last)
+          (not_digit (decimal first) 44 first_reads.0.1 (omega arith))
           (All-cons (λ byte. (byte == 44) ≡ false) 45 (decimal last) refl (not_digit (decimal last) 44 last_reads.0.1 (omega arith)));
-      rule = λ at. rule_cut at (decimal first ++ 45 ∷ decimal last) (decimal first) (decimal last) cut (ne_eqb (length (decimal last)) 0 (λ none. omega (arith, last_reads.0.0)))
+      rule =
+          λ at. rule_cut at (decimal first ++ 45 ∷ decimal last) (decimal first) (decimal last) cut
+          (ne_eqb (length (decimal last)) 0 (λ none. omega (arith, last_reads.0.0)))
           ∙ range_good at (decimal first) (decimal last) first last first_reads last_reads order;
       low = ap (digits_value 10) ends.low_is ∙ first_reads.1;
       high = ap (digits_value 10) ends.high_is ∙ last_reads.1;
@@ -146,8 +161,10 @@ items_back [] good = refl
 items_back ((first, last) ∷ runs) good =
     let one = run_text (first, last) in
     let long : 0 < length (join_with_byte 44 (one ∷ map run_text runs)) =
-    omega (arith, ap length (join_first one (map run_text runs)), length-append one (flat_map (λ part. 44 ∷ part) (map run_text runs)), run_some first last (omega (arith, good.0.0, good.0.1))) in
-    sym (items_some (join_with_byte 44 (one ∷ map run_text runs)) (ne_eqb (length (join_with_byte 44 (one ∷ map run_text runs))) 0 (λ none. omega arith)))
+    omega (arith, ap length (join_first one (map run_text runs)), length-append one
+        (flat_map (λ part. 44 ∷ part) (map run_text runs)), run_some first last (omega (arith, good.0.0, good.0.1))) in
+    sym (items_some (join_with_byte 44 (one ∷ map run_text runs))
+        (ne_eqb (length (join_with_byte 44 (one ∷ map run_text runs))) 0 (λ none. omega arith)))
     ∙ parts_of-join one (map run_text runs) (run_reads first last good.0.0 good.0.1).no_comma (no_commas runs good.1)
 
 pub list_read_back : (set : List ℕ) → IsSet set → ReadsList (list_text set) set

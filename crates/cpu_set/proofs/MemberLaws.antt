@@ -25,15 +25,18 @@ HasJust-all test = record { set = IsSet-numbers_where test; members = numbers-Ha
 
 pub SameByMembers-all : (one other : List ℕ) → SameByMembers one other
 SameByMembers-all one other one_set other_set agree = same_set one other one_set other_set (λ n below.
-    same_from_decides (has one n) (has other n) (Decides-has one n) (Decides-like (has other n) (agree n).1 (agree n).0 (Decides-has other n)))
+    same_from_decides (has one n) (has other n) (Decides-has one n)
+        (Decides-like (has other n) (agree n).1 (agree n).0 (Decides-has other n)))
 
 -- a set made of two, by a test of what each has
 module _ (one other : List ℕ) (one_set : IsSet one) (other_set : IsSet other) where
-  combined : (test : Bool → Bool → Bool) → test false false ≡ false → (n : ℕ) → has (numbers_where (λ m. test (has one m) (has other m))) n ≡ test (has one n) (has other n)
+  combined : (test : Bool → Bool → Bool) → test false false ≡ false → (n : ℕ)
+      → has (numbers_where (λ m. test (has one m) (has other m))) n ≡ test (has one n) (has other n)
   combined test none n = elim (cases_lt n 4096) [
     | inl below ↦ has-numbers_below 4096 (λ m. test (has one m) (has other m)) n below
     | inr past ↦ has-numbers_below_past 4096 (λ m. test (has one m) (has other m)) n past
-        ∙ sym (ap (λ t. test t (has other n)) (has-past one n one_set past) ∙ ap (λ t. test false t) (has-past other n other_set past) ∙ none)
+        ∙ sym (ap (λ t. test t (has other n)) (has-past one n one_set past) ∙ ap (λ t. test false t) (has-past other n other_set past)
+            ∙ none)
   ]
 
   members : (test : Bool → Bool → Bool) (Kept : Type 0) (n : ℕ) → test false false ≡ false → Decides (test (has one n) (has other n)) Kept
@@ -45,11 +48,17 @@ module _ (one other : List ℕ) (one_set : IsSet one) (other_set : IsSet other) 
 
   pub CombinesSets-all : CombinesSets one other
   CombinesSets-all = record {
-    union = λ n. members (λ a b. a || b) (Contains one n ⊎ Contains other n) n refl (Decides-or (has one n) (has other n) (Decides-has one n) (Decides-has other n));
+    union =
+        λ n. members (λ a b. a || b) (Contains one n ⊎ Contains other n) n refl
+        (Decides-or (has one n) (has other n) (Decides-has one n) (Decides-has other n));
     minus = λ n. members (λ a b. a && not b) (Contains one n × ¬ (Contains other n)) n refl
         (Decides-and (has one n) (not (has other n)) (Decides-has one n) (Decides-not (has other n) (Decides-has other n)));
-    meet = λ n. members (λ a b. a && b) (Contains one n × Contains other n) n refl (Decides-and (has one n) (has other n) (Decides-has one n) (Decides-has other n));
-    xor = λ n. members (λ a b. (a && not b) || (b && not a)) ((Contains one n × ¬ (Contains other n)) ⊎ (Contains other n × ¬ (Contains one n))) n refl
+    meet =
+        λ n. members (λ a b. a && b) (Contains one n × Contains other n) n refl
+        (Decides-and (has one n) (has other n) (Decides-has one n) (Decides-has other n));
+    xor =
+        λ n. members (λ a b. (a && not b) || (b && not a))
+        ((Contains one n × ¬ (Contains other n)) ⊎ (Contains other n × ¬ (Contains one n))) n refl
         (Decides-or (has one n && not (has other n)) (has other n && not (has one n))
         (Decides-and (has one n) (not (has other n)) (Decides-has one n) (Decides-not (has other n) (Decides-has other n)))
         (Decides-and (has other n) (not (has one n)) (Decides-has other n) (Decides-not (has one n) (Decides-has one n))));

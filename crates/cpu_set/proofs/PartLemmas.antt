@@ -1,5 +1,8 @@
 -- The parts of a text between commas, one after another.
-use Rattle.std.proofs.Common.{◌≡◌, ℕ, suc, ◌+◌, ◌<◌, Bool, true, false, cond, ◌==◌, List, [], ◌∷◌, length, get_or, Option, Some, None, refl, sym, ap, ◌∙◌, arith}
+use Rattle.std.proofs.Common.{
+  ◌≡◌, ℕ, suc, ◌+◌, ◌<◌, Bool, true, false, cond, ◌==◌, List, [], ◌∷◌, length, get_or, Option, Some, None, refl, sym,
+  ap, ◌∙◌, arith
+}
 use Rattle.std.specs.Borrow.{Bor}
 use Rattle.std.specs.List.{All, Contains, onto_first, count_by}
 use Rattle.std.specs.Option.{option_or}
@@ -28,7 +31,8 @@ parts_left None = []
 parts_left (Some text) = parts_of text.now
 
 -- a text's parts are the first one and those of what stands behind it
-pub first_of_parts : (text part : List ℕ) (behind : Option (Bor (List ℕ))) → IsFirstPart 44 text part behind → parts_of text ≡ part ∷ parts_left behind
+pub first_of_parts : (text part : List ℕ) (behind : Option (Bor (List ℕ))) → IsFirstPart 44 text part behind
+    → parts_of text ≡ part ∷ parts_left behind
 first_of_parts text part None whole = parts_of-whole text whole.0 ∙ ap (λ t. t ∷ []) (sym whole.1)
 first_of_parts text part (Some behind) cut = parts_of-cut text part behind.now cut
 
@@ -43,7 +47,8 @@ spanned-onto_first : (byte : ℕ) (parts : List (List ℕ)) → 0 < spanned part
 spanned-onto_first byte [] some = absurd (omega arith)
 spanned-onto_first byte (part ∷ parts) some = omega arith
 
-spanned_step : (ends : Bool) (byte count : ℕ) (parts : List (List ℕ)) → spanned parts ≡ count + 1 → spanned (cond ends ([] ∷ parts) (onto_first byte parts)) ≡ suc count + 1
+spanned_step : (ends : Bool) (byte count : ℕ) (parts : List (List ℕ)) → spanned parts ≡ count + 1
+    → spanned (cond ends ([] ∷ parts) (onto_first byte parts)) ≡ suc count + 1
 spanned_step true byte count parts is = omega arith
 spanned_step false byte count parts is = omega (arith, spanned-onto_first byte parts (omega arith))
 
@@ -56,8 +61,10 @@ length-parts_of text = length-slice_split (λ byte. byte == 44) text
 
 -- ---- the leftmost fault
 
-pub leftmost-good : (rule : Rule) (at : ℕ) (part : List ℕ) (parts : List (List ℕ)) → rule at (length parts) part ≡ None → leftmost rule at (part ∷ parts) ≡ leftmost rule (at + length part + 1) parts
+pub leftmost-good : (rule : Rule) (at : ℕ) (part : List ℕ) (parts : List (List ℕ)) → rule at (length parts) part ≡ None
+    → leftmost rule at (part ∷ parts) ≡ leftmost rule (at + length part + 1) parts
 leftmost-good rule at part parts good = ap (λ fault. option_or fault (leftmost rule (at + length part + 1) parts)) good
 
-pub leftmost-bad : (rule : Rule) (at : ℕ) (part : List ℕ) (parts : List (List ℕ)) (fault : SetFault) → rule at (length parts) part ≡ Some fault → leftmost rule at (part ∷ parts) ≡ Some fault
+pub leftmost-bad : (rule : Rule) (at : ℕ) (part : List ℕ) (parts : List (List ℕ)) (fault : SetFault)
+    → rule at (length parts) part ≡ Some fault → leftmost rule at (part ∷ parts) ≡ Some fault
 leftmost-bad rule at part parts fault bad = ap (λ found. option_or found (leftmost rule (at + length part + 1) parts)) bad

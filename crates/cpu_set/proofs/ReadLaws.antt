@@ -18,7 +18,9 @@ one_fault first second = cc
 
 pub hex_exactly_one : (text : List ℕ) → ExactlyOne (ReadsHex text) (HexRefused text)
 hex_exactly_one text = record {
-  some = elim (fault_or_none (hex_fault text)) [ inl none ↦ inl (numbers_where (is_in_hex text), record { good = none; numbers = refl }) | inr fault ↦ inr fault ];
+  some =
+      elim (fault_or_none (hex_fault text))
+      [ inl none ↦ inl (numbers_where (is_in_hex text), record { good = none; numbers = refl }) | inr fault ↦ inr fault ];
   not_both = λ set fault reads refused. none_or_some reads.good refused;
   one_set = λ one other first second. first.numbers ∙ sym second.numbers;
   one_fault = λ one other first second. one_fault first second;
@@ -29,7 +31,9 @@ hex_reads_sets text = λ set reads. rw reads.numbers (IsSet-numbers_where (is_in
 
 pub list_exactly_one : (text : List ℕ) → ExactlyOne (ReadsList text) (ListRefused text)
 list_exactly_one text = record {
-  some = elim (fault_or_none (list_fault text)) [ inl none ↦ inl (numbers_where (is_in_list text), record { good = none; numbers = refl }) | inr fault ↦ inr fault ];
+  some =
+      elim (fault_or_none (list_fault text))
+      [ inl none ↦ inl (numbers_where (is_in_list text), record { good = none; numbers = refl }) | inr fault ↦ inr fault ];
   not_both = λ set fault reads refused. none_or_some reads.good refused;
   one_set = λ one other first second. first.numbers ∙ sym second.numbers;
   one_fault = λ one other first second. one_fault first second;

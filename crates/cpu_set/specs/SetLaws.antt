@@ -1,5 +1,8 @@
 -- Laws of sets: which numbers a set has, and that its numbers fix it.
-use Rattle.std.proofs.Common.{◌≡◌, ◌≢◌, ℕ, zero, suc, ◌+◌, ◌<◌, ◌≤◌, Bool, true, false, ◌&&◌, ◌==◌, List, [], ◌∷◌, length, get_or, refl, sym, ap, ◌∙◌, arith, ◌⊎◌, inl, inr}
+use Rattle.std.proofs.Common.{
+  ◌≡◌, ◌≢◌, ℕ, zero, suc, ◌+◌, ◌<◌, ◌≤◌, Bool, true, false, ◌&&◌, ◌==◌, List, [], ◌∷◌, length, get_or, refl, sym, ap,
+  ◌∙◌, arith, ◌⊎◌, inl, inr
+}
 use Rattle.std.proofs.Math.Numerals.{add-one}
 use Rattle.std.specs.Bool.{Decides}
 use Rattle.std.specs.List.{All, Contains, filter, range_with_len, AllByRecursion}
@@ -14,7 +17,8 @@ use Rattle.cpu_set.specs.Sets.{has, numbers_below, numbers_where, IsSet}
 -- ---- what a filtered range has
 
 module _ (test : ℕ → Bool) where
-  has-filter_cons : (x n : ℕ) (xs : List ℕ) → has (filter test xs) n ≡ (has xs n && test n) → has (filter test (x ∷ xs)) n ≡ (has (x ∷ xs) n && test n)
+  has-filter_cons : (x n : ℕ) (xs : List ℕ) → has (filter test xs) n ≡ (has xs n && test n)
+      → has (filter test (x ∷ xs)) n ≡ (has (x ∷ xs) n && test n)
   has-filter_cons x n xs rest = grind (arith, nat_tests)
 
   pub has-filter : (xs : List ℕ) (n : ℕ) → has (filter test xs) n ≡ (has xs n && test n)
@@ -37,18 +41,22 @@ has-range_in start (suc count) n low high =
 
 has-range_out : (start count n : ℕ) → (n < start) ⊎ (start + count ≤ n) → has (range_with_len start count) n ≡ false
 has-range_out start zero n out = refl
-has-range_out start (suc count) n out = has_later start n _ false (omega arith) (has-range_out (start + 1) count n (elim out [ inl low ↦ inl (omega arith) | inr high ↦ inr (omega arith) ]))
+has-range_out start (suc count) n out =
+    has_later start n _ false (omega arith)
+    (has-range_out (start + 1) count n (elim out [ inl low ↦ inl (omega arith) | inr high ↦ inr (omega arith) ]))
 
 and_true : (a b : Bool) → a ≡ true → (a && b) ≡ b
 and_true a b h = rw h refl
 
 pub has-numbers_below : (limit : ℕ) (test : ℕ → Bool) (n : ℕ) → n < limit → has (numbers_below limit test) n ≡ test n
 unfolding numbers_below
-has-numbers_below limit test n low = has-filter test (range_with_len 0 limit) n ∙ and_true _ _ (has-range_in 0 limit n (omega arith) (omega arith))
+has-numbers_below limit test n low =
+    has-filter test (range_with_len 0 limit) n ∙ and_true _ _ (has-range_in 0 limit n (omega arith) (omega arith))
 
 pub has-numbers_below_past : (limit : ℕ) (test : ℕ → Bool) (n : ℕ) → limit ≤ n → has (numbers_below limit test) n ≡ false
 unfolding numbers_below
-has-numbers_below_past limit test n high = has-filter test (range_with_len 0 limit) n ∙ and_left _ _ (has-range_out 0 limit n (inr (omega arith)))
+has-numbers_below_past limit test n high =
+    has-filter test (range_with_len 0 limit) n ∙ and_left _ _ (has-range_out 0 limit n (inr (omega arith)))
 
 -- ---- a filtered range ascends
 
@@ -75,13 +83,15 @@ IsSet-numbers_where test = record { ascending = numbers_below_ascends 4096 test;
 
 -- ---- tests that agree give one set
 
-filter_same : (one other : ℕ → Bool) (start count : ℕ) → ((n : ℕ) → start ≤ n → n < start + count → one n ≡ other n) → filter one (range_with_len start count) ≡ filter other (range_with_len start count)
+filter_same : (one other : ℕ → Bool) (start count : ℕ) → ((n : ℕ) → start ≤ n → n < start + count → one n ≡ other n)
+    → filter one (range_with_len start count) ≡ filter other (range_with_len start count)
 filter_same one other start zero agree = refl
 filter_same one other start (suc count) agree =
     let first = agree start (omega arith) (omega arith) in
     let rest = filter_same one other (start + 1) count (λ n low high. agree n (omega arith) (omega arith)) in cc
 
-pub numbers_below-same : (limit : ℕ) (one other : ℕ → Bool) → ((n : ℕ) → n < limit → one n ≡ other n) → numbers_below limit one ≡ numbers_below limit other
+pub numbers_below-same : (limit : ℕ) (one other : ℕ → Bool) → ((n : ℕ) → n < limit → one n ≡ other n)
+    → numbers_below limit one ≡ numbers_below limit other
 unfolding numbers_below
 numbers_below-same limit one other agree = filter_same one other 0 limit (λ n low high. agree n (omega arith))
 
@@ -101,7 +111,8 @@ increasing_tail x xs up = λ k within. omega (arith, up (k + 1) (omega arith), g
 pub Rises-from_increasing : (low : ℕ) (xs : List ℕ) → IsStrictlyIncreasing xs → (0 < length xs → low ≤ get_or xs 0 0) → Rises low xs
 Rises-from_increasing low [] up least = tt
 Rises-from_increasing low (x ∷ xs) up least =
-    (least (omega arith), Rises-from_increasing (x + 1) xs (increasing_tail x xs up) (λ some. omega (arith, up 0 (omega arith), get_or_next x xs 0)))
+    (least (omega arith), Rises-from_increasing (x + 1) xs (increasing_tail x xs up)
+        (λ some. omega (arith, up 0 (omega arith), get_or_next x xs 0)))
 
 Rises-lower : (low lower : ℕ) (xs : List ℕ) → lower ≤ low → Rises low xs → Rises lower xs
 Rises-lower low lower [] less rises = tt
@@ -109,7 +120,8 @@ Rises-lower low lower (x ∷ xs) less rises = (omega (arith, rises.0), rises.1)
 
 pub has_below : (low n : ℕ) (xs : List ℕ) → Rises low xs → n < low → has xs n ≡ false
 has_below low n [] rises less = refl
-has_below low n (x ∷ xs) rises less = has_later x n xs false (omega (arith, rises.0)) (has_below (x + 1) n xs rises.1 (omega (arith, rises.0)))
+has_below low n (x ∷ xs) rises less =
+    has_later x n xs false (omega (arith, rises.0)) (has_below (x + 1) n xs rises.1 (omega (arith, rises.0)))
 
 pub filter_out : (test : ℕ → Bool) (x : ℕ) (xs : List ℕ) → test x ≡ false → filter test (x ∷ xs) ≡ filter test xs
 filter_out test x xs fails = rw fails refl
@@ -118,13 +130,15 @@ pub filter_in : (test : ℕ → Bool) (x : ℕ) (xs ys : List ℕ) → test x �
 filter_in test x xs ys passes rest = rw passes (ap (λ zs. x ∷ zs) rest)
 
 -- the range filtered by what the ascending list has is that list
-filter-has : (start count limit : ℕ) (xs : List ℕ) → start + count ≡ limit → Rises start xs → AllByRecursion (λ n. n < limit) xs → filter (has xs) (range_with_len start count) ≡ xs
+filter-has : (start count limit : ℕ) (xs : List ℕ) → start + count ≡ limit → Rises start xs → AllByRecursion (λ n. n < limit) xs
+    → filter (has xs) (range_with_len start count) ≡ xs
 filter-has start zero limit [] to rises within = refl
 filter-has start zero limit (x ∷ xs) to rises within = absurd (omega (arith, rises.0, within.0))
 filter-has start (suc count) limit [] to rises within = filter-has (start + 1) count limit [] (omega arith) tt tt
 filter-has start (suc count) limit (x ∷ xs) to rises within =
     elim (cases_lt start x) [
-      | inl later ↦ filter_out (has (x ∷ xs)) start _ (has_below (start + 1) start (x ∷ xs) (omega arith, rises.1) (omega arith)) ∙ filter-has (start + 1) count limit (x ∷ xs) (omega arith) (omega arith, rises.1) within
+      | inl later ↦ filter_out (has (x ∷ xs)) start _ (has_below (start + 1) start (x ∷ xs) (omega arith, rises.1) (omega arith))
+          ∙ filter-has (start + 1) count limit (x ∷ xs) (omega arith) (omega arith, rises.1) within
       | inr here ↦ let same : x ≡ start = omega (arith, rises.0) in
           filter_in (has (x ∷ xs)) start _ xs (has_first x start xs same)
           (filter_same (has (x ∷ xs)) (has xs) (start + 1) count (λ n low high. has_later x n xs (has xs n) (omega arith) refl)
@@ -132,10 +146,12 @@ filter-has start (suc count) limit (x ∷ xs) to rises within =
           ∙ ap (λ first. first ∷ xs) (sym same)
     ]
 
-pub numbers_below-has : (limit : ℕ) (set : List ℕ) → IsStrictlyIncreasing set → All (λ n. n < limit) set → numbers_below limit (has set) ≡ set
+pub numbers_below-has : (limit : ℕ) (set : List ℕ) → IsStrictlyIncreasing set → All (λ n. n < limit) set
+    → numbers_below limit (has set) ≡ set
 unfolding numbers_below
 numbers_below-has limit set up below =
-    filter-has 0 limit limit set (omega arith) (Rises-from_increasing 0 set up (λ some. omega arith)) (recursion_from_All (λ n. n < limit) set below)
+    filter-has 0 limit limit set (omega arith) (Rises-from_increasing 0 set up (λ some. omega arith))
+        (recursion_from_All (λ n. n < limit) set below)
 
 pub numbers_where-has : (set : List ℕ) → IsSet set → numbers_where (has set) ≡ set
 numbers_where-has set ok = numbers_below-has 4096 set ok.ascending ok.below
@@ -144,7 +160,8 @@ numbers_where-has set ok = numbers_below-has 4096 set ok.ascending ok.below
 
 pub Decides-has : (set : List ℕ) (n : ℕ) → Decides (has set n) (Contains set n)
 Decides-has set n =
-    Decides-contains set n (has set n) (Decides-by_or (λ member. member == n) (λ member. member ≡ n) (λ members. has members n) (λ member. Decides-eqb member n) refl (λ _ _. refl) set)
+    Decides-contains set n (has set n) (Decides-by_or (λ member. member == n) (λ member. member ≡ n) (λ members. has members n)
+        (λ member. Decides-eqb member n) refl (λ _ _. refl) set)
 
 pub same_set : (one other : List ℕ) → IsSet one → IsSet other → ((n : ℕ) → n < 4096 → has one n ≡ has other n) → one ≡ other
 same_set one other is_one is_other agree =

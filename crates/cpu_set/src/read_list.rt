@@ -1,6 +1,8 @@
 //! The list text, read.
 
-ghost use Rattle.std.specs.Prelude.{◌≡◌, ℕ, ◌+◌, ◌^◌, ◌<◌, ◌≤◌, ◌≢◌, ◌↔◌, length, slice_index, IfOk, IfErr, OnOk, Some, None, IsTrue, if◌then◌else◌};
+ghost use Rattle.std.specs.Prelude.{
+  ◌≡◌, ℕ, ◌+◌, ◌^◌, ◌<◌, ◌≤◌, ◌≢◌, ◌↔◌, length, slice_index, IfOk, IfErr, OnOk, Some, None, IsTrue, if◌then◌else◌
+};
 ghost use Rattle.std.specs.Str.Parse.{AllDigits, digits_value};
 ghost use Rattle.byte_text.specs.Numerals.{is_numeral};
 ghost use Rattle.cpu_set.specs.Readings.{ReadsList, ListRefused, list_rule, range_fault, low_value, high_value};

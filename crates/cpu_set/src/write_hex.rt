@@ -6,7 +6,7 @@ ghost use Rattle.cpu_set.specs.Texts.{hex_text, highest, word_text, hex_digits};
 
 use crate::set::{CpuSet, WIDTH, WORDS};
 use byte_text::hex_digit;
-use edge_io::OutOfMemory;
+use out_of_memory::OutOfMemory;
 use std::alloc::Global;
 
 impl CpuSet {

@@ -6,7 +6,7 @@ ghost use Rattle.cpu_set.specs.Texts.{list_text, run_text, runs_of, numbers_from
 use crate::run::Run;
 use crate::set::{CpuSet, LIMIT};
 use byte_text::push_decimal;
-use edge_io::OutOfMemory;
+use out_of_memory::OutOfMemory;
 use std::alloc::Global;
 
 impl CpuSet {

@@ -6,7 +6,7 @@ ghost use Rattle.cpu_set.specs.Texts.{taskset_text};
 
 use crate::set::{CpuSet, LIMIT};
 use byte_text::hex_digit;
-use edge_io::OutOfMemory;
+use out_of_memory::OutOfMemory;
 use std::alloc::Global;
 
 impl CpuSet {

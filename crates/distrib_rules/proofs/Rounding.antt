@@ -35,7 +35,8 @@ pub rounded_none : (whole : ℕ) → 1 ≤ whole → rounded_up 0 whole ≡ 0
 rounded_none whole some = div_is (0 + whole - 1) whole 0 (omega arith) (omega arith)
 
 pub rounded_rises : (part more whole : ℕ) → 1 ≤ whole → part ≤ more → rounded_up part whole ≤ rounded_up more whole
-rounded_rises part more whole some less = le-div (rounded_up part whole) (more + whole - 1) whole (omega arith) (omega (arith, rounded_high part whole some))
+rounded_rises part more whole some less =
+    le-div (rounded_up part whole) (more + whole - 1) whole (omega arith) (omega (arith, rounded_high part whole some))
 
 -- a quotient of a sum is at most the one quotient and the other part
 pub rounded_sum : (part more whole : ℕ) → 1 ≤ whole → rounded_up (part + more) whole ≤ rounded_up part whole + more

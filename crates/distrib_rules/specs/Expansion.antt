@@ -40,4 +40,5 @@ expansion described way pairs = flat_map (λ pair. expanded described way (lengt
 pub data ComesTo (described : Description) (way : Way) : List Pair → List Pair → Type 0 where
   done : (pairs : List Pair) → All (λ pair. is_final described way pair ≡ true) pairs → ComesTo described way pairs pairs
   replaced : (before : List Pair) (pair : Pair) (behind others : List Pair) → is_final described way pair ≡ false
-      → ComesTo described way (before ++ children_sharing described way pair ++ behind) others → ComesTo described way (before ++ pair ∷ behind) others
+      → ComesTo described way (before ++ children_sharing described way pair ++ behind) others
+      → ComesTo described way (before ++ pair ∷ behind) others

@@ -12,14 +12,17 @@ use Rattle.distrib_rules.specs.Masks.{distribution}
 
 -- Whichever pair is replaced first, pairs come to their expansion.
 abbrev pub OrderMakesNoDifference : Type 0
-OrderMakesNoDifference = (described : Description) (way : Way) (pairs others : List Pair) → ComesTo described way pairs others → others ≡ expansion described way pairs
+OrderMakesNoDifference = (described : Description) (way : Way) (pairs others : List Pair) → ComesTo described way pairs others
+    → others ≡ expansion described way pairs
 
 -- The masks are as many as were asked for.
 abbrev pub MasksAreAsMany : Type 0
-MasksAreAsMany = (described : Description) (way : Way) (n from : ℕ) → IsBuilt described → 1 ≤ n → from < depth_count described → length (distribution described way n from) ≡ n
+MasksAreAsMany = (described : Description) (way : Way) (n from : ℕ) → IsBuilt described → 1 ≤ n → from < depth_count described
+    → length (distribution described way n from) ≡ n
 
 -- A PU is in some mask exactly where it is in Machine.
 abbrev pub MasksCoverTheStart : Type 0
 MasksCoverTheStart =
-    (described : Description) (way : Way) (n from number : ℕ) → IsBuilt described → 1 ≤ n → from < depth_count described → number < set_limit
+    (described : Description) (way : Way) (n from number : ℕ) → IsBuilt described → 1 ≤ n → from < depth_count described
+    → number < set_limit
     → list_any (λ mask. has mask number) (distribution described way n from) ≡ has (set_at described 0 0) number

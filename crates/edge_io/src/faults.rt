@@ -1,29 +1,11 @@
 // What goes wrong at the edge.
 
-use std::alloc::{AllocError, AllocFailed};
 use thiserror::Error;
 
 /// A read or a write failed; the object that failed has counted it.
 #[derive(Clone, Copy, Debug, PartialEq, Eq, Error)]
 #[error("the read or the write failed")]
 pub struct Failed;
-
-/// There was not enough memory.
-#[derive(Clone, Copy, Debug, PartialEq, Eq, Error)]
-#[error("out of memory")]
-pub struct OutOfMemory;
-
-impl From<AllocError> for OutOfMemory {
-    fn from(_: AllocError) -> Self {
-        OutOfMemory
-    }
-}
-
-impl<T: Drop> From<AllocFailed<T>> for OutOfMemory {
-    fn from(_: AllocFailed<T>) -> Self {
-        OutOfMemory
-    }
-}
 
 /// Why the bytes of a source were not all read.
 #[derive(Clone, Copy, Debug, PartialEq, Eq, Error)]

@@ -13,9 +13,10 @@ mod source;
 mod standard;
 mod writing;
 
-pub use faults::{Failed, OutOfMemory, ReadAllFault, Stopped};
+pub use faults::{Failed, ReadAllFault, Stopped};
 pub use memory_sink::{MemSink, SureSink};
 pub use memory_source::{MemSource, SureSource};
+pub use out_of_memory::OutOfMemory;
 pub use reading::read_all;
 pub use sink::Sink;
 pub use source::Source;

@@ -64,12 +64,11 @@ module _ {V : Type 0} (fit : V → Type 0) (tag_of : V → Tag) (parked : V → 
 
   -- what holders owe, where the seat that stepped owes as it should
   owing_set : (words seats : List ℕ) (views : List View) (id : ℕ) (w : View) (q : Q words seats views)
-      → (w.phase ≡ Holding → w.predecessor ≢ 0 → n < w.node)
-      → (j : ℕ) (u : View) → get_elem? (set views id w) j ≡ some u → u.phase ≡ Holding → u.predecessor ≢ 0 → n < u.node
+      → (w.phase ≡ Holding → w.predecessor ≢ 0 → w.owes ≡ true)
+      → (j : ℕ) (u : View) → get_elem? (set views id w) j ≡ some u → u.phase ≡ Holding → u.predecessor ≢ 0 → u.owes ≡ true
   owing_set words seats views id w q owes j u e held some_name = ⊎_elim
-      (λ (t : (j ≡ id) × (w ≡ u)).
-      let below = owes (ap (λ (x : View). x.phase) t.1 ∙ held) (λ z. some_name (ap (λ (x : View). x.predecessor) (sym t.1) ∙ z)) in
-      let node : w.node ≡ u.node = ap (λ (x : View). x.node) t.1 in omega arith)
+      (λ (t : (j ≡ id) × (w ≡ u)). ap (λ (x : View). x.owes) (sym t.1)
+      ∙ owes (ap (λ (x : View). x.phase) t.1 ∙ held) (λ z. some_name (ap (λ (x : View). x.predecessor) (sym t.1) ∙ z)))
       (λ (t : (j ≢ id) × (get_elem? views j ≡ some u)). q.core.owing j u t.1 held some_name)
       (at_set views id j w u e)
 
@@ -87,7 +86,7 @@ module _ {V : Type 0} (fit : V → Type 0) (tag_of : V → Tag) (parked : V → 
       → w.number ≡ v.number → w.predecessor ≡ v.predecessor
       → (w.phase ≡ Queued → v.phase ≡ Queued) → is_busy false w.phase ≡ is_busy false v.phase
       → (v.phase ≡ Leaving → own_name v ≡ q.core.named → w.phase ≡ Leaving)
-      → (w.phase ≡ Holding → w.predecessor ≢ 0 → n < w.node) → HasGrants n words seats (set views id w)
+      → (w.phase ≡ Holding → w.predecessor ≢ 0 → w.owes ≡ true) → HasGrants n words seats (set views id w)
   same_grants words seats views id v w q at number predecessor queued busy leaves owes = record {
     named = q.core.named;
     chained = chained_stays q.core.named words words seats views (set views id w) q.core.chained refl
@@ -221,14 +220,13 @@ module _ {V : Type 0} (fit : V → Type 0) (tag_of : V → Tag) (parked : V → 
       let v : View = me.0 in
       let w : View = granted_view v in
       let q = r.queued in
-      let own = (q.each_seat id v at).counted live in
       let p = (q.each_seat id v at).placed (ap (is_busy false) queued) in
       let held : ¬ (Holding ≡ Queued) = λ x. absurd cc in
       let k = takes_head fit tag_of parked hemlock_discipline disciplined n tag (grant v.predecessor) id me w s r at live
       (like v w refl refl refl refl refl refl refl) queued
       (granted_first s.words r.seats s.views id v q at e p.0 p.1) refl (λ x. absurd (cc)) refl
       (same_grants s.words r.seats s.views id v w q at refl refl (λ x. absurd (held x)) (sym (ap (is_busy false) queued))
-      (λ l _. absurd (queued_stays v queued l)) (λ _ _. omega arith)) in
+      (λ l _. absurd (queued_stays v queued l)) (λ _ _. refl)) in
       (w, k.0, k.1, k.2, (λ _. k.3, λ ne. absurd (ne e))))
       (λ ne.
       let v : View = me.0 in
@@ -377,10 +375,8 @@ module _ {V : Type 0} (fit : V → Type 0) (tag_of : V → Tag) (parked : V → 
   -- a holder with a plain view names nobody
   names_none : (words seats : List ℕ) (views : List View) (id : ℕ) (v : View) (q : Q words seats views) → get_elem? views id ≡ some v
       → v.phase ≡ Holding → IsPlain v → v.predecessor ≡ 0
-  names_none words seats views id v q at held plain = dite (ℕ_discrete v.predecessor 0) (λ z. z) (λ ne.
-      let below = q.core.owing id v at held ne in
-      let within = plain.node_within in
-      let own = (q.each_seat id v at).counted plain.unspent in absurd (omega arith))
+  names_none words seats views id v q at held plain = dite (ℕ_discrete v.predecessor 0) (λ z. z)
+      (λ ne. absurd (no_true (sym (q.core.owing id v at held ne) ∙ plain.paid)))
 
   pub exchanges : (slots id : ℕ) (v : View) (x : V) (own : ℕ) (c : List (ℕ × Option V)) → v.phase ≡ Holding → IsPlain v → own ≡ own_name v
       → c ≡ (0, Some x) ∷ [] → MayRest fit tag_of parked v x

@@ -19,7 +19,7 @@ use Rattle.lock_rules.specs.declared.view.Phase.TheVariants.{Idle, Holding, Leav
 use Rattle.lock_rules.specs.declared.view.View.{View}
 use Rattle.lock_tables.specs.Laws.{IsDisciplined, number_at}
 use Rattle.lock_tables.specs.Rule.{is_busy, busy, IsQueued}
-use Rattle.lock_tables.proofs.Lists.{number_is, set_at, at_below, at_end, there}
+use Rattle.lock_tables.proofs.Lists.{number_is, at_below, at_end, there}
 use Rattle.lock_tables.proofs.Queues.{WasAt, lives, one_seat_of, after_split, after_join, placed_before_split, placed_before_join}
 use Rattle.hemlock_lock.specs.Kinds.{own_name}
 use Rattle.hemlock_lock.specs.Rule.{tail, grant, named_by, ungranted, passes_to, queue_of, IsLeaving, hemlock_discipline}
@@ -187,12 +187,11 @@ still_nameless : (views : List View) (j : ℕ) (u : View) → ((k : ℕ) (v : Vi
     → is_busy false u.phase ≡ false → u.predecessor ≡ 0
 still_nameless views j u none w free = w.same.predecessor ∙ none j w.view w.at (ap (is_busy false) (sym w.same.phase) ∙ free)
 
-still_owing : (n : ℕ) (views : List View) (j : ℕ) (u : View)
-    → ((k : ℕ) (v : View) → get_elem? views k ≡ some v → v.phase ≡ Holding → v.predecessor ≢ 0 → n < v.node) → WasAt views j u
-    → u.phase ≡ Holding → u.predecessor ≢ 0 → n < u.node
-still_owing n views j u owing w held some_name =
-    let node = w.same.node in
-    let below = owing j w.view w.at (sym w.same.phase ∙ held) (λ z. some_name (w.same.predecessor ∙ z)) in omega arith
+still_owing : (views : List View) (j : ℕ) (u : View)
+    → ((k : ℕ) (v : View) → get_elem? views k ≡ some v → v.phase ≡ Holding → v.predecessor ≢ 0 → v.owes ≡ true) → WasAt views j u
+    → u.phase ≡ Holding → u.predecessor ≢ 0 → u.owes ≡ true
+still_owing views j u owing w held some_name =
+    w.same.owes ∙ owing j w.view w.at (sym w.same.phase ∙ held) (λ z. some_name (w.same.predecessor ∙ z))
 
 words_are_0 : (m i : ℕ) → i < m → slice_index (replicate m 0) i ≡ 0
 words_are_0 m i h = get_or-replicate m i 0 0 h
@@ -229,7 +228,7 @@ disciplined = record {
     leaver = λ ne. split_leaver n tag words seats views q id v q.core.named at (q.core.leaver ne);
     nameless = λ j u e free. ⊎_elim (λ (w : WasAt views j u). still_nameless views j u q.core.nameless w free)
         (λ (t : (j ≡ length views) × (next_split v ≡ u)). ap (λ (x : View). x.predecessor) (sym t.1)) (after_split views id v at j u e);
-    owing = λ j u e held some_name. ⊎_elim (λ (w : WasAt views j u). still_owing n views j u q.core.owing w held some_name)
+    owing = λ j u e held some_name. ⊎_elim (λ (w : WasAt views j u). still_owing views j u q.core.owing w held some_name)
         (λ (t : (j ≡ length views) × (next_split v ≡ u)). absurd (some_name (ap (λ (x : View). x.predecessor) (sym t.1))))
         (after_split views id v at j u e);
   };
@@ -243,7 +242,7 @@ disciplined = record {
     leaver = λ ne. join_leaver n tag words seats views q id v other w q.core.named at at' idle (q.core.leaver ne);
     nameless = λ j u e free. ⊎_elim (λ (t : (j ≢ other) × WasAt views j u). still_nameless views j u q.core.nameless t.1 free)
         (λ (t : (j ≡ other) × (spent_view ≡ u)). ap (λ (x : View). x.predecessor) (sym t.1)) (after_join views id v other w at j u e);
-    owing = λ j u e held some_name. ⊎_elim (λ (t : (j ≢ other) × WasAt views j u). still_owing n views j u q.core.owing t.1 held some_name)
+    owing = λ j u e held some_name. ⊎_elim (λ (t : (j ≢ other) × WasAt views j u). still_owing views j u q.core.owing t.1 held some_name)
         (λ (t : (j ≡ other) × (spent_view ≡ u)). absurd (some_name (ap (λ (x : View). x.predecessor) (sym t.1))))
         (after_join views id v other w at j u e);
   };

@@ -14,6 +14,7 @@ use Rattle.lock_rules.proofs.Names.{own_table, own_algorithm, own_mark}
 use Rattle.lock_tables.specs.Happened.{Seated, Happened, missed_view}
 use Rattle.lock_tables.specs.Rule.{IsLock}
 use Rattle.lock_tables.specs.Seats.{IsSized}
+use Rattle.lock_tables.proofs.Seats.{alike, alike_plain}
 use Rattle.hemlock_lock.specs.Kinds.{own_name, queued_view, followed_view, granting_view}
 use Rattle.hemlock_lock.specs.Rule.{tail, queue_of, hemlock_discipline}
 use Rattle.hemlock_lock.proofs.Chains.{tail_within, queued_names}
@@ -59,24 +60,13 @@ module _ {V : Type 0} (fit : V → Type 0) (tag_of : V → Tag) (parked : V → 
   loaded_named event act word found now me me' h queued =
       queued_names me.0.count me.0.tag.tag h.state.words h.allowed.seats h.state.views h.allowed.queued h.seat me.0 h.knew queued
 
--- a plain view, where its seat keeps its passes
-plain_as : (v w : View) → IsPlain v → w.spent ≡ v.spent → w.from ≡ v.from → w.to ≡ v.to → w.joined ≡ v.joined → w.nodes ≡ v.nodes
-    → w.number ≡ v.number → w.count ≡ v.count → w.node ≡ v.node → w.predecessor ≤ v.count → IsPlain w
-plain_as v w p spent from to joined nodes number count node within = record {
-  unspent = spent ∙ p.unspent;
-  split = from ∙ p.split ∙ sym to;
-  alone = joined ∙ p.alone;
-  nodeless = nodes ∙ p.nodeless;
-  below = let b = p.below in omega arith;
-  node_within = let b = p.node_within in omega arith;
-  predecessor_within = omega arith;
-}
-
 pub queued_plain : (v : View) (found : ℕ) → IsPlain v → found ≤ v.count → IsPlain (queued_view v found)
-queued_plain v found p within = plain_as v (queued_view v found) p refl refl refl refl refl refl refl refl within
+queued_plain v found p within =
+    alike_plain v (queued_view v found) (alike _ _ refl refl refl refl refl refl refl refl refl refl within) p
 
 pub followed_plain : (v : View) → IsPlain v → IsPlain (followed_view v)
-followed_plain v p = plain_as v (followed_view v) p refl refl refl refl refl refl refl refl p.predecessor_within
+followed_plain v p = alike_plain v (followed_view v) (alike _ _ refl refl refl refl refl refl refl refl refl refl p.predecessor_within) p
 
 pub waited_plain : (v : View) → IsPlain v → IsPlain (missed_view (granting_view v))
-waited_plain v p = plain_as v (missed_view (granting_view v)) p refl refl refl refl refl refl refl refl p.predecessor_within
+waited_plain v p =
+    alike_plain v (missed_view (granting_view v)) (alike _ _ refl refl refl refl refl refl refl refl refl refl p.predecessor_within) p

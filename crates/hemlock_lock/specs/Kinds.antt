@@ -22,15 +22,14 @@ queued_view v found = record v { phase = Queued; entries = v.entries + 1; predec
 abbrev pub entered_view : View → View
 entered_view v = record v { phase = Holding; entries = v.entries + 1; predecessor = 0; tested = Open; followed = false }
 
--- a load that showed the grant, by which the pass takes. It still names the one that it found. Until it has cleared the grant its `node`,
--- which has no other
--- use here, is one that the lock doesn't have: such a view is not plain, so no token of a holder has it
+-- a load that showed the grant, by which the pass takes. It still names the one that it found, and owes it that the grant is cleared: such
+-- a view is not plain, so no token of a holder has it
 abbrev pub granted_view : View → View
-granted_view v = record (took_view v) { node = v.count + 1 }
+granted_view v = record (took_view v) { owes = true }
 
 -- the pass no longer names the one that it found
 abbrev pub cleared_view : View → View
-cleared_view v = record v { predecessor = 0; node = v.number }
+cleared_view v = record v { predecessor = 0; owes = false }
 
 -- an exchange of `tail` found another
 abbrev pub followed_view : View → View

@@ -1,5 +1,5 @@
 -- The words of a Hemlock, its part of the rule, and its queue as a function of words and views.
-use Rattle.std.specs.Prelude.{◌≡◌, ◌≢◌, ℕ, zero, suc, ◌+◌, ◌<◌, ◌≤◌, false, cond, ◌&&◌, not, ◌==◌}
+use Rattle.std.specs.Prelude.{◌≡◌, ◌≢◌, ℕ, zero, suc, ◌+◌, ◌<◌, ◌≤◌, true, false, cond, ◌&&◌, not, ◌==◌}
 use Rattle.std.specs.Prelude.{List, [], ◌∷◌, ◌++◌, length, replicate, slice_index}
 use mathlib.Core.Option.{some}
 use lib.ListN.{get_elem?}
@@ -66,8 +66,8 @@ pub record HasGrants (n : ℕ) (words seats : List ℕ) (views : List View) : Ty
   pub kept : (name : ℕ) → 0 < name → name ≤ n → name ≢ named → slice_index words (grant name) ≡ 0
   pub leaver : named ≢ 0 → IsLeaving views named
   pub nameless : (j : ℕ) (v : View) → get_elem? views j ≡ some v → is_busy false v.phase ≡ false → v.predecessor ≡ 0
-  -- a holder that still names the one ahead has no plain view, so no token of a holder has it
-  pub owing : (j : ℕ) (v : View) → get_elem? views j ≡ some v → v.phase ≡ Holding → v.predecessor ≢ 0 → n < v.node
+  -- a holder that still names the one ahead owes it that its grant is cleared; no token of a holder has such a view
+  pub owing : (j : ℕ) (v : View) → get_elem? views j ≡ some v → v.phase ≡ Holding → v.predecessor ≢ 0 → v.owes ≡ true
 
 abbrev pub hemlock_discipline : Discipline
 hemlock_discipline = record {

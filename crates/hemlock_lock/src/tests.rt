@@ -1,20 +1,7 @@
 use crate::Hemlock;
 use lock_rules::Basic;
-use lock_trials::{Call, HOLDS, Move, Parcel, START, Told, Who, carry_out, hold_by_four};
-
-const fn first(call: Call) -> Move {
-    Move {
-        who: Who::First,
-        call,
-    }
-}
-
-const fn second(call: Call) -> Move {
-    Move {
-        who: Who::Second,
-        call,
-    }
-}
+use lock_trials::Told::{Got, No, Not, Yes};
+use lock_trials::{Call, HOLDS, Parcel, START, carry_out, first, hold_by_four, second};
 
 #[test]
 fn two_passes_take_turns(rt: HostRuntime) {
@@ -33,18 +20,7 @@ fn two_passes_take_turns(rt: HostRuntime) {
     let Some(outcome) = carry_out::<Hemlock<Parcel>>(rt.alloc(), (), &moves) else {
         panic!(rt; "the script was not carried out")
     };
-    let told = [
-        Told::Got,
-        Told::Not,
-        Told::Not,
-        Told::Yes,
-        Told::Not,
-        Told::Not,
-        Told::Got,
-        Told::Got,
-        Told::No,
-        Told::Got,
-    ];
+    let told = [Got, Not, Not, Yes, Not, Not, Got, Got, No, Got];
     assert!(rt; outcome.told.as_slice() == told.as_slice());
     assert!(rt; outcome.count == START);
 }
@@ -54,32 +30,19 @@ fn a_parked_value_is_handed_over(rt: HostRuntime) {
     let moves = [
         first(Call::Begin),
         second(Call::Begin),
-        first(Call::Waiter),
-        first(Call::Park),
+        first(Call::Use),
         first(Call::BeginRelease),
         second(Call::Poll),
-        second(Call::Unpark),
-        second(Call::Waiter),
+        second(Call::Use),
         second(Call::BeginRelease),
         first(Call::PollRelease),
     ];
     let Some(outcome) = carry_out::<Hemlock<Parcel>>(rt.alloc(), (), &moves) else {
         panic!(rt; "the script was not carried out")
     };
-    let told = [
-        Told::Got,
-        Told::Not,
-        Told::Yes,
-        Told::Got,
-        Told::Not,
-        Told::Got,
-        Told::Yes,
-        Told::No,
-        Told::Got,
-        Told::Got,
-    ];
+    let told = [Got, Not, Yes, Not, Got, No, Got, Got];
     assert!(rt; outcome.told.as_slice() == told.as_slice());
-    assert!(rt; outcome.count == START);
+    assert!(rt; outcome.count == START + 2);
 }
 
 #[test]
@@ -95,24 +58,17 @@ fn four_threads_hold_in_turn(rt: HostRuntime) {
 }
 
 #[test]
-fn thousands_of_passes_are_made(rt: HostRuntime) {
-    let Ok((lock, passes)) = Hemlock::make(rt.alloc(), (), 4096, Parcel::new(START)) else {
-        panic!(rt; "there was no memory")
-    };
-    assert!(rt; passes.len() == 4096);
-    assert!(rt; lock.close(passes).count == START);
-}
-
-#[test]
-fn one_pass_is_made_or_the_value_comes_back(rt: HostRuntime) {
-    match Hemlock::make(rt.alloc(), (), 1, Parcel::new(START)) {
-        Ok((lock, passes)) => {
-            assert!(rt; passes.len() == 1);
-            assert!(rt; lock.close(passes).count == START);
-        }
-        Err(refused) => {
-            assert!(rt; refused.value.count == START);
-            panic!(rt; "there was no memory")
+fn passes_are_made_or_the_value_comes_back(rt: HostRuntime) {
+    for passes in [1, 4096] {
+        match Hemlock::make(rt.alloc(), (), passes, Parcel::new(START)) {
+            Ok((lock, list)) => {
+                assert!(rt; list.len() == passes as usize);
+                assert!(rt; lock.close(list).count == START);
+            }
+            Err(refused) => {
+                assert!(rt; refused.value.count == START);
+                panic!(rt; "there was no memory")
+            }
         }
     }
 }

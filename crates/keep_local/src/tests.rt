@@ -3,7 +3,7 @@ ghost use Rattle.std.specs.Prelude.{◌≡◌, ◌^◌, ◌<◌, sum, All, IsSom
 ghost use Rattle.std.specs.Bool.{OnTrue};
 
 use crate::{Shape, Share, Trail, Turn, begins, is_lawful, level_to_leave, run_of};
-use edge_io::OutOfMemory;
+use out_of_memory::OutOfMemory;
 use sequence::Sequence;
 use std::alloc::Global;
 

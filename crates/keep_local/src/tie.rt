@@ -8,7 +8,7 @@ use crate::plays::{Append, Cut, Glue, Look, TieRule};
 use crate::share::Share;
 use crate::view::View;
 use atomic_table::{Badge, Seat, Shared, Table};
-use edge_io::OutOfMemory;
+use out_of_memory::OutOfMemory;
 use sequence::Sequence;
 use std::alloc::Global;
 use std::marker::Model;

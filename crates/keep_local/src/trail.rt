@@ -10,7 +10,7 @@ use crate::shape::Shape;
 use crate::share::Share;
 use crate::tie::Tie;
 use crate::turn::Turn;
-use edge_io::OutOfMemory;
+use out_of_memory::OutOfMemory;
 use std::alloc::Global;
 use std::marker::Model;
 

@@ -11,8 +11,8 @@ ghost use Rattle.kv_history.specs.Log.{void_entry, store_now};
 
 use crate::Store;
 use crate::record::Record;
-use edge_io::OutOfMemory;
 use mc_text::{Command, count};
+use out_of_memory::OutOfMemory;
 use std::alloc::Global;
 use std::marker::Model;
 

@@ -6,7 +6,7 @@ ghost use Rattle.kv_history.specs.Views.{plain_item};
 
 use crate::item::Item;
 use byte_text::push_decimal;
-use edge_io::OutOfMemory;
+use out_of_memory::OutOfMemory;
 
 /// Appends an item to a reply, with its unique or without. Without memory only a part of it is appended.
 #[tactic(auto, unfolding(crate::specs::Answer::written_item))]

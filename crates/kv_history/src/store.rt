@@ -10,8 +10,8 @@ ghost use Rattle.kv_history.specs.Answer.{reply_of, store_after, unique_after, w
 use crate::item::Item;
 use crate::items::Items;
 use crate::replies::append_item;
-use edge_io::OutOfMemory;
 use mc_text::{Command, How, Keys};
+use out_of_memory::OutOfMemory;
 use std::alloc::{AllocError, Global};
 use std::marker::Model;
 

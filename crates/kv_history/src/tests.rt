@@ -5,8 +5,8 @@ ghost use Rattle.kv_history.specs.Answer.{replies_of};
 ghost use Rattle.kv_history.specs.Log.{commands, replies};
 
 use crate::{Journal, Store};
-use edge_io::OutOfMemory;
 use mc_text::Commands;
+use out_of_memory::OutOfMemory;
 use std::alloc::Global;
 use std::test::Fail;
 

@@ -10,7 +10,7 @@ use Rattle.lock_rules.specs.declared.view.Algorithm.TheVariants.{Ticket, Mcs, Cl
 use Rattle.lock_rules.specs.declared.view.Phase.TheVariants.{Idle}
 use Rattle.lock_rules.specs.declared.view.View.{View}
 
--- a seat that is not spent, with its own number alone, and numbers that name passes and nodes of its lock
+-- a seat that is not spent, with its own number alone, numbers that name passes and nodes of its lock, and no grant to clear
 pub record IsPlain (v : View) : Type 0 where
   pub unspent : v.spent ≡ false
   pub split : v.from ≡ v.to
@@ -19,6 +19,7 @@ pub record IsPlain (v : View) : Type 0 where
   pub below : v.number < v.count
   pub node_within : v.node ≤ v.count
   pub predecessor_within : v.predecessor ≤ v.count
+  pub paid : v.owes ≡ false
 
 -- the number by which the words of a lock name a pass
 abbrev pub mark_by : Algorithm → View → ℕ
@@ -89,6 +90,7 @@ fresh_view algorithm count tag number from to spent = record {
   linked = false;
   successor = 0;
   followed = false;
+  owes = false;
 }
 
 -- the first seat of a lock with n passes: the last pass, and the others not split off yet

@@ -8,9 +8,9 @@ ghost use Rattle.lock_rules.specs.Views.{answer_of};
 ghost use Rattle.lock_rules.specs.declared.step.Answer.TheVariants.{Open, Yes};
 
 use crate::cargo::Cargo;
+use crate::pauses::Pauses;
 use crate::step::{Refused, Step};
 use crate::token::{Departing, Holding, Placed, Queueing};
-use crossbeam_utils::Backoff;
 use std::alloc::Global;
 use std::sync::Wait;
 
@@ -144,13 +144,13 @@ pub trait Basic<V: Cargo>: Sized {
             Step::Got(held) => return held,
             Step::Not(queue) => queue,
         };
-        let backoff = Backoff::new();
+        let mut pauses = Pauses::new();
         for _ in rt.forever() {
             queue = match self.poll(queue) {
                 Step::Got(held) => return held,
                 Step::Not(queue) => queue,
             };
-            backoff.snooze();
+            pauses.pause();
         }
         unreachable!()
     }
@@ -169,13 +169,13 @@ pub trait Basic<V: Cargo>: Sized {
             Step::Got(pass) => return pass,
             Step::Not(leave) => leave,
         };
-        let backoff = Backoff::new();
+        let mut pauses = Pauses::new();
         for _ in rt.forever() {
             leave = match self.poll_release(leave) {
                 Step::Got(pass) => return pass,
                 Step::Not(leave) => leave,
             };
-            backoff.snooze();
+            pauses.pause();
         }
         unreachable!()
     }

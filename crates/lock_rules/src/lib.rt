@@ -14,6 +14,7 @@ mod basic;
 mod cargo;
 mod held;
 mod holder;
+mod pauses;
 mod plain;
 mod step;
 mod token;

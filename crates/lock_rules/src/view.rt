@@ -78,6 +78,8 @@ pub struct View {
     pub successor: u64,
     /// Of MCS and Hemlock: an exchange of the tail found another pass behind.
     pub followed: bool,
+    /// Of Hemlock: the pass took by its predecessor's grant and has not cleared it yet.
+    pub owes: bool,
 }
 
 /// What the table of a lock is told when it is made: how many passes there are, and the opening value, as clauses see it.

@@ -1,4 +1,5 @@
 pub mod Numbers
+pub mod Stands
 pub mod Points
 pub mod Lists
 pub mod Queues

@@ -1,5 +1,5 @@
 -- Lists of seats and of views.
-use Rattle.std.proofs.Common.{◌≡◌, ◌≢◌, ◌⊎◌, ℕ, zero, suc, ◌<◌, true, false, List, [], ◌∷◌, ◌++◌, length, map, set, slice_get}
+use Rattle.std.proofs.Common.{◌≡◌, ◌≢◌, ◌⊎◌, ℕ, zero, suc, ◌<◌, Bool, true, false, ◌&&◌, List, [], ◌∷◌, ◌++◌, length, map, set, slice_get}
 use Rattle.std.proofs.Common.{slice_index, refl, ap, sym, ◌∙◌, inl, inr, ⊎_elim, arith, Some}
 use mathlib.Core.Option.{some, some-injective, some-ne-none}
 use lib.ListN.{get_elem?}
@@ -35,6 +35,12 @@ module _ {A : Type 0} where
 
 pub no_true : ¬ (true ≡ false)
 no_true e = absurd (cc)
+
+pub both_true : (a b : Bool) → (a && b) ≡ true → (a ≡ true) × (b ≡ true)
+both_true true true e = (refl, refl)
+both_true true false e = absurd (cc)
+both_true false true e = absurd (cc)
+both_true false false e = absurd (cc)
 
 -- words after a store
 pub wrote_here : (words : List ℕ) (i x : ℕ) → i < length words → slice_index (set words i x) i ≡ x

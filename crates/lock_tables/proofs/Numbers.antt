@@ -22,7 +22,7 @@ hits a k = cond (a == k) 1 0
 abbrev pub times : ℕ → List ℕ → ℕ
 times k l = count_by (λ x. x == k) l
 
-hits_self : (a : ℕ) → hits a a ≡ 1
+pub hits_self : (a : ℕ) → hits a a ≡ 1
 hits_self a = let e : (a == a) ≡ true = eq-eqb a a refl in rw e refl
 
 -- the first of a span is one of it, and the rest is a span

@@ -469,6 +469,7 @@ pub record IsSame (u v : View) : Type 0 where
   pub raised : u.raised ≡ v.raised
   pub linked : u.linked ≡ v.linked
   pub successor : u.successor ≡ v.successor
+  pub owes : u.owes ≡ v.owes
 
 same_view : (u v : View) → u ≡ v → IsSame u v
 same_view u v e = record {
@@ -482,6 +483,7 @@ same_view u v e = record {
   raised = ap (λ (x : View). x.raised) e;
   linked = ap (λ (x : View). x.linked) e;
   successor = ap (λ (x : View). x.successor) e;
+  owes = ap (λ (x : View). x.owes) e;
 }
 
 left_same : (u v : View) → without_next v ≡ u → IsSame u v
@@ -496,6 +498,7 @@ left_same u v e = let s = same_view u (without_next v) (sym e) in record {
   raised = s.raised;
   linked = s.linked;
   successor = s.successor;
+  owes = s.owes;
 }
 
 both_same : (u v w : View) → joined_view v w ≡ u → IsSame u v
@@ -510,6 +513,7 @@ both_same u v w e = let s = same_view u (joined_view v w) (sym e) in record {
   raised = s.raised;
   linked = s.linked;
   successor = s.successor;
+  owes = s.owes;
 }
 
 -- the seat j had the same view

@@ -1,5 +1,5 @@
 -- Seats of a lock's table, and the tokens made of them.
-use Rattle.std.proofs.Common.{◌≡◌, ℕ, ◌<◌, Bool, false, List, ◌∷◌, refl, ap, sym, ◌∙◌, arith, Option, Some}
+use Rattle.std.proofs.Common.{◌≡◌, ℕ, ◌<◌, ◌≤◌, Bool, false, List, ◌∷◌, refl, ap, sym, ◌∙◌, arith, Option, Some}
 use mathlib.Core.Option.{some, some-injective}
 use Rattle.atomic_table.specs.Seated.{TableId}
 use Rattle.atomic_table.specs.Table.{rest}
@@ -34,6 +34,38 @@ fresh_plain a n tag k from to split below = record {
   below = below;
   node_within = omega arith;
   predecessor_within = omega arith;
+  paid = refl;
+}
+
+-- Two views of one pass, of which neither has other passes' numbers where the other has none
+pub record IsAlike (v w : View) : Type 0 where
+  pub algorithm : w.algorithm ≡ v.algorithm
+  pub count : w.count ≡ v.count
+  pub number : w.number ≡ v.number
+  pub spent : w.spent ≡ v.spent
+  pub from : w.from ≡ v.from
+  pub to : w.to ≡ v.to
+  pub joined : w.joined ≡ v.joined
+  pub node : w.node ≡ v.node
+  pub nodes : w.nodes ≡ v.nodes
+  pub owes : w.owes ≡ v.owes
+  pub within : w.predecessor ≤ v.count
+
+pub alike : (v w : View) → w.algorithm ≡ v.algorithm → w.count ≡ v.count → w.number ≡ v.number → w.spent ≡ v.spent → w.from ≡ v.from
+    → w.to ≡ v.to → w.joined ≡ v.joined → w.node ≡ v.node → w.nodes ≡ v.nodes → w.owes ≡ v.owes → w.predecessor ≤ v.count → IsAlike v w
+alike v w a b c d e f g h i j k =
+    record { algorithm = a; count = b; number = c; spent = d; from = e; to = f; joined = g; node = h; nodes = i; owes = j; within = k }
+
+pub alike_plain : (v w : View) → IsAlike v w → IsPlain v → IsPlain w
+alike_plain v w a p = record {
+  unspent = a.spent ∙ p.unspent;
+  split = a.from ∙ p.split ∙ sym a.to;
+  alone = a.joined ∙ p.alone;
+  nodeless = a.nodes ∙ p.nodeless;
+  below = let l = p.below in let x = a.number in let y = a.count in omega (arith, l, x, y);
+  node_within = let l = p.node_within in let x = a.node in let y = a.count in omega (arith, l, x, y);
+  predecessor_within = let l = a.within in let y = a.count in omega (arith, l, y);
+  paid = a.owes ∙ p.paid;
 }
 
 -- what is read from a slot

@@ -9,6 +9,7 @@ use Rattle.lock_rules.specs.declared.step.Answer.TheVariants.{Yes}
 use Rattle.lock_rules.specs.declared.view.Phase.{Phase}
 use Rattle.lock_rules.specs.declared.view.Phase.TheVariants.{Queued}
 use Rattle.lock_rules.specs.declared.view.View.{View}
+use Rattle.lock_tables.specs.Numbers.{Numbering, by_pass}
 use Rattle.lock_tables.specs.Queue.{IsIn, HasNoRepeats, IsHead}
 
 abbrev pub is_queued : Phase → Bool
@@ -28,17 +29,17 @@ pub record IsPassIn (test : Phase → Bool) (views : List View) (p : ℕ) : Type
   pub pass : view.number ≡ p
   pub phase : test view.phase ≡ true
 
--- the number k is the seat's pass, or not split off yet, or taken over by joining
-abbrev pub HasNumber : ℕ → View → Type 0
-HasNumber k v = (v.number ≡ k) ⊎ (((v.from ≤ k) × (k < v.to)) ⊎ IsIn k v.joined)
+-- the number k is the seat's own, or of a pass that was not split off yet, or taken over by joining
+abbrev pub Has : Numbering → ℕ → View → Type 0
+Has m k v = (m.own v ≡ k) ⊎ (((v.from ≤ k) × (k < v.to)) ⊎ IsIn k (m.taken v))
 
 -- exactly one seat has the number k
-pub record HasOneSeat (k : ℕ) (views : List View) : Type 0 where
+pub record HasOneSeat (m : Numbering) (k : ℕ) (views : List View) : Type 0 where
   pub seat : ℕ
   pub view : View
   pub at : IsAt views seat view
-  pub has : HasNumber k view
-  pub alone : (j : ℕ) (v : View) → IsAt views j v → HasNumber k v → j ≡ seat
+  pub has : Has m k view
+  pub alone : (j : ℕ) (v : View) → IsAt views j v → Has m k v → j ≡ seat
 
 module _ {V : Type 0} where
   -- the value x is at home in the slot
@@ -65,5 +66,5 @@ module _ {V : Type 0} (fit : V → Type 0) (tag_of : V → Tag) (parked : V → 
     pub value_tag : (x : V) → IsHomeValue s.homes x → tag_of x ≡ tag
     pub value_fits : (x : V) → IsHomeValue s.homes x → fit x
     -- each number below n has exactly one seat, and no seat has another number
-    pub one_seat : (k : ℕ) → k < n → HasOneSeat k s.views
-    pub no_other : (k j : ℕ) (v : View) → IsAt s.views j v → HasNumber k v → k < n
+    pub one_seat : (k : ℕ) → k < n → HasOneSeat by_pass k s.views
+    pub no_other : (k j : ℕ) (v : View) → IsAt s.views j v → Has by_pass k v → k < n

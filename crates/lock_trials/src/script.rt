@@ -3,9 +3,11 @@ ghost use Rattle.std.specs.Prelude.{◌≡◌, ◌+◌, false, cond, IfSome, len
 ghost use Rattle.lock_rules.specs.Tag.{leaf};
 ghost use Rattle.lock_rules.specs.Passes.{IsOf};
 ghost use Rattle.lock_trials.specs.declared.script.Told.TheVariants.{Yes, No};
+ghost use Rattle.lock_trials.specs.declared.script.Who.TheVariants.{First, Second};
 ghost use Rattle.lock_trials.specs.Tokens.{place_of_token, Stands, IsNoted, IsSound, ArePair, ArePasses};
 
 use crate::parcel::Parcel;
+use crate::threads::use_parcel;
 use lock_rules::{Basic, Step};
 use std::alloc::Global;
 
@@ -30,6 +32,8 @@ pub enum Call {
     Park,
     /// Takes the value's mark off.
     Unpark,
+    /// What a holder of `hold_by_four` does where the holders park.
+    Use,
 }
 
 /// A call of a script.
@@ -39,7 +43,27 @@ pub struct Move {
     pub call: Call,
 }
 
-/// What a call answered: `Not` or `Got`; for `waiter` yes or no; for `Unpark` whether the value was parked.
+/// A call of the first pass.
+pub const fn first(call: Call) -> Move
+    ensures { result ≡ record { who = First; call = call } }
+{
+    Move {
+        who: Who::First,
+        call,
+    }
+}
+
+/// A call of the second pass.
+pub const fn second(call: Call) -> Move
+    ensures { result ≡ record { who = Second; call = call } }
+{
+    Move {
+        who: Who::Second,
+        call,
+    }
+}
+
+/// What a call answered: `Not` or `Got`; for `waiter` yes or no; for `Unpark` whether the value was parked; for `Use` whether it parked it.
 #[derive(Clone, Copy, PartialEq, Eq, Debug, Drop)]
 pub enum Told {
     Not,
@@ -176,6 +200,20 @@ fn unpark<B: Basic<Parcel>>(holder: Holder<B::Held>) -> (Holder<B::Held>, Told)
     (Holder { held, told_yes }, told)
 }
 
+fn use_value<B: Basic<Parcel>>(lock: &B, holder: Holder<B::Held>) -> (Holder<B::Held>, Told)
+    requires { IsOf (B.name lock.now) (B.tag lock.now) (B.Held.holder holder.held).place }
+    ensures place { (B.Held.holder result.0.held).place ≡ (B.Held.holder holder.held).place }
+    ensures said { IsNoted B.Held.holder result.0 }
+{
+    let Holder {
+        mut held,
+        told_yes: _,
+    } = holder;
+    use_parcel(lock, &mut held, true);
+    let told_yes = B::value(&held).parked;
+    (Holder { held, told_yes }, Told::of(told_yes))
+}
+
 fn play_holding<B: Basic<Parcel>>(
     lock: &B,
     holder: Holder<B::Held>,
@@ -195,6 +233,10 @@ fn play_holding<B: Basic<Parcel>>(
         Call::Park => Some((Token::Holding(park::<B>(holder)), Told::Got)),
         Call::Unpark => {
             let (holder, told) = unpark::<B>(holder);
+            Some((Token::Holding(holder), told))
+        }
+        Call::Use => {
+            let (holder, told) = use_value(lock, holder);
             Some((Token::Holding(holder), told))
         }
         Call::BeginRelease => release(lock, holder),

@@ -1,8 +1,9 @@
 //! Holds by four threads.
-ghost use Rattle.std.specs.Prelude.{◌≡◌, false, [], IfSome};
+ghost use Rattle.std.specs.Prelude.{◌≡◌, true, false, [], IfSome};
 ghost use Rattle.std.specs.Thread.{IsSync};
 ghost use Rattle.lock_rules.specs.Tag.{leaf};
 ghost use Rattle.lock_rules.specs.Passes.{IsOf, AreAll};
+ghost use Rattle.lock_rules.specs.declared.step.Answer.TheVariants.{Yes};
 ghost use Rattle.lock_trials.specs.Tokens.{AreFour};
 
 use crate::parcel::Parcel;
@@ -14,20 +15,29 @@ use std::thread::{Threads, join};
 /// How often each thread holds the lock in the tests of the locks.
 pub const HOLDS: u32 = 100;
 
-/// Adds one to the number in the value. Where `parks` is true the value is unparked first, and is parked again where `waiter`, which is
-/// asked only then, says that somebody is queued behind.
+/// What a holder does with the value: it adds one to the number, and notes whether the value was parked. Where `parks` is true it parks
+/// the value again where `waiter`, which is asked only then, says that somebody is queued behind.
+pub(crate) fn use_parcel<B: Basic<Parcel>>(lock: &B, held: &mut B::Held, parks: bool)
+    requires own { IsOf (B.name lock.now) (B.tag lock.now) (B.Held.holder held.old).place }
+    ensures place { (B.Held.holder held.new).place ≡ (B.Held.holder held.old).place }
+    ensures relied_on { (B.Held.holder held.new).value.parked ≡ true → (B.Held.holder held.new).tested ≡ Yes }
+{
+    let parked = parks && lock.waiter(held);
+    let parcel = B::value_mut(held);
+    parcel.unparkings = parcel.unparkings.wrapping_add(u64::from(parcel.parked));
+    parcel.parkings = parcel.parkings.wrapping_add(u64::from(parked));
+    parcel.parked = parked;
+    parcel.count = parcel.count.wrapping_add(1);
+}
+
+/// Holds the lock once.
 fn hold<B: Basic<Parcel>, R: Wait>(rt: &R, lock: &B, pass: B::Pass, parks: bool) -> B::Pass
     requires own { IsOf (B.name lock.now) (B.tag lock.now) (B.Pass.place pass) }
     requires tag { B.tag lock.now ≡ leaf 0 }
     ensures { B.Pass.place result ≡ B.Pass.place pass }
 {
     let mut held = lock.acquire(rt, pass);
-    let parked = parks && lock.waiter(&mut held);
-    let parcel = B::value_mut(&mut held);
-    parcel.unparkings = parcel.unparkings.wrapping_add(u64::from(parcel.parked));
-    parcel.parkings = parcel.parkings.wrapping_add(u64::from(parked));
-    parcel.parked = parked;
-    parcel.count = parcel.count.wrapping_add(1);
+    use_parcel(lock, &mut held, parks);
     lock.release(rt, held)
 }
 
@@ -51,7 +61,7 @@ fn hold_often<B: Basic<Parcel>, R: Wait>(
 
 /// What a thread does with its pass. The checker doesn't yet send a closure to a thread whose body rests on a trait like `Basic`, where an
 /// associated type has a bound with a type argument, so the closures rest on this trait.
-pub(crate) trait Works<P: Placed> {
+pub trait Works<P: Placed> {
     ghost allows: { Self → P → Type 0 };
 
     fn work(&self, pass: P) -> P
@@ -76,7 +86,8 @@ impl<'a, B: Basic<Parcel>, R: Wait> Works<B::Pass> for Shift<'a, B, R> {
     }
 }
 
-pub(crate) fn by_two<P: Placed + Send, W: Works<P> + Sync, R: Threads + Sync>(
+/// Each pass works in a thread of its own.
+pub fn by_two<P: Placed + Send, W: Works<P> + Sync, R: Threads + Sync>(
     rt: &R,
     shift: &W,
     first: P,
@@ -101,7 +112,7 @@ pub(crate) fn by_two<P: Placed + Send, W: Works<P> + Sync, R: Threads + Sync>(
 }
 
 /// Each pass works in a thread of its own.
-pub(crate) fn by_four<P: Placed + Send, W: Works<P> + Sync, R: Threads + Sync>(
+pub fn by_four<P: Placed + Send, W: Works<P> + Sync, R: Threads + Sync>(
     rt: &R,
     shift: &W,
     front: (P, P),
@@ -138,7 +149,7 @@ pub(crate) fn by_four<P: Placed + Send, W: Works<P> + Sync, R: Threads + Sync>(
 }
 
 /// Takes the four passes of a lock out of their list, which is then empty.
-pub(crate) fn apart<V: Cargo, B: Basic<V>>(
+pub fn apart<V: Cargo, B: Basic<V>>(
     _lock: &B,
     passes: &mut Vec<B::Pass>,
 ) -> Option<((B::Pass, B::Pass), (B::Pass, B::Pass))>

@@ -3,7 +3,7 @@ use Rattle.std.proofs.Common.{◌≡◌, ℕ, ◌+◌, ◌<◌, ◌≤◌, nat_l
 use Rattle.std.specs.Str.Parse.{IsNumeral, digits_value}
 use Rattle.std.proofs.lemmas.Bool.{lt-ltb, le-ltb}
 use Rattle.byte_text.specs.Numerals.{Reads, number_below}
-use Rattle.byte_text.specs.NumeralLaws.{number_passes, number_fails, number_lacks}
+use Rattle.byte_text.proofs.NumeralLaws.{number_passes, number_fails, number_lacks}
 use Rattle.byte_text.specs.declared.numerals.Numeral.{Numeral}
 use Rattle.byte_text.specs.declared.numerals.Numeral.TheVariants.{Number, TooLarge, NotNumeral}
 

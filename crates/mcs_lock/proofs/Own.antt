@@ -1,5 +1,5 @@
 -- The seats of a lock's own table.
-use Rattle.std.proofs.Common.{◌≡◌, ℕ, ◌≤◌, List, ap, sym, ◌∙◌, subst, arith}
+use Rattle.std.proofs.Common.{◌≡◌, ℕ, List, ap, sym, ◌∙◌, subst, arith}
 use Rattle.atomic_table.specs.Seated.{TableId}
 use Rattle.atomic_table.specs.declared.shared.Seat.{Seat}
 use Rattle.lock_rules.specs.Passes.{IsOf}
@@ -11,20 +11,8 @@ use Rattle.lock_rules.specs.declared.view.Algorithm.TheVariants.{Mcs}
 use Rattle.lock_rules.specs.declared.view.Opening.{Opening}
 use Rattle.lock_rules.specs.declared.view.View.{View}
 use Rattle.lock_rules.proofs.Names.{own_table, own_algorithm}
+use Rattle.lock_tables.proofs.Seats.{IsAlike, alike_plain}
 use Rattle.mcs_lock.specs.Own.{IsSeatOf}
-
--- two views of one pass
-pub record IsAlike (v w : View) : Type 0 where
-  pub algorithm : w.algorithm ≡ v.algorithm
-  pub count : w.count ≡ v.count
-  pub number : w.number ≡ v.number
-  pub spent : w.spent ≡ v.spent
-  pub from : w.from ≡ v.from
-  pub to : w.to ≡ v.to
-  pub joined : w.joined ≡ v.joined
-  pub node : w.node ≡ v.node
-  pub nodes : w.nodes ≡ v.nodes
-  pub within : w.predecessor ≤ v.count
 
 marked_by : (w : View) → w.algorithm ≡ Mcs → mark_of w ≡ w.number
 marked_by w e = ap (λ (a : Algorithm). mark_by a w) e
@@ -34,21 +22,12 @@ module _ {S V : Type 0} (own : ℕ) (z : TableId) (key : Opening V) where
   pub own_after : (s s' : Seat S View) (w : View) (c : List (ℕ × S)) → IsSeatOf own z key s → s'.table_id ≡ s.table_id → s'.me ≡ (w, c)
       → IsAlike s.me.0 w → IsSeatOf own z key s'
   own_after s s' w c o t m a =
-      let p = o.plain in
       let is : w ≡ s'.me.0 = ap (λ x. x.0) (sym m) in
       let mine : (own ≡ mark_of w)
       × (w.algorithm ≡ Mcs) = (o.number ∙ sym a.number ∙ sym (marked_by w (a.algorithm ∙ o.algorithm)), a.algorithm ∙ o.algorithm) in
-      let plain : IsPlain w = record {
-        unspent = a.spent ∙ p.unspent;
-        split = a.from ∙ p.split ∙ sym a.to;
-        alone = a.joined ∙ p.alone;
-        nodeless = a.nodes ∙ p.nodeless;
-        below = let l = p.below in let x = a.number in let y = a.count in omega (arith, l, x, y);
-        node_within = let l = p.node_within in let x = a.node in let y = a.count in omega (arith, l, x, y);
-        predecessor_within = let l = a.within in let y = a.count in omega (arith, l, y);
-      } in record {
+      record {
         table = t ∙ o.table;
-        plain = subst IsPlain is plain;
+        plain = subst IsPlain is (alike_plain s.me.0 w a o.plain);
         row = ap (λ (x : TableId). x.words) t ∙ o.row ∙ (λ i. row_of (sym a.algorithm i) (sym a.count i))
             ∙ ap (λ (x : View). row_of x.algorithm x.count) is;
         algorithm = ap (λ (x : View). x.algorithm) (sym is) ∙ mine.1;
@@ -78,9 +57,3 @@ module _ {S V : Type 0} (own : ℕ) (z : TableId) (key : Opening V) where
         number = number ∙ ap (λ (x : View). x.number) (sym m);
         below = let l = p.below in omega (arith, l, count, number);
       }
-
-pub alike : (v w : View) → w.algorithm ≡ v.algorithm → w.count ≡ v.count → w.number ≡ v.number → w.spent ≡ v.spent → w.from ≡ v.from
-    → w.to ≡ v.to → w.joined ≡ v.joined → w.node ≡ v.node
-    → w.nodes ≡ v.nodes → w.predecessor ≤ v.count → IsAlike v w
-alike v w a b c d e f g h i j =
-    record { algorithm = a; count = b; number = c; spent = d; from = e; to = f; joined = g; node = h; nodes = i; within = j }

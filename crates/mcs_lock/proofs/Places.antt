@@ -8,7 +8,8 @@ use Rattle.lock_rules.specs.declared.view.View.{View}
 use Rattle.lock_tables.specs.Rule.{is_busy, IsQueued}
 use Rattle.lock_tables.proofs.Lists.{at_below, there}
 use Rattle.lock_tables.proofs.Numbers.{number_below, one_number}
-use Rattle.lock_tables.proofs.Points.{has_stands}
+use Rattle.lock_tables.specs.Numbers.{by_pass}
+use Rattle.lock_tables.proofs.Stands.{has_stands}
 use Rattle.lock_tables.proofs.Queues.{lives, no_place, one_seat_of}
 use Rattle.mcs_lock.specs.Rule.{IsPlaced, NamesBehind, name, mcs_discipline}
 
@@ -86,7 +87,7 @@ module _ (n : ℕ) (tag : Tag) (words seats : List ℕ) (views : List View) (q :
 
   -- the pass of a seat is one of the lock's
   pub below_at : (j : ℕ) (v : View) → get_elem? views j ≡ some v → v.spent ≡ false → v.number < n
-  below_at j v at live = number_below n views j v v.number q.numbers at (has_stands v.number v live (inl refl))
+  below_at j v at live = number_below n views j v v.number q.numbers at (has_stands by_pass v.number v live (inl refl))
 
   -- a pass has one place
   pub same_place : (i k : ℕ) (u v : View) → IsPlaced seats views i u → IsPlaced seats views k v → u.number ≡ v.number → i ≡ k

@@ -13,18 +13,12 @@ use Rattle.lock_rules.specs.declared.view.Algorithm.TheVariants.{Mcs}
 use Rattle.lock_rules.specs.declared.view.View.{View}
 use Rattle.lock_tables.specs.Laws.{IsDisciplined, number_at}
 use Rattle.lock_tables.specs.Rule.{is_busy, IsQueued}
-use Rattle.lock_tables.proofs.Lists.{number_is, at_below, no_true}
+use Rattle.lock_tables.proofs.Lists.{number_is, at_below, no_true, both_true}
 use Rattle.lock_tables.proofs.Queues.{IsSame, WasAt, lives, few_seats, placed_before_split, placed_before_join, after_split, after_join}
 use Rattle.lock_tables.proofs.Queues.{one_seat_of}
 use Rattle.mcs_lock.specs.Rule.{tail, next, locked, name, before, passes_to, queue_of, IsPlaced, IsPrepared, IsLinked, mcs_discipline}
 use Rattle.mcs_lock.proofs.Places.{KeepsLinks, WasPlaced, still, names_still, names_as, busy_at, live_at, placed_at}
 use Rattle.mcs_lock.proofs.Core.{core_from}
-
-both_true : (a b : Bool) → (a && b) ≡ true → (a ≡ true) × (b ≡ true)
-both_true true true e = (refl, refl)
-both_true true false e = absurd (cc)
-both_true false true e = absurd (cc)
-both_true false false e = absurd (cc)
 
 -- the name of the pass before, read off the view that the seat j has
 before_is : (words : List ℕ) (views : List View) (j : ℕ) (v : View) → get_elem? views j ≡ some v → is_busy true v.phase ≡ true

@@ -3,7 +3,7 @@ ghost use Rattle.std.specs.Prelude.{◌≡◌, ◌++◌, OnOk};
 ghost use Rattle.placed_runner.specs.Text.{escaped, escaped_byte};
 
 use byte_text::hex_digit;
-use edge_io::OutOfMemory;
+use out_of_memory::OutOfMemory;
 
 /// Appends a text as it is printed between quotes.
 pub(crate) fn push_escaped(out: &mut Vec<u8>, text: &[u8]) -> Result<(), OutOfMemory>

@@ -5,7 +5,7 @@ ghost use Rattle.placed_runner.specs.Lines.{shown};
 
 use crate::escape::push_escaped;
 use byte_text::push_decimal;
-use edge_io::OutOfMemory;
+use out_of_memory::OutOfMemory;
 
 /// What the line of a turn shows.
 #[derive(Clone, Copy)]

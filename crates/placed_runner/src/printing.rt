@@ -4,9 +4,9 @@ ghost use Rattle.placed_runner.specs.Text.{turn_line, shown_entry, entries_text}
 
 use crate::Section;
 use crate::lines::{TurnLine, push_caller, push_turn};
-use edge_io::OutOfMemory;
 use kv_history::Journal;
 use mc_text::{count, rest_of};
+use out_of_memory::OutOfMemory;
 use std::alloc::Global;
 
 /// The text of a run: a line for each entry of the journal, whose callers stand on the section's PU, and then the line

@@ -18,7 +18,8 @@ pub some_is : {A : Type 0} (x y : A) → some x ≡ Some y → x ≡ y
 some_is x y e = cc
 
 -- the value of a first step, and what the next made of it
-pub bind_ok : {A B E : Type 0} (first : Result A E) (next : A → Result B E) (y : B) → (first >>= next) ≡ Ok y → (x : A) × (first ≡ Ok x) × (next x ≡ Ok y)
+pub bind_ok : {A B E : Type 0} (first : Result A E) (next : A → Result B E) (y : B) → (first >>= next) ≡ Ok y → (x : A) × (first ≡ Ok x)
+    × (next x ≡ Ok y)
 bind_ok (Ok x) next y e = (x, refl, e)
 bind_ok (Err d) next y e = absurd cc
 
@@ -39,7 +40,8 @@ pub guard_some : {A : Type 0} (b : Bool) (x y : A) → cond b (Some x) None ≡ 
 guard_some true x y e = (refl, cc)
 guard_some false x y e = absurd cc
 
-pub and_then_some : {A B : Type 0} (next : A → Option B) (o : Option A) (y : B) → option_and_then next o ≡ Some y → (x : A) × (o ≡ Some x) × (next x ≡ Some y)
+pub and_then_some : {A B : Type 0} (next : A → Option B) (o : Option A) (y : B) → option_and_then next o ≡ Some y → (x : A) × (o ≡ Some x)
+    × (next x ≡ Some y)
 and_then_some next None y e = absurd cc
 and_then_some next (Some x) y e = (x, refl, e)
 

@@ -1,5 +1,38 @@
 -- A canonical text is the list of the items that it was written from.
-use Rattle.std.proofs.Common.{◌≡◌, ◌≢◌, ◌⊎◌, ℕ, zero, suc, ◌+◌, ◌-◌, ◌<◌, ◌≤◌, Bool, true, false, ◌||◌, eqb, List, [], ◌∷◌, ◌++◌, length, get_or, map, Ok, refl, sym, ap, subst, ◌∙◌, append_assoc, arith, inl, inr}
+use Rattle.std.proofs.Common.{
+  ◌≡◌,
+  ◌≢◌,
+  ◌⊎◌,
+  ℕ,
+  zero,
+  suc,
+  ◌+◌,
+  ◌-◌,
+  ◌<◌,
+  ◌≤◌,
+  Bool,
+  true,
+  false,
+  ◌||◌,
+  eqb,
+  List,
+  [],
+  ◌∷◌,
+  ◌++◌,
+  length,
+  get_or,
+  map,
+  Ok,
+  refl,
+  sym,
+  ap,
+  subst,
+  ◌∙◌,
+  append_assoc,
+  arith,
+  inl,
+  inr,
+}
 use Rattle.std.specs.Bool.{MatchBool}
 use Rattle.std.specs.List.{AllByRecursion, join_with_byte}
 use Rattle.std.proofs.lemmas.Bool.{ne_eqb}
@@ -7,7 +40,8 @@ use Rattle.std.proofs.lemmas.List.{length-append, append-nil, take_at, drop_at}
 use Rattle.synth_text.specs.declared.items.Item.{Item}
 use Rattle.synth_text.specs.declared.parts.Part.{Part}
 use Rattle.synth_text.specs.declared.parts.Placed.{Placed}
-use Rattle.synth_text.specs.Items.{is_white, IsGap, IsInside, IsItem, AreItems, body_of}
+use Rattle.byte_text.specs.Classes.{is_white}
+use Rattle.synth_text.specs.Items.{IsGap, IsInside, IsItem, AreItems, body_of}
 use Rattle.synth_text.specs.Descriptions.{level_items, part_of, placed_part, parts_of}
 
 -- ---- places in a longer text
@@ -29,26 +63,31 @@ pub record StandsAt (whole : List ℕ) (at : ℕ) (text behind : List ℕ) : Typ
   pub long : length front ≡ at
   pub parts : whole ≡ front ++ (text ++ behind)
 
-byte_at : (whole : List ℕ) (at : ℕ) (text behind : List ℕ) → StandsAt whole at text behind → (k : ℕ) → k < length text → get_or whole (at + k) 0 ≡ get_or text k 0
+byte_at : (whole : List ℕ) (at : ℕ) (text behind : List ℕ) → StandsAt whole at text behind → (k : ℕ) → k < length text
+    → get_or whole (at + k) 0 ≡ get_or text k 0
 byte_at whole at text behind h k lt =
     rw (h.parts, ← h.long) (at_front h.front (text ++ behind) k ∙ at_part text behind k lt)
 
-byte_behind : (whole : List ℕ) (at : ℕ) (text behind : List ℕ) → StandsAt whole at text behind → get_or whole (at + length text) 0 ≡ get_or behind 0 0
+byte_behind : (whole : List ℕ) (at : ℕ) (text behind : List ℕ) → StandsAt whole at text behind
+    → get_or whole (at + length text) 0 ≡ get_or behind 0 0
 byte_behind whole at text behind h =
     let e = at_front text behind 0 in
     let n : length text + 0 ≡ length text = omega arith in
     rw (h.parts, ← h.long) (at_front h.front (text ++ behind) (length text) ∙ (rw n at e))
 
-whole_length : (whole : List ℕ) (at : ℕ) (text behind : List ℕ) → StandsAt whole at text behind → length whole ≡ at + (length text + length behind)
+whole_length : (whole : List ℕ) (at : ℕ) (text behind : List ℕ) → StandsAt whole at text behind
+    → length whole ≡ at + (length text + length behind)
 whole_length whole at text behind h = rw h.parts (omega (arith, length-append h.front (text ++ behind), length-append text behind, h.long))
 
-pub same_body : (whole : List ℕ) (at : ℕ) (text behind : List ℕ) (item : Item) → StandsAt whole at text behind → item.start ≡ at → item.end ≡ at + length text → body_of whole item ≡ text
+pub same_body : (whole : List ℕ) (at : ℕ) (text behind : List ℕ) (item : Item) → StandsAt whole at text behind → item.start ≡ at
+    → item.end ≡ at + length text → body_of whole item ≡ text
 same_body whole at text behind item h starts ends =
     let n : item.end - item.start ≡ length text = omega arith in
     rw (n, starts, h.parts, drop_at h.front (text ++ behind) at h.long) (take_at text behind (length text) refl)
 
 -- parentheses in the part are parentheses in the whole
-inside_whole : (whole : List ℕ) (at : ℕ) (text behind : List ℕ) → StandsAt whole at text behind → (k : ℕ) → k ≤ length text → IsInside text 0 k → IsInside whole at (at + k)
+inside_whole : (whole : List ℕ) (at : ℕ) (text behind : List ℕ) → StandsAt whole at text behind → (k : ℕ) → k ≤ length text
+    → IsInside text 0 k → IsInside whole at (at + k)
 inside_whole whole at text behind h k within inside = (
   at + inside.0,
   omega arith,
@@ -61,7 +100,8 @@ inside_whole whole at text behind h k within inside = (
       subst (λ (b : ℕ). b ≢ 41) (sym f) (inside.4 (j - at) (omega (arith, low)) (omega (arith, low))),
 )
 
-inside_part : (whole : List ℕ) (at : ℕ) (text behind : List ℕ) → StandsAt whole at text behind → (k : ℕ) → k ≤ length text → IsInside whole at (at + k) → IsInside text 0 k
+inside_part : (whole : List ℕ) (at : ℕ) (text behind : List ℕ) → StandsAt whole at text behind → (k : ℕ) → k ≤ length text
+    → IsInside whole at (at + k) → IsInside text 0 k
 inside_part whole at text behind h k within inside =
     let opened = inside.0 - at in
     let place : at + opened ≡ inside.0 = omega (arith, inside.1) in
@@ -71,7 +111,8 @@ inside_part whole at text behind h k within inside =
       omega arith,
       lt,
       sym (rw place at e) ∙ inside.3,
-      λ j low high. subst (λ (b : ℕ). b ≢ 41) (byte_at whole at text behind h j (omega arith)) (inside.4 (at + j) (omega (arith, inside.1)) (omega arith)),
+      λ j low high. subst (λ (b : ℕ). b ≢ 41) (byte_at whole at text behind h j (omega arith))
+          (inside.4 (at + j) (omega (arith, inside.1)) (omega arith)),
     )
 
 -- ---- items
@@ -98,7 +139,8 @@ item_of at text is_memory = record { start = at; end = at + length text; is_memo
 abbrev pub IsFollowed : List ℕ → Type 0
 IsFollowed behind = (behind ≡ []) ⊎ ((0 < length behind) × (get_or behind 0 0 ≡ 32))
 
-pub is_level_item : (whole : List ℕ) (at : ℕ) (text behind : List ℕ) → StandsAt whole at text behind → IsLevelText text → IsFollowed behind → IsItem whole (item_of at text false)
+pub is_level_item : (whole : List ℕ) (at : ℕ) (text behind : List ℕ) → StandsAt whole at text behind → IsLevelText text → IsFollowed behind
+    → IsItem whole (item_of at text false)
 is_level_item whole at text behind h t follows =
     let n : at + 0 ≡ at = omega arith in
     let first = byte_at whole at text behind h 0 t.some in
@@ -113,7 +155,8 @@ is_level_item whole at text behind h t follows =
             let place : at + (k - at) ≡ k = omega arith in
             let e = byte_at whole at text behind h (k - at) (omega arith) in
             let same = rw place at e in
-            let inside = inside_whole whole at text behind h (k - at) (omega arith) (t.whole (k - at) (omega arith) (rw same at ends.byte)) in
+            let inside = inside_whole whole at text behind h (k - at) (omega arith)
+            (t.whole (k - at) (omega arith) (rw same at ends.byte)) in
             ends.outside (subst (IsInside whole at) place inside);
         ended = elim follows [
           | inl nothing ↦ inl (omega (arith, whole_length whole at text behind h, ap length nothing))
@@ -125,7 +168,8 @@ is_level_item whole at text behind h t follows =
       };
     }
 
-pub is_memory_item : (whole : List ℕ) (at : ℕ) (text behind : List ℕ) → StandsAt whole at text behind → IsMemoryText text → IsItem whole (item_of at text true)
+pub is_memory_item : (whole : List ℕ) (at : ℕ) (text behind : List ℕ) → StandsAt whole at text behind → IsMemoryText text
+    → IsItem whole (item_of at text true)
 is_memory_item whole at text behind h t =
     let n : at + 0 ≡ at = omega arith in
     let first = byte_at whole at text behind h 0 (omega (arith, t.some)) in
@@ -172,7 +216,8 @@ abbrev pub placed_at : ℕ → List Entry → List Placed
 placed_at at [] = []
 placed_at at (entry ∷ entries) = record { at = at; part = entry.part } ∷ placed_at (at + length entry.text + 1) entries
 
-is_item : (whole : List ℕ) (at : ℕ) (text : List ℕ) (is_memory : Bool) (behind : List ℕ) → StandsAt whole at text behind → MatchBool is_memory (IsMemoryText text) (IsLevelText text) → IsFollowed behind
+is_item : (whole : List ℕ) (at : ℕ) (text : List ℕ) (is_memory : Bool) (behind : List ℕ) → StandsAt whole at text behind
+    → MatchBool is_memory (IsMemoryText text) (IsLevelText text) → IsFollowed behind
     → IsItem whole (item_of at text is_memory)
 is_item whole at text true behind h t follows = is_memory_item whole at text behind h t
 is_item whole at text false behind h t follows = is_level_item whole at text behind h t follows
@@ -196,24 +241,30 @@ pub record EndsWith (whole : List ℕ) (at : ℕ) (entries : List Entry) : Type 
   pub long : length front ≡ at
   pub parts : whole ≡ front ++ join_with_byte 32 (texts_of entries)
 
-first_stands : (whole : List ℕ) (at : ℕ) (entry : Entry) (entries : List Entry) → EndsWith whole at (entry ∷ entries) → StandsAt whole at entry.text (behind_first entries)
-first_stands whole at entry entries h = record { front = h.front; long = h.long; parts = h.parts ∙ ap (λ (xs : List ℕ). h.front ++ xs) (joined_first entry entries) }
+first_stands : (whole : List ℕ) (at : ℕ) (entry : Entry) (entries : List Entry) → EndsWith whole at (entry ∷ entries)
+    → StandsAt whole at entry.text (behind_first entries)
+first_stands whole at entry entries h =
+    record { front = h.front; long = h.long; parts = h.parts ∙ ap (λ (xs : List ℕ). h.front ++ xs) (joined_first entry entries) }
 
-rest_ends : (whole : List ℕ) (at : ℕ) (entry next : Entry) (entries : List Entry) → EndsWith whole at (entry ∷ next ∷ entries) → EndsWith whole (at + length entry.text + 1) (next ∷ entries)
+rest_ends : (whole : List ℕ) (at : ℕ) (entry next : Entry) (entries : List Entry) → EndsWith whole at (entry ∷ next ∷ entries)
+    → EndsWith whole (at + length entry.text + 1) (next ∷ entries)
 rest_ends whole at entry next entries h = record {
   front = (h.front ++ entry.text) ++ 32 ∷ [];
   long = omega (arith, length-append (h.front ++ entry.text) (32 ∷ []), length-append h.front entry.text, h.long);
   parts =
-      h.parts ∙ sym (append_assoc h.front entry.text (32 ∷ join_with_byte 32 (texts_of (next ∷ entries)))) ∙ sym (append_assoc (h.front ++ entry.text) (32 ∷ []) (join_with_byte 32 (texts_of (next ∷ entries))));
+      h.parts ∙ sym (append_assoc h.front entry.text (32 ∷ join_with_byte 32 (texts_of (next ∷ entries))))
+      ∙ sym (append_assoc (h.front ++ entry.text) (32 ∷ []) (join_with_byte 32 (texts_of (next ∷ entries))));
 }
 
-one_space : (whole : List ℕ) (at : ℕ) (text behind : List ℕ) → StandsAt whole at text behind → get_or behind 0 0 ≡ 32 → IsGap whole (at + length text) (at + length text + 1)
+one_space : (whole : List ℕ) (at : ℕ) (text behind : List ℕ) → StandsAt whole at text behind → get_or behind 0 0 ≡ 32
+    → IsGap whole (at + length text) (at + length text + 1)
 one_space whole at text behind h space k low high =
     let here : k ≡ at + length text = omega arith in
     let e = byte_behind whole at text behind h in
     rw (here, e, space) refl
 
-pub are_items : (whole : List ℕ) (from at : ℕ) (entries : List Entry) → AllByRecursion IsEntry entries → from ≤ at → IsGap whole from at → EndsWith whole at entries
+pub are_items : (whole : List ℕ) (from at : ℕ) (entries : List Entry) → AllByRecursion IsEntry entries → from ≤ at → IsGap whole from at
+    → EndsWith whole at entries
     → AreItems whole from (items_at at entries)
 are_items whole from at [] each after gap h =
     let end : at ≡ length whole = omega (arith, ap length h.parts, length-append h.front [], h.long) in
@@ -230,7 +281,8 @@ are_items whole from at (entry ∷ next ∷ entries) each after gap h =
       after,
       gap,
       is_item whole at entry.text entry.is_memory (behind_first (next ∷ entries)) stands each.0.shape (follows_first (next ∷ entries)),
-      are_items whole (at + length entry.text) (at + length entry.text + 1) (next ∷ entries) each.1 (omega arith) (one_space whole at entry.text (behind_first (next ∷ entries)) stands refl)
+      are_items whole (at + length entry.text) (at + length entry.text + 1) (next ∷ entries) each.1 (omega arith)
+          (one_space whole at entry.text (behind_first (next ∷ entries)) stands refl)
           (rest_ends whole at entry next entries h),
     )
 
@@ -239,11 +291,13 @@ first_read : (whole : List ℕ) (at : ℕ) (entry : Entry) (behind : List ℕ) (
 first_read whole at entry behind left stands good =
     rw (same_body whole at entry.text behind (item_of at entry.text entry.is_memory) stands refl refl, good.read left) refl
 
-pub reads_items : (whole : List ℕ) (at : ℕ) (entries : List Entry) → AllByRecursion IsEntry entries → EndsWith whole at entries → parts_of whole (items_at at entries) ≡ Ok (placed_at at entries)
+pub reads_items : (whole : List ℕ) (at : ℕ) (entries : List Entry) → AllByRecursion IsEntry entries → EndsWith whole at entries
+    → parts_of whole (items_at at entries) ≡ Ok (placed_at at entries)
 reads_items whole at [] each h = refl
 reads_items whole at (entry ∷ []) each h = rw (first_read whole at entry [] 0 (first_stands whole at entry [] h) each.0) refl
 reads_items whole at (entry ∷ next ∷ entries) each h =
     rw (
-      first_read whole at entry (behind_first (next ∷ entries)) (level_items (items_at (at + length entry.text + 1) (next ∷ entries))) (first_stands whole at entry (next ∷ entries) h) each.0,
+      first_read whole at entry (behind_first (next ∷ entries)) (level_items (items_at (at + length entry.text + 1) (next ∷ entries)))
+          (first_stands whole at entry (next ∷ entries) h) each.0,
       reads_items whole (at + length entry.text + 1) (next ∷ entries) each.1 (rest_ends whole at entry next entries h),
     ) refl

@@ -1,5 +1,41 @@
 -- A canonical text describes what it was written from.
-use Rattle.std.proofs.Common.{◌≡◌, ◌≢◌, ℕ, zero, suc, ◌+◌, ◌-◌, ◌<◌, Bool, true, false, ◌||◌, ◌&&◌, eqb, List, [], ◌∷◌, ◌++◌, length, get_or, take, drop, map, Option, Some, None, Ok, refl, sym, ap, subst, ◌∙◌, arith, inl, inr}
+use Rattle.std.proofs.Common.{
+  ◌≡◌,
+  ◌≢◌,
+  ℕ,
+  zero,
+  suc,
+  ◌+◌,
+  ◌-◌,
+  ◌<◌,
+  Bool,
+  true,
+  false,
+  ◌||◌,
+  ◌&&◌,
+  eqb,
+  List,
+  [],
+  ◌∷◌,
+  ◌++◌,
+  length,
+  get_or,
+  take,
+  drop,
+  map,
+  Option,
+  Some,
+  None,
+  Ok,
+  refl,
+  sym,
+  ap,
+  subst,
+  ◌∙◌,
+  arith,
+  inl,
+  inr,
+}
 use Rattle.std.specs.Prelude.{IfSome, is_some, codes, decimal}
 use Rattle.std.specs.List.{AllByRecursion, join_with_byte, list_any, cons_option}
 use Rattle.std.proofs.lemmas.Bool.{cases_Bool, cases_lt, cases_eq, both_ways, or_cases, or_left, or_right, or_from, eqb-true, le-ltb}
@@ -12,25 +48,66 @@ use Rattle.synth_text.specs.declared.description.Memory.{Memory}
 use Rattle.synth_text.specs.declared.description.Description.{Description}
 use Rattle.synth_text.specs.declared.parts.Placed.{Placed}
 use Rattle.synth_text.specs.Kinds.{same_kind, long_name_of}
-use Rattle.synth_text.specs.Items.{is_white}
+use Rattle.byte_text.specs.Classes.{is_white}
 use Rattle.synth_text.specs.Parts.{untyped_kind}
-use Rattle.synth_text.specs.Rules.{is_level, has_nodes, levels_of, memory_in, description_of, pu_count, object_count, has_kind, any_of_kind, is_kind_again, is_again, first_again, from_last, wrong_end, is_large, broken}
+use Rattle.synth_text.specs.Rules.{
+  is_level,
+  has_nodes,
+  levels_of,
+  memory_in,
+  description_of,
+  pu_count,
+  object_count,
+  has_kind,
+  any_of_kind,
+  is_kind_again,
+  is_again,
+  first_again,
+  from_last,
+  wrong_end,
+  is_large,
+  broken,
+}
 use Rattle.synth_text.specs.Descriptions.{Describes}
 use Rattle.synth_text.specs.Canonical.{size_texts, indexes_texts, in_parentheses, level_text, memory_text, item_texts, canonical}
 use Rattle.synth_text.specs.Sound.{IsSoundLevel, KindsDiffer, EndsInPus, IsSoundMemory, IsSound}
 use Rattle.synth_text.proofs.KindLaws.{same_kind-equal, same_kind-false}
 use Rattle.synth_text.proofs.RuleLaws.{refused_none, broken_none}
 use Rattle.synth_text.proofs.Texts.{each_weaker, each_at, each_joined, IsSolid, IsInner, solid_not_white, solid_is_inner}
-use Rattle.synth_text.proofs.CanonicalReading.{names_kind, head_text, head_solid, level_texts_solid, memory_texts_solid, no_bracket, reads_level, reads_memory}
-use Rattle.synth_text.proofs.CanonicalItems.{at_front, at_part, IsLevelText, IsMemoryText, Entry, IsEntry, texts_of, items_at, placed_at, EndsWith, are_items, reads_items}
+use Rattle.synth_text.proofs.CanonicalReading.{
+  names_kind,
+  head_text,
+  head_solid,
+  level_texts_solid,
+  memory_texts_solid,
+  no_bracket,
+  reads_level,
+  reads_memory,
+}
+use Rattle.synth_text.proofs.CanonicalItems.{
+  at_front,
+  at_part,
+  IsLevelText,
+  IsMemoryText,
+  Entry,
+  IsEntry,
+  texts_of,
+  items_at,
+  placed_at,
+  EndsWith,
+  are_items,
+  reads_items,
+}
 
 -- ---- the shapes of the texts
 
 -- parentheses behind a head, with no `)` between them
-level_shape : (head inner : List ℕ) → 0 < length head → AllByRecursion IsSolid head → AllByRecursion IsInner inner → IsLevelText (head ++ 40 ∷ (inner ++ 41 ∷ []))
+level_shape : (head inner : List ℕ) → 0 < length head → AllByRecursion IsSolid head → AllByRecursion IsInner inner
+    → IsLevelText (head ++ 40 ∷ (inner ++ 41 ∷ []))
 level_shape head inner some solid h =
     let text = head ++ 40 ∷ (inner ++ 41 ∷ []) in
-    let long : length text ≡ length head + (length inner + 2) = omega (arith, length-append head (40 ∷ (inner ++ 41 ∷ [])), length-append inner (41 ∷ [])) in
+    let long : length text ≡ length head + (length inner + 2) =
+    omega (arith, length-append head (40 ∷ (inner ++ 41 ∷ [])), length-append inner (41 ∷ [])) in
     let first = at_part head (40 ∷ (inner ++ 41 ∷ [])) 0 some in
     let begin = each_at IsSolid head solid 0 some in
     record {
@@ -51,7 +128,8 @@ level_shape head inner some solid h =
         ]
       ];
       closed = λ inside. elim (cases_lt inside.0 (length head)) [
-        | inl low ↦ let b = each_at IsSolid head solid inside.0 low in let e = at_part head (40 ∷ (inner ++ 41 ∷ [])) inside.0 low in let at_open = rw e at inside.3 in omega (arith, b.0, at_open)
+        | inl low ↦ let b = each_at IsSolid head solid inside.0 low in let e = at_part head (40 ∷ (inner ++ 41 ∷ [])) inside.0 low in
+            let at_open = rw e at inside.3 in omega (arith, b.0, at_open)
         | inr high ↦ elim (cases_eq inside.0 (length head + (length inner + 1))) [
           | inl last ↦ let e = inside.3 in let f = rw (last, closing head inner) at e in absurd (omega (arith, f))
           | inr before ↦ inside.4 (length head + (length inner + 1)) (omega (arith, inside.2)) (omega arith) (closing head inner)
@@ -60,13 +138,16 @@ level_shape head inner some solid h =
     }
   where
     not_cut : (b : ℕ) → IsSolid b → (is_white b || eqb b 91) ≡ true → ⊥
-    not_cut b s e = elim (or_cases (is_white b) (eqb b 91) e) [ inl white ↦ both_ways _ (solid_not_white b s) white | inr bracket ↦ s.1 (eqb-true b 91 bracket) ]
+    not_cut b s e =
+        elim (or_cases (is_white b) (eqb b 91) e)
+        [ inl white ↦ both_ways _ (solid_not_white b s) white | inr bracket ↦ s.1 (eqb-true b 91 bracket) ]
 
     opens_not_cut : (is_white 40 || eqb 40 91) ≡ true → ⊥
     opens_not_cut e = absurd cc
 
     opening : (head inner : List ℕ) → get_or (head ++ 40 ∷ (inner ++ 41 ∷ [])) (length head) 0 ≡ 40
-    opening head inner = let n : length head + 0 ≡ length head = omega arith in let e = at_front head (40 ∷ (inner ++ 41 ∷ [])) 0 in rw n at e
+    opening head inner =
+        let n : length head + 0 ≡ length head = omega arith in let e = at_front head (40 ∷ (inner ++ 41 ∷ [])) 0 in rw n at e
 
     closing : (head inner : List ℕ) → get_or (head ++ 40 ∷ (inner ++ 41 ∷ [])) (length head + (length inner + 1)) 0 ≡ 41
     closing head inner =
@@ -75,7 +156,8 @@ level_shape head inner some solid h =
         let e = at_front inner (41 ∷ []) 0 in
         at_front head (40 ∷ (inner ++ 41 ∷ [])) (length inner + 1) ∙ rw n (rw m at e)
 
-    inner_byte : (head inner : List ℕ) → AllByRecursion IsInner inner → (j : ℕ) → length head < j → j < length head + (length inner + 1) → get_or (head ++ 40 ∷ (inner ++ 41 ∷ [])) j 0 ≢ 41
+    inner_byte : (head inner : List ℕ) → AllByRecursion IsInner inner → (j : ℕ) → length head < j → j < length head + (length inner + 1)
+        → get_or (head ++ 40 ∷ (inner ++ 41 ∷ [])) j 0 ≢ 41
     inner_byte head inner h j above below =
         let place : length head + suc (j - length head - 1) ≡ j = omega arith in
         let e = at_front head (40 ∷ (inner ++ 41 ∷ [])) (suc (j - length head - 1)) in
@@ -94,14 +176,18 @@ plain_shape head some solid = rw append-nil (record {
 })
   where
     not_cut : (b : ℕ) → IsSolid b → (is_white b || eqb b 91) ≡ true → ⊥
-    not_cut b s e = elim (or_cases (is_white b) (eqb b 91) e) [ inl white ↦ both_ways _ (solid_not_white b s) white | inr bracket ↦ s.1 (eqb-true b 91 bracket) ]
+    not_cut b s e =
+        elim (or_cases (is_white b) (eqb b 91) e)
+        [ inl white ↦ both_ways _ (solid_not_white b s) white | inr bracket ↦ s.1 (eqb-true b 91 bracket) ]
 
-texts_shape : (head : List ℕ) (texts : List (List ℕ)) → 0 < length head → AllByRecursion IsSolid head → AllByRecursion (AllByRecursion IsSolid) texts → IsLevelText (head ++ in_parentheses texts)
+texts_shape : (head : List ℕ) (texts : List (List ℕ)) → 0 < length head → AllByRecursion IsSolid head
+    → AllByRecursion (AllByRecursion IsSolid) texts → IsLevelText (head ++ in_parentheses texts)
 texts_shape head [] some solid h = plain_shape head some solid
 texts_shape head (first ∷ texts) some solid h =
     level_shape head (join_with_byte 32 (first ∷ texts)) some solid
     (each_joined IsInner 32 (first ∷ texts) ((λ e. absurd (omega arith), λ e. absurd (omega arith)))
-    (each_weaker (AllByRecursion IsSolid) (AllByRecursion IsInner) (λ text t. each_weaker IsSolid IsInner solid_is_inner text t) (first ∷ texts) h))
+    (each_weaker (AllByRecursion IsSolid) (AllByRecursion IsInner) (λ text t. each_weaker IsSolid IsInner solid_is_inner text t)
+    (first ∷ texts) h))
 
 memory_shape : (inner : List ℕ) → AllByRecursion (λ b. b ≢ 93) inner → IsMemoryText (91 ∷ (inner ++ 93 ∷ []))
 memory_shape inner h =
@@ -112,7 +198,8 @@ memory_shape inner h =
       whole = λ k low high.
           let place : suc (k - 1) ≡ k = omega arith in
           let lt : k - 1 < length inner = omega arith in
-          let byte : get_or (91 ∷ (inner ++ 93 ∷ [])) (suc (k - 1)) 0 ≢ 93 = subst (λ (b : ℕ). b ≢ 93) (sym (at_part inner (93 ∷ []) (k - 1) lt)) (each_at (λ b. b ≢ 93) inner h (k - 1) lt) in
+          let byte : get_or (91 ∷ (inner ++ 93 ∷ [])) (suc (k - 1)) 0 ≢ 93 =
+          subst (λ (b : ℕ). b ≢ 93) (sym (at_part inner (93 ∷ []) (k - 1) lt)) (each_at (λ b. b ≢ 93) inner h (k - 1) lt) in
           subst (λ (n : ℕ). get_or (91 ∷ (inner ++ 93 ∷ [])) n 0 ≢ 93) place byte;
       last =
           let place : suc (length inner + 0) ≡ length (91 ∷ (inner ++ 93 ∷ [])) - 1 = omega arith in
@@ -126,18 +213,28 @@ abbrev level_entry : Level → Entry
 level_entry level = record { text = level_text level; is_memory = false; part = record { level = Some level; nodes = None } }
 
 abbrev memory_entry : Memory → Entry
-memory_entry memory = record { text = memory_text memory; is_memory = true; part = record { level = None; nodes = Some (record { size = memory.size; indexes = memory.indexes }) } }
+memory_entry memory =
+    record {
+      text = memory_text memory;
+      is_memory = true;
+      part =
+          record { level = None; nodes = Some (record { size = memory.size; indexes = memory.indexes }) };
+    }
 
 abbrev entries_of : List Level → Option Memory → List Entry
 entries_of levels None = map level_entry levels
-entries_of levels (Some memory) = map level_entry (take memory.above levels) ++ memory_entry memory ∷ map level_entry (drop memory.above levels)
+entries_of levels (Some memory) =
+    map level_entry (take memory.above levels) ++ memory_entry memory ∷ map level_entry (drop memory.above levels)
 
 level_is_entry : (level : Level) → IsSoundLevel level → IsEntry (level_entry level)
 level_is_entry level h =
     let names = names_kind level.kind h.no_machine h.no_node in
-    let some : 0 < length (head_text level.kind level.arity) = omega (arith, length-append (long_name_of level.kind) (58 ∷ decimal level.arity)) in
+    let some : 0 < length (head_text level.kind level.arity) =
+    omega (arith, length-append (long_name_of level.kind) (58 ∷ decimal level.arity)) in
     record {
-      shape = texts_shape (head_text level.kind level.arity) (size_texts (codes "size") level.size ++ indexes_texts level.indexes) some (head_solid level.kind level.arity names h.arity.1) (level_texts_solid level h);
+      shape =
+          texts_shape (head_text level.kind level.arity) (size_texts (codes "size") level.size ++ indexes_texts level.indexes) some
+          (head_solid level.kind level.arity names h.arity.1) (level_texts_solid level h);
       read = λ behind. reads_level (untyped_kind behind) level h;
     }
 
@@ -145,7 +242,9 @@ memory_is_entry : (total : ℕ) (memory : Memory) → IsSoundMemory total memory
 memory_is_entry total memory h =
     let texts = size_texts (codes "memory") memory.size ++ indexes_texts memory.indexes in
     record {
-      shape = memory_shape (codes "NUMANode" ++ in_parentheses texts) (no_bracket texts (memory_texts_solid memory.size memory.indexes h.size h.given));
+      shape =
+          memory_shape (codes "NUMANode" ++ in_parentheses texts)
+          (no_bracket texts (memory_texts_solid memory.size memory.indexes h.size h.given));
       read = λ behind. reads_memory 0 total memory h;
     }
 
@@ -163,21 +262,26 @@ each_drop zero levels h = h
 each_drop (suc n) [] h = tt
 each_drop (suc n) (level ∷ levels) h = each_drop n levels h.1
 
-each_around : (above below : List Entry) (entry : Entry) → AllByRecursion IsEntry above → IsEntry entry → AllByRecursion IsEntry below → AllByRecursion IsEntry (above ++ entry ∷ below)
+each_around : (above below : List Entry) (entry : Entry) → AllByRecursion IsEntry above → IsEntry entry → AllByRecursion IsEntry below
+    → AllByRecursion IsEntry (above ++ entry ∷ below)
 each_around [] below entry a e b = (e, b)
 each_around (first ∷ above) below entry a e b = (a.0, each_around above below entry a.1 e b)
 
-each_entry : (levels : List Level) (memory : Option Memory) → AllByRecursion IsSoundLevel levels → IfSome memory (IsSoundMemory (length levels)) → AllByRecursion IsEntry (entries_of levels memory)
+each_entry : (levels : List Level) (memory : Option Memory) → AllByRecursion IsSoundLevel levels
+    → IfSome memory (IsSoundMemory (length levels)) → AllByRecursion IsEntry (entries_of levels memory)
 each_entry levels None h k = each_level_entry levels h
 each_entry levels (Some memory) h k =
     each_around (map level_entry (take memory.above levels)) (map level_entry (drop memory.above levels)) (memory_entry memory)
-    (each_level_entry (take memory.above levels) (each_take memory.above levels h)) (memory_is_entry (length levels) memory k) (each_level_entry (drop memory.above levels) (each_drop memory.above levels h))
+    (each_level_entry (take memory.above levels) (each_take memory.above levels h)) (memory_is_entry (length levels) memory k)
+    (each_level_entry (drop memory.above levels) (each_drop memory.above levels h))
 
 level_texts_are : (levels : List Level) → texts_of (map level_entry levels) ≡ map level_text levels
 level_texts_are [] = refl
 level_texts_are (level ∷ levels) = ap (λ (ts : List (List ℕ)). level_text level ∷ ts) (level_texts_are levels)
 
-texts_around : (above : List Level) (memory : Memory) (below : List Level) → texts_of (map level_entry above ++ memory_entry memory ∷ map level_entry below) ≡ map level_text above ++ memory_text memory ∷ map level_text below
+texts_around : (above : List Level) (memory : Memory) (below : List Level)
+    → texts_of (map level_entry above ++ memory_entry memory ∷ map level_entry below) ≡ map level_text above
+    ++ memory_text memory ∷ map level_text below
 texts_around [] memory below = ap (λ (ts : List (List ℕ)). memory_text memory ∷ ts) (level_texts_are below)
 texts_around (level ∷ above) memory below = ap (λ (ts : List (List ℕ)). level_text level ∷ ts) (texts_around above memory below)
 
@@ -191,13 +295,16 @@ placed_levels : (at : ℕ) (levels : List Level) → levels_of (placed_at at (ma
 placed_levels at [] = refl
 placed_levels at (level ∷ levels) = ap (λ (ls : List Level). level ∷ ls) (placed_levels (at + length (level_text level) + 1) levels)
 
-levels_around : (at : ℕ) (above : List Level) (memory : Memory) (below : List Level) → levels_of (placed_at at (map level_entry above ++ memory_entry memory ∷ map level_entry below)) ≡ above ++ below
+levels_around : (at : ℕ) (above : List Level) (memory : Memory) (below : List Level)
+    → levels_of (placed_at at (map level_entry above ++ memory_entry memory ∷ map level_entry below)) ≡ above ++ below
 levels_around at [] memory below = placed_levels (at + length (memory_text memory) + 1) below
-levels_around at (level ∷ above) memory below = ap (λ (ls : List Level). level ∷ ls) (levels_around (at + length (level_text level) + 1) above memory below)
+levels_around at (level ∷ above) memory below =
+    ap (λ (ls : List Level). level ∷ ls) (levels_around (at + length (level_text level) + 1) above memory below)
 
 entry_levels : (levels : List Level) (memory : Option Memory) → levels_of (placed_at 0 (entries_of levels memory)) ≡ levels
 entry_levels levels None = placed_levels 0 levels
-entry_levels levels (Some memory) = levels_around 0 (take memory.above levels) memory (drop memory.above levels) ∙ take-append-drop memory.above levels
+entry_levels levels (Some memory) =
+    levels_around 0 (take memory.above levels) memory (drop memory.above levels) ∙ take-append-drop memory.above levels
 
 no_memory : (before at : ℕ) (levels : List Level) → memory_in before (placed_at at (map level_entry levels)) ≡ None
 no_memory before at [] = refl
@@ -207,11 +314,14 @@ memory_around : (before at : ℕ) (above : List Level) (memory : Memory) (below 
     → memory_in before (placed_at at (map level_entry above ++ memory_entry memory ∷ map level_entry below)) ≡ Some memory
 memory_around before at [] memory below h =
     let e : before + 0 ≡ memory.above = h in ap (λ (n : ℕ). Some (record memory { above = n })) e
-memory_around before at (level ∷ above) memory below h = memory_around (before + 1) (at + length (level_text level) + 1) above memory below (omega arith)
+memory_around before at (level ∷ above) memory below h =
+    memory_around (before + 1) (at + length (level_text level) + 1) above memory below (omega arith)
 
-entry_memory : (levels : List Level) (memory : Option Memory) → IfSome memory (IsSoundMemory (length levels)) → memory_in 0 (placed_at 0 (entries_of levels memory)) ≡ memory
+entry_memory : (levels : List Level) (memory : Option Memory) → IfSome memory (IsSoundMemory (length levels))
+    → memory_in 0 (placed_at 0 (entries_of levels memory)) ≡ memory
 entry_memory levels None h = no_memory 0 0 levels
-entry_memory levels (Some memory) h = memory_around 0 0 (take memory.above levels) memory (drop memory.above levels) (omega (arith, length-take memory.above levels, h.above))
+entry_memory levels (Some memory) h =
+    memory_around 0 0 (take memory.above levels) memory (drop memory.above levels) (omega (arith, length-take memory.above levels, h.above))
 
 -- ---- no rule is broken
 
@@ -220,7 +330,8 @@ abbrev NodesOnce : Bool → List Placed → Type 0
 NodesOnce seen [] = Unit {0}
 NodesOnce seen (item ∷ items) = (has_nodes item ≡ true → seen ≡ false) × NodesOnce (seen || has_nodes item) items
 
-levels_later : (before items : List Placed) (item : Placed) → levels_of (before ++ item ∷ []) ++ levels_of items ≡ levels_of before ++ levels_of (item ∷ items)
+levels_later : (before items : List Placed) (item : Placed) → levels_of (before ++ item ∷ []) ++ levels_of items ≡ levels_of before
+    ++ levels_of (item ∷ items)
 levels_later [] items item = only item.part.level
   where
     only : (level : Option Level) → cons_option level [] ++ levels_of items ≡ cons_option level (levels_of items)
@@ -229,12 +340,14 @@ levels_later [] items item = only item.part.level
 levels_later (first ∷ before) items item = one first.part.level (levels_later before items item)
   where
     one : (level : Option Level) → levels_of (before ++ item ∷ []) ++ levels_of items ≡ levels_of before ++ levels_of (item ∷ items)
-        → cons_option level (levels_of (before ++ item ∷ [])) ++ levels_of items ≡ cons_option level (levels_of before) ++ levels_of (item ∷ items)
+        → cons_option level (levels_of (before ++ item ∷ [])) ++ levels_of items ≡ cons_option level (levels_of before)
+        ++ levels_of (item ∷ items)
     one None h = h
     one (Some level) h = ap (λ (ls : List Level). level ∷ ls) h
 
 -- no level before one is of its kind, unless that is Group
-differs_before : (before : List Level) (level : Level) (rest : List Level) → KindsDiffer (before ++ level ∷ rest) → level.kind ≢ Group → AllByRecursion (λ other. other.kind ≢ level.kind) before
+differs_before : (before : List Level) (level : Level) (rest : List Level) → KindsDiffer (before ++ level ∷ rest) → level.kind ≢ Group
+    → AllByRecursion (λ other. other.kind ≢ level.kind) before
 differs_before [] level rest h apart = tt
 differs_before (first ∷ before) level rest h apart = (
   elim h.0 [
@@ -244,26 +357,31 @@ differs_before (first ∷ before) level rest h apart = (
   differs_before before level rest h.1 apart,
 )
   where
-    met : (before : List Level) (level : Level) (rest : List Level) → AllByRecursion (λ other. other.kind ≢ first.kind) (before ++ level ∷ rest) → level.kind ≢ first.kind
+    met : (before : List Level) (level : Level) (rest : List Level)
+        → AllByRecursion (λ other. other.kind ≢ first.kind) (before ++ level ∷ rest) → level.kind ≢ first.kind
     met [] level rest h = h.0
     met (other ∷ before) level rest h = met before level rest h.1
 
-none_of_kind : (kind : Kind) (before : List Placed) → AllByRecursion (λ other. other.kind ≢ kind) (levels_of before) → any_of_kind kind before ≡ false
+none_of_kind : (kind : Kind) (before : List Placed) → AllByRecursion (λ other. other.kind ≢ kind) (levels_of before)
+    → any_of_kind kind before ≡ false
 none_of_kind kind [] h = refl
 none_of_kind kind (item ∷ before) h = one item.part.level h (none_of_kind kind before)
   where
     one : (level : Option Level) → AllByRecursion (λ other. other.kind ≢ kind) (cons_option level (levels_of before))
-        → (AllByRecursion (λ other. other.kind ≢ kind) (levels_of before) → any_of_kind kind before ≡ false) → (has_kind kind level || any_of_kind kind before) ≡ false
+        → (AllByRecursion (λ other. other.kind ≢ kind) (levels_of before) → any_of_kind kind before ≡ false)
+        → (has_kind kind level || any_of_kind kind before) ≡ false
     one None h rest = rest h
     one (Some level) h rest = or_from _ _ (same_kind-false level.kind kind h.0) (rest h.1)
 
-kind_first : (before items : List Placed) (level : Option Level) → KindsDiffer (levels_of before ++ cons_option level (levels_of items)) → is_kind_again before level ≡ false
+kind_first : (before items : List Placed) (level : Option Level) → KindsDiffer (levels_of before ++ cons_option level (levels_of items))
+    → is_kind_again before level ≡ false
 kind_first before items None h = refl
 kind_first before items (Some level) h =
     elim (cases_Bool (same_kind level.kind Group)) [
       | inl group ↦ rw group refl
       | inr other ↦
-          let none = none_of_kind level.kind before (differs_before (levels_of before) level (levels_of items) h (λ g. both_ways _ other (same_kind-equal level.kind Group g))) in
+          let none = none_of_kind level.kind before
+          (differs_before (levels_of before) level (levels_of items) h (λ g. both_ways _ other (same_kind-equal level.kind Group g))) in
           rw (other, none) refl
     ]
 
@@ -275,10 +393,12 @@ or_false : (a : Bool) → (a || false) ≡ a
 or_false true = refl
 or_false false = refl
 
-none_again : (before items : List Placed) → KindsDiffer (levels_of before ++ levels_of items) → NodesOnce (list_any has_nodes before) items → first_again before items ≡ None
+none_again : (before items : List Placed) → KindsDiffer (levels_of before ++ levels_of items) → NodesOnce (list_any has_nodes before) items
+    → first_again before items ≡ None
 none_again before [] h once = refl
 none_again before (item ∷ items) h once =
-    let first : is_again before item ≡ false = or_from _ _ (nodes_first (has_nodes item) (list_any has_nodes before) once.0) (kind_first before items item.part.level h) in
+    let first : is_again before item ≡ false =
+    or_from _ _ (nodes_first (has_nodes item) (list_any has_nodes before) once.0) (kind_first before items item.part.level h) in
     let seen : list_any has_nodes (before ++ item ∷ []) ≡ (list_any has_nodes before || has_nodes item) =
     list_any-append has_nodes before (item ∷ []) ∙ ap (λ b. list_any has_nodes before || b) (or_false (has_nodes item))
     in
@@ -288,7 +408,8 @@ once_levels : (seen : Bool) (at : ℕ) (levels : List Level) → NodesOnce seen 
 once_levels seen at [] = tt
 once_levels seen at (level ∷ levels) = ((λ e. absurd cc), once_levels (seen || false) (at + length (level_text level) + 1) levels)
 
-once_around : (at : ℕ) (above : List Level) (memory : Memory) (below : List Level) → NodesOnce false (placed_at at (map level_entry above ++ memory_entry memory ∷ map level_entry below))
+once_around : (at : ℕ) (above : List Level) (memory : Memory) (below : List Level)
+    → NodesOnce false (placed_at at (map level_entry above ++ memory_entry memory ∷ map level_entry below))
 once_around at [] memory below = ((λ e. refl), once_levels true (at + length (memory_text memory) + 1) below)
 once_around at (level ∷ above) memory below = ((λ e. refl), once_around (at + length (level_text level) + 1) above memory below)
 
@@ -325,11 +446,15 @@ last_levels at [] h = absurd h
 last_levels at (level ∷ []) h = same_kind-equal level.kind Pu h
 last_levels at (level ∷ next ∷ levels) h = last_levels (at + length (level_text level) + 1) (next ∷ levels) h
 
-last_around : (at : ℕ) (above : List Level) (memory : Memory) (below : List Level) → EndsInPus below → LastIsPu (placed_at at (map level_entry above ++ memory_entry memory ∷ map level_entry below))
+last_around : (at : ℕ) (above : List Level) (memory : Memory) (below : List Level) → EndsInPus below
+    → LastIsPu (placed_at at (map level_entry above ++ memory_entry memory ∷ map level_entry below))
 last_around at [] memory below h =
-    last_later (record { at = at; part = (memory_entry memory).part }) (placed_at (at + length (memory_text memory) + 1) (map level_entry below)) (last_levels (at + length (memory_text memory) + 1) below h)
+    last_later (record { at = at; part = (memory_entry memory).part })
+    (placed_at (at + length (memory_text memory) + 1) (map level_entry below))
+    (last_levels (at + length (memory_text memory) + 1) below h)
 last_around at (level ∷ above) memory below h =
-    last_later (record { at = at; part = (level_entry level).part }) (placed_at (at + length (level_text level) + 1) (map level_entry above ++ memory_entry memory ∷ map level_entry below))
+    last_later (record { at = at; part = (level_entry level).part })
+    (placed_at (at + length (level_text level) + 1) (map level_entry above ++ memory_entry memory ∷ map level_entry below))
     (last_around (at + length (level_text level) + 1) above memory below h)
 
 ends_below : (n : ℕ) (levels : List Level) → n < length levels → EndsInPus levels → EndsInPus (drop n levels)
@@ -338,9 +463,11 @@ ends_below (suc n) [] lt h = absurd h
 ends_below (suc n) (level ∷ []) lt h = absurd (omega arith)
 ends_below (suc n) (level ∷ next ∷ levels) lt h = ends_below n (next ∷ levels) (omega arith) h
 
-entry_last : (levels : List Level) (memory : Option Memory) → EndsInPus levels → IfSome memory (IsSoundMemory (length levels)) → LastIsPu (placed_at 0 (entries_of levels memory))
+entry_last : (levels : List Level) (memory : Option Memory) → EndsInPus levels → IfSome memory (IsSoundMemory (length levels))
+    → LastIsPu (placed_at 0 (entries_of levels memory))
 entry_last levels None h k = last_levels 0 levels h
-entry_last levels (Some memory) h k = last_around 0 (take memory.above levels) memory (drop memory.above levels) (ends_below memory.above levels k.above h)
+entry_last levels (Some memory) h k =
+    last_around 0 (take memory.above levels) memory (drop memory.above levels) (ends_below memory.above levels k.above h)
 
 some_levels : (levels : List Level) → EndsInPus levels → length levels ≢ 0
 some_levels [] h e = h
@@ -367,14 +494,16 @@ unbroken described h =
     (refused_none (parts_for described) (rw levels (some_levels described.levels h.ends))
     (none_again [] (parts_for described) (rw levels h.differ) (entry_nodes described.levels described.memory))
     (ends_right (parts_for described) (entry_last described.levels described.memory h.ends h.memory)) (rw levels h.few))
-    (subst (λ (d : Description). is_large d ≡ false) (sym again) (or_from _ _ (le-ltb 4096 (pu_count described) h.pus) (le-ltb 16384 (object_count described) h.objects)))
+    (subst (λ (d : Description). is_large d ≡ false) (sym again)
+    (or_from _ _ (le-ltb 4096 (pu_count described) h.pus) (le-ltb 16384 (object_count described) h.objects)))
 
 pub canonical_describes : (described : Description) → IsSound described → Describes (canonical described) described
 unfolding canonical
 canonical_describes described h =
     let entries = entries_of described.levels described.memory in
     let each = each_entry described.levels described.memory h.levels h.memory in
-    let ends : EndsWith (canonical described) 0 entries = record { front = []; long = refl; parts = ap (join_with_byte 32) (sym (entry_texts_are described.levels described.memory)) } in
+    let ends : EndsWith (canonical described) 0 entries =
+    record { front = []; long = refl; parts = ap (join_with_byte 32) (sym (entry_texts_are described.levels described.memory)) } in
     record {
       items = items_at 0 entries;
       cut = are_items (canonical described) 0 0 entries each (omega arith) (λ k low high. absurd (omega arith)) ends;

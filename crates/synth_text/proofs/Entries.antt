@@ -10,14 +10,18 @@ use Rattle.synth_text.specs.IndexTexts.{entries_of}
 abbrev pub after : {X : Type 0} → List X → Option (List X) → Option (List X)
 after entries rest = option_map (λ others. entries ++ others) rest
 
-after-cons : {X : Type 0} (entries : List X) (entry : X) (rest : Option (List X)) → after entries (option_map (λ others. entry ∷ others) rest) ≡ after (entries ++ entry ∷ []) rest
+after-cons : {X : Type 0} (entries : List X) (entry : X) (rest : Option (List X))
+    → after entries (option_map (λ others. entry ∷ others) rest) ≡ after (entries ++ entry ∷ []) rest
 after-cons entries entry None = refl
 after-cons entries entry (Some others) = ap Some (simp append_assoc)
 
-pub goes_on : {X : Type 0} (says : List ℕ → Option X) (entries : List X) (piece : List ℕ) (entry : X) (rest : List (List ℕ)) (total : Option (List X))
-    → says piece ≡ Some entry → after entries (entries_of says (piece ∷ rest)) ≡ total → after (entries ++ entry ∷ []) (entries_of says rest) ≡ total
+pub goes_on : {X : Type 0} (says : List ℕ → Option X) (entries : List X) (piece : List ℕ) (entry : X) (rest : List (List ℕ))
+    (total : Option (List X))
+    → says piece ≡ Some entry → after entries (entries_of says (piece ∷ rest)) ≡ total
+    → after (entries ++ entry ∷ []) (entries_of says rest) ≡ total
 goes_on says entries piece entry rest total said so_far =
-    let one : after entries (entries_of says (piece ∷ rest)) ≡ after (entries ++ entry ∷ []) (entries_of says rest) = rw said (after-cons entries entry (entries_of says rest)) in
+    let one : after entries (entries_of says (piece ∷ rest)) ≡ after (entries ++ entry ∷ []) (entries_of says rest) =
+    rw said (after-cons entries entry (entries_of says rest)) in
     sym one ∙ so_far
 
 pub ends : {X : Type 0} (says : List ℕ → Option X) (entries : List X) (piece : List ℕ) (rest : List (List ℕ)) (total : Option (List X))

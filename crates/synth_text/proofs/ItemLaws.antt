@@ -1,9 +1,39 @@
 -- Each text is one list of items: there is one, and there are no two.
-use Rattle.std.proofs.Common.{◌≡◌, ◌≢◌, ◌⊎◌, ℕ, zero, suc, ◌+◌, ◌-◌, ◌<◌, ◌≤◌, Bool, true, false, ◌||◌, eqb, List, [], ◌∷◌, length, get_or, refl, sym, ap, subst, ◌∙◌, arith, inl, inr}
+use Rattle.std.proofs.Common.{
+  ◌≡◌,
+  ◌≢◌,
+  ◌⊎◌,
+  ℕ,
+  zero,
+  suc,
+  ◌+◌,
+  ◌-◌,
+  ◌<◌,
+  ◌≤◌,
+  Bool,
+  true,
+  false,
+  ◌||◌,
+  eqb,
+  List,
+  [],
+  ◌∷◌,
+  length,
+  get_or,
+  refl,
+  sym,
+  ap,
+  subst,
+  ◌∙◌,
+  arith,
+  inl,
+  inr,
+}
 use Rattle.std.specs.Bool.{MatchBool}
 use Rattle.std.proofs.lemmas.Bool.{cases_Bool, cases_order, cases_eq, both_ways, or_from}
 use Rattle.synth_text.specs.declared.items.Item.{Item}
-use Rattle.synth_text.specs.Items.{is_white, IsGap, IsInside, EndsLevel, IsLevelItem, IsMemoryItem, IsItem, AreItems}
+use Rattle.byte_text.specs.Classes.{is_white}
+use Rattle.synth_text.specs.Items.{IsGap, IsInside, EndsLevel, IsLevelItem, IsMemoryItem, IsItem, AreItems}
 
 -- ---- no two
 
@@ -19,16 +49,19 @@ same_start text from one other after_one after_other gap_one gap_other ends_one 
       ]
     ]
 
-level_no_longer : (text : List ℕ) (start one other : ℕ) → start < one → other ≤ length text → IsLevelItem text start one → IsLevelItem text start other → one < other → ⊥
+level_no_longer : (text : List ℕ) (start one other : ℕ) → start < one → other ≤ length text → IsLevelItem text start one
+    → IsLevelItem text start other → one < other → ⊥
 level_no_longer text start one other long within h k less =
     elim h.ended [ inl at_end ↦ absurd (omega arith) | inr ends ↦ k.whole one (omega arith) less ends ]
 
-memory_no_longer : (text : List ℕ) (start one other : ℕ) → other ≤ length text → IsMemoryItem text start one → IsMemoryItem text start other → one < other → ⊥
+memory_no_longer : (text : List ℕ) (start one other : ℕ) → other ≤ length text → IsMemoryItem text start one → IsMemoryItem text start other
+    → one < other → ⊥
 memory_no_longer text start one other within h k less =
     elim h.ended [ inl at_end ↦ absurd (omega arith) | inr closed ↦ k.whole (one - 1) (omega arith) (omega arith) closed.1 ]
 
 same_end : (text : List ℕ) (is_memory : Bool) (start one other : ℕ) → start < one → start < other → one ≤ length text → other ≤ length text
-    → MatchBool is_memory (IsMemoryItem text start one) (IsLevelItem text start one) → MatchBool is_memory (IsMemoryItem text start other) (IsLevelItem text start other) → one ≡ other
+    → MatchBool is_memory (IsMemoryItem text start one) (IsLevelItem text start one)
+    → MatchBool is_memory (IsMemoryItem text start other) (IsLevelItem text start other) → one ≡ other
 same_end text true start one other long_one long_other within_one within_other h k =
     elim (cases_order one other) [
       | inl same ↦ same
@@ -51,13 +84,15 @@ made start end is_memory = record { start = start; end = end; is_memory = is_mem
 
 item_is : (one other : Item) → one.start ≡ other.start → one.end ≡ other.end → one.is_memory ≡ other.is_memory → one ≡ other
 item_is one other starts ends kinds =
-    ap (λ (n : ℕ). made n one.end one.is_memory) starts ∙ ap (λ (n : ℕ). made other.start n one.is_memory) ends ∙ ap (λ (b : Bool). made other.start other.end b) kinds
+    ap (λ (n : ℕ). made n one.end one.is_memory) starts ∙ ap (λ (n : ℕ). made other.start n one.is_memory) ends
+    ∙ ap (λ (b : Bool). made other.start other.end b) kinds
 
 same_item : (text : List ℕ) (one other : Item) → one.start ≡ other.start → IsItem text one → IsItem text other → one ≡ other
 same_item text one other starts h k =
     let kinds : one.is_memory ≡ other.is_memory = h.kind ∙ ap (λ (n : ℕ). eqb (get_or text n 0) 91) starts ∙ sym k.kind in
     let body = rw (sym starts, sym kinds) at k.body in
-    item_is one other starts (same_end text one.is_memory one.start one.end other.end h.long (omega (arith, k.long)) h.within k.within h.body body) kinds
+    item_is one other starts (same_end text one.is_memory one.start one.end other.end h.long
+    (omega (arith, k.long)) h.within k.within h.body body) kinds
 
 gap_or_item : (text : List ℕ) (from : ℕ) (item : Item) → from ≤ item.start → IsItem text item → IsGap text from (length text) → ⊥
 gap_or_item text from item after h gap = both_ways _ h.first (gap item.start after (omega (arith, h.long, h.within)))
@@ -97,7 +132,14 @@ gap_end zero text from h =
 gap_end (suc fuel) text from h =
     elim (cases_Bool (is_white (get_or text from 0))) [
       | inl white ↦ more_white text from white (gap_end fuel text (from + 1) (omega arith))
-      | inr other ↦ record { end = from; after = omega arith; within = omega arith; gap = λ k low high. absurd (omega arith); stops = inr other }
+      | inr other ↦ record {
+        end = from;
+        after = omega arith;
+        within = omega arith;
+        gap = λ k low high. absurd (omega arith);
+        stops =
+            inr other;
+      }
     ]
 
 record MemoryEnd (text : List ℕ) (start place : ℕ) : Type 0 where
@@ -106,16 +148,28 @@ record MemoryEnd (text : List ℕ) (start place : ℕ) : Type 0 where
   within : end ≤ length text
   item : IsMemoryItem text start end
 
-memory_end : (fuel : ℕ) (text : List ℕ) (start place : ℕ) → place + fuel ≡ length text → start < place → ((k : ℕ) → start < k → k < place → get_or text k 0 ≢ 93) → MemoryEnd text start place
+memory_end : (fuel : ℕ) (text : List ℕ) (start place : ℕ) → place + fuel ≡ length text → start < place
+    → ((k : ℕ) → start < k → k < place → get_or text k 0 ≢ 93) → MemoryEnd text start place
 memory_end zero text start place h long none =
-    record { end = place; after = omega arith; within = omega arith; item = record { whole = λ k low high. none k low (omega arith); ended = inl (omega arith) } }
+    record {
+      end = place;
+      after = omega arith;
+      within = omega arith;
+      item =
+          record { whole = λ k low high. none k low (omega arith); ended = inl (omega arith) };
+    }
 memory_end (suc fuel) text start place h long none =
     elim (cases_eq (get_or text place 0) 93) [
       | inl closes ↦ record {
         end = place + 1;
         after = omega arith;
         within = omega arith;
-        item = record { whole = λ k low high. none k low (omega arith); ended = inr (omega arith, let e : place + 1 - 1 ≡ place = omega arith in rw e closes) };
+        item =
+            record {
+              whole = λ k low high. none k low (omega arith);
+              ended =
+                  inr (omega arith, let e : place + 1 - 1 ≡ place = omega arith in rw e closes);
+            };
       }
       | inr other ↦
           let m = memory_end fuel text start (place + 1) (omega arith) (omega arith)
@@ -134,8 +188,14 @@ abbrev KnowsInside : List ℕ → ℕ → ℕ → Type 0
 KnowsInside text start place = IsInside text start place ⊎ (IsInside text start place → ⊥)
 
 still_inside : (text : List ℕ) (start place : ℕ) → get_or text place 0 ≢ 41 → IsInside text start place → IsInside text start (place + 1)
-still_inside text start place open_byte h =
-    (h.0, h.1, omega (arith, h.2), h.3, λ k low high. elim (cases_eq k place) [ inl here ↦ rw here open_byte | inr apart ↦ h.4 k low (omega arith) ])
+still_inside text start place open_byte h = (
+  h.0,
+  h.1,
+  omega (arith, h.2),
+  h.3,
+  λ k low high. elim
+      (cases_eq k place) [ inl here ↦ rw here open_byte | inr apart ↦ h.4 k low (omega arith) ],
+)
 
 was_inside : (text : List ℕ) (start place : ℕ) → get_or text place 0 ≢ 40 → IsInside text start (place + 1) → IsInside text start place
 was_inside text start place not_opened h =
@@ -144,7 +204,8 @@ was_inside text start place not_opened h =
       | inr apart ↦ (h.0, h.1, omega (arith, h.2), h.3, λ k low high. h.4 k low (omega arith))
     ]
 
-not_behind_close : (text : List ℕ) (start place : ℕ) → get_or text place 0 ≢ 40 → get_or text place 0 ≡ 41 → IsInside text start (place + 1) → ⊥
+not_behind_close : (text : List ℕ) (start place : ℕ) → get_or text place 0 ≢ 40 → get_or text place 0 ≡ 41 → IsInside text start (place + 1)
+    → ⊥
 not_behind_close text start place no_open closes h =
     elim (cases_eq h.0 place) [
       | inl here ↦ no_open (ap (λ (n : ℕ). get_or text n 0) (sym here) ∙ h.3)
@@ -173,11 +234,13 @@ level_end (suc fuel) text start place h begun known none =
       | inl ends ↦ record { end = place; after = omega arith; within = omega arith; item = record { whole = none; ended = inr ends } }
       | inr goes_on ↦
           let l = level_end fuel text start (place + 1) (omega arith) (omega arith) (knows_next text start place begun known)
-          (λ k low high e. elim (cases_eq k place) [ inl here ↦ goes_on (subst (EndsLevel text start) here e) | inr apart ↦ none k low (omega arith) e ])
+          (λ k low high e. elim (cases_eq k place)
+          [ inl here ↦ goes_on (subst (EndsLevel text start) here e) | inr apart ↦ none k low (omega arith) e ])
           in record { end = l.end; after = omega (arith, l.after); within = l.within; item = l.item }
     ]
   where
-    cases_end : (text : List ℕ) (start place : ℕ) → KnowsInside text start place → EndsLevel text start place ⊎ (EndsLevel text start place → ⊥)
+    cases_end : (text : List ℕ) (start place : ℕ) → KnowsInside text start place → EndsLevel text start place
+        ⊎ (EndsLevel text start place → ⊥)
     cases_end text start place known =
         elim known [
           | inl inside ↦ inr (λ e. e.outside inside)
@@ -197,7 +260,8 @@ item_at : (text : List ℕ) (start : ℕ) → start < length text → is_white (
 item_at text start lt first =
     elim (cases_Bool (eqb (get_or text start 0) 91)) [
       | inl memory ↦
-          let m = memory_end (length text - (start + 1)) text start (start + 1) (omega arith) (omega arith) (λ k low high. absurd (omega arith)) in
+          let m = memory_end (length text - (start + 1)) text start (start + 1) (omega arith) (omega arith)
+          (λ k low high. absurd (omega arith)) in
           record {
             item = made start m.end true;
             begins = refl;
@@ -206,7 +270,8 @@ item_at text start lt first =
       | inr level ↦
           let outside : IsInside text start start → ⊥ = λ h. omega (arith, h.1, h.2) in
           let not_end : EndsLevel text start start → ⊥ = λ e. both_ways _ (or_none (is_white (get_or text start 0)) _ first level) e.byte in
-          let l = level_end (length text - (start + 1)) text start (start + 1) (omega arith) (omega arith) (knows_next text start start (omega arith) (inr outside))
+          let l = level_end (length text - (start + 1)) text start (start + 1) (omega arith) (omega arith)
+          (knows_next text start start (omega arith) (inr outside))
           (λ k low high e. let here : k ≡ start = omega arith in not_end (subst (EndsLevel text start) here e))
           in
           record {

@@ -1,5 +1,3 @@
-pub mod Numerals
-pub mod CutLaws
 pub mod Entries
 pub mod AttributeFold
 pub mod AttributeLaws
@@ -16,4 +14,3 @@ pub mod Texts
 pub mod CanonicalReading
 pub mod CanonicalItems
 pub mod CanonicalRules
-pub mod Refusals

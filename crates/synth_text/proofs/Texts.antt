@@ -1,12 +1,37 @@
 -- Bytes of canonical texts.
-use Rattle.std.proofs.Common.{◌≡◌, ◌≢◌, ℕ, zero, suc, ◌^◌, ◌<◌, ◌≤◌, Bool, true, false, ◌&&◌, leb, eqb, List, [], ◌∷◌, ◌++◌, length, get_or, refl, ap, ◌∙◌, arith}
+use Rattle.std.proofs.Common.{
+  ◌≡◌,
+  ◌≢◌,
+  ℕ,
+  zero,
+  suc,
+  ◌^◌,
+  ◌<◌,
+  ◌≤◌,
+  Bool,
+  true,
+  false,
+  ◌&&◌,
+  leb,
+  eqb,
+  List,
+  [],
+  ◌∷◌,
+  ◌++◌,
+  length,
+  get_or,
+  refl,
+  ap,
+  ◌∙◌,
+  arith,
+}
 use Rattle.std.specs.Prelude.{not, decimal}
 use Rattle.std.specs.Str.Parse.{AllDigits}
 use Rattle.std.specs.List.{AllByRecursion, list_all, join_with_byte, slice_split}
 use Rattle.std.proofs.lemmas.Bool.{and_parts, leb-true, eqb-false, ne_eqb, not-true, or_from}
 use Rattle.std.proofs.lemmas.Fmt.{decimal_is_IsNumeral}
 use Rattle.std.proofs.lemmas.Str.Parse.{digit_from_value}
-use Rattle.synth_text.specs.Items.{is_white}
+use Rattle.byte_text.specs.Classes.{is_white}
 
 -- ---- bytes of one kind
 
@@ -48,7 +73,8 @@ solid_test (x ∷ xs) h =
 
 pub solid_not_white : (b : ℕ) → IsSolid b → is_white b ≡ false
 solid_not_white b h =
-    or_from _ _ (or_from _ _ (or_from _ _ (ne_eqb b 32 (λ e. absurd (omega (arith, h.0)))) (ne_eqb b 9 (λ e. absurd (omega (arith, h.0))))) (ne_eqb b 13 (λ e. absurd (omega (arith, h.0))))) (ne_eqb b 10 (λ e. absurd (omega (arith, h.0))))
+    or_from _ _ (or_from _ _ (or_from _ _ (ne_eqb b 32 (λ e. absurd (omega (arith, h.0)))) (ne_eqb b 9 (λ e. absurd (omega (arith, h.0)))))
+    (ne_eqb b 13 (λ e. absurd (omega (arith, h.0))))) (ne_eqb b 10 (λ e. absurd (omega (arith, h.0))))
 
 pub solid_is_inner : (b : ℕ) → IsSolid b → IsInner b
 solid_is_inner b h = (λ e. absurd (omega (arith, h.0)), h.2)
@@ -67,7 +93,8 @@ pub decimal_some : (n : ℕ) → n < 2 ^ 64 → 0 < length (decimal n)
 decimal_some n small = (decimal_is_IsNumeral n small).0.0
 
 -- no byte of a text is this one
-pub lacks : (P : ℕ → Type 0) (byte : ℕ) → ((b : ℕ) → P b → b ≢ byte) → (xs : List ℕ) → AllByRecursion P xs → (k : ℕ) → k < length xs → eqb (get_or xs k 0) byte ≡ false
+pub lacks : (P : ℕ → Type 0) (byte : ℕ) → ((b : ℕ) → P b → b ≢ byte) → (xs : List ℕ) → AllByRecursion P xs → (k : ℕ) → k < length xs
+    → eqb (get_or xs k 0) byte ≡ false
 lacks P byte apart xs h k lt = ne_eqb (get_or xs k 0) byte (apart (get_or xs k 0) (each_at P xs h k lt))
 
 -- ---- texts with a byte between them
@@ -80,19 +107,24 @@ split_alone : (test : ℕ → Bool) (text : List ℕ) → Lacks test text → sl
 split_alone test [] h = refl
 split_alone test (b ∷ bs) h = rw (h.0, split_alone test bs h.1) refl
 
-split_front : (test : ℕ → Bool) (text : List ℕ) (byte : ℕ) (rest : List ℕ) → Lacks test text → test byte ≡ true → slice_split test (text ++ byte ∷ rest) ≡ text ∷ slice_split test rest
+split_front : (test : ℕ → Bool) (text : List ℕ) (byte : ℕ) (rest : List ℕ) → Lacks test text → test byte ≡ true
+    → slice_split test (text ++ byte ∷ rest) ≡ text ∷ slice_split test rest
 split_front test [] byte rest h here = rw here refl
 split_front test (b ∷ bs) byte rest h here = rw (h.0, split_front test bs byte rest h.1 here) refl
 
 -- the pieces of joined texts are these texts
-pub split_joined : (test : ℕ → Bool) (byte : ℕ) (first : List ℕ) (texts : List (List ℕ)) → test byte ≡ true → AllByRecursion (Lacks test) (first ∷ texts)
+pub split_joined : (test : ℕ → Bool) (byte : ℕ) (first : List ℕ) (texts : List (List ℕ)) → test byte ≡ true
+    → AllByRecursion (Lacks test) (first ∷ texts)
     → slice_split test (join_with_byte byte (first ∷ texts)) ≡ first ∷ texts
 split_joined test byte first [] here h = split_alone test first h.0
 split_joined test byte first (second ∷ texts) here h =
-    split_front test first byte (join_with_byte byte (second ∷ texts)) h.0 here ∙ ap (λ (pieces : List (List ℕ)). first ∷ pieces) (split_joined test byte second texts here h.1)
+    split_front test first byte (join_with_byte byte (second ∷ texts)) h.0 here
+    ∙ ap (λ (pieces : List (List ℕ)). first ∷ pieces) (split_joined test byte second texts here h.1)
 
 -- what each text keeps, the joined texts keep where the byte between does
-pub each_joined : (P : ℕ → Type 0) (byte : ℕ) (texts : List (List ℕ)) → P byte → AllByRecursion (AllByRecursion P) texts → AllByRecursion P (join_with_byte byte texts)
+pub each_joined : (P : ℕ → Type 0) (byte : ℕ) (texts : List (List ℕ)) → P byte → AllByRecursion (AllByRecursion P) texts
+    → AllByRecursion P (join_with_byte byte texts)
 each_joined P byte [] here h = tt
 each_joined P byte (text ∷ []) here h = h.0
-each_joined P byte (text ∷ next ∷ texts) here h = each_append P text (byte ∷ join_with_byte byte (next ∷ texts)) h.0 (here, each_joined P byte (next ∷ texts) here h.1)
+each_joined P byte (text ∷ next ∷ texts) here h =
+    each_append P text (byte ∷ join_with_byte byte (next ∷ texts)) h.0 (here, each_joined P byte (next ∷ texts) here h.1)

@@ -8,7 +8,7 @@ use Rattle.synth_text.specs.declared.attributes.Key.{Key}
 use Rattle.synth_text.specs.declared.attributes.Key.TheVariants as keys
 use Rattle.synth_text.specs.declared.fault.Flaw.{Flaw}
 use Rattle.synth_text.specs.declared.fault.Flaw.TheVariants as flaws
-use Rattle.synth_text.specs.Cuts.{cut}
+use Rattle.byte_text.specs.Cuts.{cut}
 use Rattle.synth_text.specs.Flaws.{◌>>=◌, or_flaw}
 use Rattle.synth_text.specs.Sizes.{size_of}
 use Rattle.synth_text.specs.IndexTexts.{indexes_of}

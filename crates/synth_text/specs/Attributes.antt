@@ -1,5 +1,27 @@
 -- Attributes of an item: `key=value` words in parentheses, with white space between them.
-use Rattle.std.specs.Prelude.{ℕ, Bool, true, false, ◌&&◌, not, ◌==◌, List, [], ◌∷◌, ◌++◌, codes, Option, Some, None, option_map, Result, Ok, Err, is_some, if◌then◌else◌}
+use Rattle.std.specs.Prelude.{
+  ℕ,
+  Bool,
+  true,
+  false,
+  ◌&&◌,
+  not,
+  ◌==◌,
+  List,
+  [],
+  ◌∷◌,
+  ◌++◌,
+  codes,
+  Option,
+  Some,
+  None,
+  option_map,
+  Result,
+  Ok,
+  Err,
+  is_some,
+  if◌then◌else◌,
+}
 use Rattle.std.specs.Option.{option_and_then, option_or}
 use Rattle.std.specs.List.{list_all, slice_split}
 use Rattle.std.specs.Str.{bytes_eq}
@@ -13,8 +35,8 @@ use Rattle.synth_text.specs.declared.attributes.Key.TheVariants as keys
 use Rattle.synth_text.specs.declared.fault.Flaw.{Flaw}
 use Rattle.synth_text.specs.declared.fault.Flaw.TheVariants as flaws
 use Rattle.synth_text.specs.Kinds.{is_cache}
-use Rattle.synth_text.specs.Items.{is_white}
-use Rattle.synth_text.specs.Cuts.{cut}
+use Rattle.byte_text.specs.Classes.{is_white}
+use Rattle.byte_text.specs.Cuts.{cut}
 use Rattle.synth_text.specs.Flaws.{◌>>=◌}
 use Rattle.synth_text.specs.Sizes.{size_of}
 use Rattle.synth_text.specs.IndexTexts.{indexes_of}
@@ -106,7 +128,8 @@ flaw_in_value keys.Indexes value = flaw_unless flaws.Indexes (indexes_of value)
 -- A word is `key=value` with a key that the kind takes and that no word before it has; then its value can be wrong.
 abbrev pub flaw_in_word : Kind → List (List ℕ) → Option (Key × List ℕ) → Option Flaw
 flaw_in_word kind before None = Some flaws.Attribute
-flaw_in_word kind before (Some entry) = if takes kind entry.0 && not (is_some (value_of entry.0 before)) then flaw_in_value entry.0 entry.1 else Some flaws.Attribute
+flaw_in_word kind before (Some entry) =
+    if takes kind entry.0 && not (is_some (value_of entry.0 before)) then flaw_in_value entry.0 entry.1 else Some flaws.Attribute
 
 -- the flaw of the first wrong word behind others
 abbrev pub first_flaw : Kind → List (List ℕ) → List (List ℕ) → Option Flaw
@@ -119,7 +142,8 @@ unless_flawed (Some flaw) attributes = Err flaw
 
 -- what stands in parentheses: the attributes that its words give, or the flaw of the first wrong word
 unfoldable pub attributes_in : Kind → List ℕ → Result Attributes Flaw
-attributes_in kind text = unless_flawed (first_flaw kind [] (words_of (slice_split is_white text))) (said_by (words_of (slice_split is_white text)))
+attributes_in kind text =
+    unless_flawed (first_flaw kind [] (words_of (slice_split is_white text))) (said_by (words_of (slice_split is_white text)))
 
 -- ---- the parentheses
 

@@ -46,16 +46,20 @@ in_parentheses (first ∷ others) = (40 ∷ join_with_byte 32 (first ∷ others)
 
 -- a level: its long name, `:`, its arity, and the attributes that are given
 abbrev pub level_text : Level → List ℕ
-level_text level = (long_name_of level.kind ++ 58 ∷ decimal level.arity) ++ in_parentheses (size_texts (codes "size") level.size ++ indexes_texts level.indexes)
+level_text level =
+    (long_name_of level.kind ++ 58 ∷ decimal level.arity)
+    ++ in_parentheses (size_texts (codes "size") level.size ++ indexes_texts level.indexes)
 
 -- the memory, in brackets
 abbrev pub memory_text : Memory → List ℕ
-memory_text memory = (codes "[NUMANode" ++ in_parentheses (size_texts (codes "memory") memory.size ++ indexes_texts memory.indexes)) ++ 93 ∷ []
+memory_text memory =
+    (codes "[NUMANode" ++ in_parentheses (size_texts (codes "memory") memory.size ++ indexes_texts memory.indexes)) ++ 93 ∷ []
 
 -- the items: the levels, and the memory directly behind the level that carries it
 abbrev pub item_texts : List Level → Option Memory → List (List ℕ)
 item_texts levels None = map level_text levels
-item_texts levels (Some memory) = map level_text (take memory.above levels) ++ memory_text memory ∷ map level_text (drop memory.above levels)
+item_texts levels (Some memory) =
+    map level_text (take memory.above levels) ++ memory_text memory ∷ map level_text (drop memory.above levels)
 
 -- the items with one space between them
 unfoldable pub canonical : Description → List ℕ

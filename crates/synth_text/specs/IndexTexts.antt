@@ -5,7 +5,7 @@ use Rattle.std.specs.List.{list_any, slice_split}
 use Rattle.synth_text.specs.declared.description.Loop.{Loop}
 use Rattle.synth_text.specs.declared.description.Indexes.{Indexes}
 use Rattle.synth_text.specs.declared.description.Indexes.TheVariants as indexes
-use Rattle.synth_text.specs.Cuts.{cut}
+use Rattle.byte_text.specs.Cuts.{cut}
 use Rattle.byte_text.specs.Numerals.{number_in}
 
 -- one number of a list
@@ -24,7 +24,8 @@ loop_of piece =
 -- what each piece says, where each says something
 abbrev pub entries_of : {X : Type 0} → (List ℕ → Option X) → List (List ℕ) → Option (List X)
 entries_of reading [] = Some []
-entries_of reading (piece ∷ rest) = option_and_then (λ entry. option_map (λ entries. entry ∷ entries) (entries_of reading rest)) (reading piece)
+entries_of reading (piece ∷ rest) =
+    option_and_then (λ entry. option_map (λ entries. entry ∷ entries) (entries_of reading rest)) (reading piece)
 
 -- what a value says; one with a `*` is of loops
 unfoldable pub indexes_of : List ℕ → Option Indexes

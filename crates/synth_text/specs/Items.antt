@@ -1,11 +1,29 @@
 -- How a text is cut into items. All places are offsets in the whole text.
-use Rattle.std.specs.Prelude.{◌≡◌, ◌≢◌, ◌⊎◌, ℕ, ◌+◌, ◌-◌, ◌<◌, ◌≤◌, Bool, true, false, ◌||◌, ◌==◌, List, [], ◌∷◌, length, take, drop, slice_index}
+use Rattle.std.specs.Prelude.{
+  ◌≡◌,
+  ◌≢◌,
+  ◌⊎◌,
+  ℕ,
+  ◌+◌,
+  ◌-◌,
+  ◌<◌,
+  ◌≤◌,
+  Bool,
+  true,
+  false,
+  ◌||◌,
+  ◌==◌,
+  List,
+  [],
+  ◌∷◌,
+  length,
+  take,
+  drop,
+  slice_index,
+}
 use Rattle.std.specs.Bool.{MatchBool}
+use Rattle.byte_text.specs.Classes.{is_white}
 use Rattle.synth_text.specs.declared.items.Item.{Item}
-
--- space, tab, carriage return and line feed
-abbrev pub is_white : ℕ → Bool
-is_white byte = byte == 32 || byte == 9 || byte == 13 || byte == 10
 
 -- From one place up to another there is white space alone.
 abbrev pub IsGap : List ℕ → ℕ → ℕ → Type 0
@@ -14,7 +32,8 @@ IsGap text from to = (k : ℕ) → from ≤ k → k < to → is_white (slice_ind
 -- A place is inside parentheses where a `(` stands before it, not before the item's start, and no `)` between them.
 abbrev pub IsInside : List ℕ → ℕ → ℕ → Type 0
 IsInside text start place =
-    (opened : ℕ) × (start ≤ opened) × (opened < place) × (slice_index text opened ≡ 40) × ((k : ℕ) → opened < k → k < place → slice_index text k ≢ 41)
+    (opened : ℕ) × (start ≤ opened) × (opened < place) × (slice_index text opened ≡ 40)
+    × ((k : ℕ) → opened < k → k < place → slice_index text k ≢ 41)
 
 -- A level item ends at white space or `[` outside parentheses.
 pub record EndsLevel (text : List ℕ) (start place : ℕ) : Type 0 where

@@ -1,10 +1,8 @@
+pub mod Limits
 pub mod Kinds
 pub mod Names
 pub mod Tables
 pub mod Items
-pub mod Views
-pub mod Cuts
-pub mod Classes
 pub mod Flaws
 pub mod Sizes
 pub mod IndexTexts
@@ -16,4 +14,4 @@ pub mod Descriptions
 pub mod Sound
 pub mod Canonical
 pub mod Laws
-pub mod Outcomes
+pub mod Faults

@@ -11,9 +11,12 @@ use Rattle.synth_text.specs.Tables.{entry_of}
 -- the names, in lower case
 abbrev pub kind_names : List (List ℕ × Kind)
 kind_names =
-    (codes "machine", Machine) ∷ (codes "package", Package) ∷ (codes "pack", Package) ∷ (codes "socket", Package) ∷ (codes "die", Die) ∷ (codes "group", Group)
-    ∷ (codes "l5", L5) ∷ (codes "l5cache", L5) ∷ (codes "l4", L4) ∷ (codes "l4cache", L4) ∷ (codes "l3", L3) ∷ (codes "l3cache", L3) ∷ (codes "l2", L2) ∷ (codes "l2cache", L2)
-    ∷ (codes "l1", L1d) ∷ (codes "l1cache", L1d) ∷ (codes "l1d", L1d) ∷ (codes "l1dcache", L1d) ∷ (codes "l1i", L1i) ∷ (codes "l1icache", L1i)
+    (codes "machine", Machine) ∷ (codes "package", Package) ∷ (codes "pack", Package) ∷ (codes "socket", Package) ∷ (codes "die", Die)
+    ∷ (codes "group", Group)
+    ∷ (codes "l5", L5) ∷ (codes "l5cache", L5) ∷ (codes "l4", L4) ∷ (codes "l4cache", L4) ∷ (codes "l3", L3) ∷ (codes "l3cache", L3)
+    ∷ (codes "l2", L2) ∷ (codes "l2cache", L2)
+    ∷ (codes "l1", L1d) ∷ (codes "l1cache", L1d) ∷ (codes "l1d", L1d) ∷ (codes "l1dcache", L1d) ∷ (codes "l1i", L1i)
+    ∷ (codes "l1icache", L1i)
     ∷ (codes "core", Core) ∷ (codes "pu", Pu) ∷ (codes "numanode", NumaNode) ∷ (codes "numa", NumaNode) ∷ (codes "node", NumaNode) ∷ []
 
 -- the kind that a word names without a number

@@ -11,10 +11,10 @@ use Rattle.synth_text.specs.declared.attributes.Attributes.{Attributes}
 use Rattle.synth_text.specs.declared.parts.Part.{Part}
 use Rattle.synth_text.specs.declared.fault.Flaw.{Flaw}
 use Rattle.synth_text.specs.declared.fault.Flaw.TheVariants as flaws
-use Rattle.synth_text.specs.Items.{is_white}
+use Rattle.byte_text.specs.Classes.{is_white}
 use Rattle.synth_text.specs.Names.{name_of}
 use Rattle.byte_text.specs.Numerals.{number_in}
-use Rattle.synth_text.specs.Cuts.{first_piece, without_front}
+use Rattle.byte_text.specs.Cuts.{first_piece, without_front}
 use Rattle.synth_text.specs.Flaws.{◌>>=◌, or_flaw}
 use Rattle.synth_text.specs.Attributes.{attributes_of}
 
@@ -98,7 +98,8 @@ named_memory name behind = do
 -- what stands in brackets: white space, a name as far as letters and digits go, and attributes
 unfoldable pub memory_in_brackets : List ℕ → Result Part Flaw
 memory_in_brackets text =
-    named_memory (take_while is_ascii_alphanumeric (without_front is_white text)) (without_front is_ascii_alphanumeric (without_front is_white text))
+    named_memory (take_while is_ascii_alphanumeric (without_front is_white text))
+    (without_front is_ascii_alphanumeric (without_front is_white text))
 
 -- what stands behind a `[`, up to the first `]`
 abbrev pub cut_memory : List ℕ × Option (List ℕ) → Result Part Flaw

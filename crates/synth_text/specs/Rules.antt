@@ -1,15 +1,43 @@
 -- The rules on all items of a text together, and what the items describe.
-use Rattle.std.specs.Prelude.{ℕ, ◌+◌, ◌*◌, Bool, false, ◌&&◌, ◌||◌, not, ◌==◌, nat_lt, List, [], ◌∷◌, ◌++◌, length, take, map, Option, Some, None, option_map, is_some, Result, Ok, Err, if◌then◌else◌}
+use Rattle.std.specs.Prelude.{
+  ℕ,
+  ◌+◌,
+  ◌*◌,
+  Bool,
+  false,
+  ◌&&◌,
+  ◌||◌,
+  not,
+  ◌==◌,
+  nat_lt,
+  List,
+  [],
+  ◌∷◌,
+  ◌++◌,
+  length,
+  take,
+  map,
+  Option,
+  Some,
+  None,
+  option_map,
+  is_some,
+  Result,
+  Ok,
+  Err,
+  if◌then◌else◌,
+}
 use Rattle.std.specs.List.{list_any, filter_map}
 use Rattle.synth_text.specs.declared.kind.Kind.{Kind}
 use Rattle.synth_text.specs.declared.kind.Kind.TheVariants.{Group, Pu}
 use Rattle.synth_text.specs.declared.description.Level.{Level}
 use Rattle.synth_text.specs.declared.description.Memory.{Memory}
 use Rattle.synth_text.specs.declared.description.Description.{Description}
-use Rattle.synth_text.specs.declared.fault.SynthFault.{SynthFault}
-use Rattle.synth_text.specs.declared.fault.SynthFault.TheVariants as faults
+use Rattle.synth_text.specs.declared.fault.SynthRule.{SynthRule}
+use Rattle.synth_text.specs.declared.fault.SynthRule.TheVariants as rules
 use Rattle.synth_text.specs.declared.parts.Nodes.{Nodes}
 use Rattle.synth_text.specs.declared.parts.Placed.{Placed}
+use Rattle.synth_text.specs.Limits.{level_limit, pu_limit, object_limit}
 use Rattle.synth_text.specs.Kinds.{same_kind}
 
 -- ---- what the items describe
@@ -38,7 +66,8 @@ memory_at above (Some nodes) others = Some (record { above = above; size = nodes
 -- the memory of the first item that has one, where so many levels stand before these items
 abbrev pub memory_in : ℕ → List Placed → Option Memory
 memory_in before [] = None
-memory_in before (item ∷ items) = memory_at (before + level_count item.part.level) item.part.nodes (memory_in (before + level_count item.part.level) items)
+memory_in before (item ∷ items) =
+    memory_at (before + level_count item.part.level) item.part.nodes (memory_in (before + level_count item.part.level) items)
 
 abbrev pub description_of : List Placed → Description
 description_of parts = record { levels = levels_of parts; memory = memory_in 0 parts }
@@ -107,39 +136,39 @@ wrong_end [] = None
 wrong_end (last ∷ []) = if has_kind Pu last.part.level then None else Some last.at
 wrong_end (last ∷ behind ∷ others) = if has_kind Pu last.part.level then Some behind.at else Some last.at
 
--- a fault where a test says so
-abbrev pub when : Bool → SynthFault → Option SynthFault
-when test fault = if test then Some fault else None
+-- a rule is broken where a test says so
+abbrev pub when : Bool → SynthRule → Option SynthRule
+when test rule = if test then Some rule else None
 
-abbrev pub first_of : List (Option SynthFault) → Option SynthFault
+abbrev pub first_of : List (Option SynthRule) → Option SynthRule
 first_of [] = None
-first_of (None ∷ rules) = first_of rules
-first_of (Some fault ∷ rules) = Some fault
+first_of (None ∷ others) = first_of others
+first_of (Some rule ∷ others) = Some rule
 
 -- too many PUs or objects
 abbrev pub is_large : Description → Bool
-is_large described = nat_lt 4096 (pu_count described) || nat_lt 16384 (object_count described)
+is_large described = nat_lt pu_limit (pu_count described) || nat_lt object_limit (object_count described)
 
 -- the first broken rule on the items themselves
-unfoldable pub broken_items : List Placed → Option SynthFault
+unfoldable pub broken_items : List Placed → Option SynthRule
 broken_items parts =
     first_of
-    (when (length (levels_of parts) == 0) faults.Empty
-    ∷ option_map (λ at. faults.RepeatedType at) (first_again [] parts)
-    ∷ option_map (λ at. faults.LastNotPu at) (wrong_end (from_last parts))
-    ∷ when (nat_lt 16 (length (levels_of parts))) faults.TooManyLevels
+    (when (length (levels_of parts) == 0) rules.Empty
+    ∷ option_map (λ at. rules.RepeatedType at) (first_again [] parts)
+    ∷ option_map (λ at. rules.LastNotPu at) (wrong_end (from_last parts))
+    ∷ when (nat_lt level_limit (length (levels_of parts))) rules.TooManyLevels
     ∷ [])
 
 -- the first broken rule: those on the items go before the one on what they describe
-unfoldable pub broken : List Placed → Option SynthFault
-broken parts = first_of (broken_items parts ∷ when (is_large (description_of parts)) faults.TooManyObjects ∷ [])
+unfoldable pub broken : List Placed → Option SynthRule
+broken parts = first_of (broken_items parts ∷ when (is_large (description_of parts)) rules.TooManyObjects ∷ [])
 
--- the fault of a check, if it found one
-abbrev pub fault_of : {A : Type 0} → Result A SynthFault → Option SynthFault
-fault_of (Ok nothing) = None
-fault_of (Err fault) = Some fault
+-- the rule that a check found broken, if it found one
+abbrev pub found_by : {A : Type 0} → Result A SynthRule → Option SynthRule
+found_by (Ok nothing) = None
+found_by (Err rule) = Some rule
 
 -- the description, where no rule is broken
-abbrev pub unless_broken : Option SynthFault → Description → Result Description SynthFault
+abbrev pub unless_broken : Option SynthRule → Description → Result Description SynthRule
 unless_broken None described = Ok described
-unless_broken (Some fault) described = Err fault
+unless_broken (Some rule) described = Err rule

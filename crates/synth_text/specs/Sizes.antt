@@ -3,7 +3,7 @@ use Rattle.std.specs.Prelude.{ℕ, ◌*◌, ◌-◌, ◌^◌, List, [], ◌∷�
 use Rattle.std.specs.Option.{option_and_then}
 use Rattle.std.specs.List.{take_while}
 use Rattle.std.specs.Char.{is_ascii_digit}
-use Rattle.synth_text.specs.Cuts.{without_front}
+use Rattle.byte_text.specs.Cuts.{without_front}
 use Rattle.byte_text.specs.Numerals.{number_in}
 use Rattle.synth_text.specs.Tables.{entry_of}
 

@@ -9,6 +9,7 @@ use Rattle.synth_text.specs.declared.description.Level.{Level}
 use Rattle.synth_text.specs.declared.description.Memory.{Memory}
 use Rattle.synth_text.specs.declared.description.Description.{Description}
 use Rattle.synth_text.specs.Kinds.{is_cache}
+use Rattle.synth_text.specs.Limits.{level_limit, pu_limit, object_limit}
 use Rattle.synth_text.specs.Rules.{pu_count, object_count}
 
 -- a loop that a text can write
@@ -49,10 +50,10 @@ pub record IsSoundMemory (levels : ℕ) (memory : Memory) : Type 0 where
   pub given : AreSoundIndexes memory.indexes
 
 pub record IsSound (described : Description) : Type 0 where
-  pub few : length described.levels ≤ 16
+  pub few : length described.levels ≤ level_limit
   pub levels : AllByRecursion IsSoundLevel described.levels
   pub differ : KindsDiffer described.levels
   pub ends : EndsInPus described.levels
   pub memory : IfSome described.memory (IsSoundMemory (length described.levels))
-  pub pus : pu_count described ≤ 4096
-  pub objects : object_count described ≤ 16384
+  pub pus : pu_count described ≤ pu_limit
+  pub objects : object_count described ≤ object_limit

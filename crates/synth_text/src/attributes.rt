@@ -1,17 +1,17 @@
 // Attributes of an item.
 ghost use Rattle.std.specs.Prelude.{◌≡◌, ◌==◌, Result};
 ghost use Rattle.synth_text.specs.declared.fault.Flaw.TheVariants as flaws;
-ghost use Rattle.synth_text.specs.Flaws.{Gives, GivesAs};
+ghost use Rattle.synth_text.specs.Flaws.{Gives, seen};
 ghost use Rattle.synth_text.specs.Attributes.{key_of, takes, no_attributes, attributes_in, enclosed, attributes_of};
 ghost use Rattle.synth_text.specs.AttributeSteps.{has, with_value, with_word, with_next};
-ghost use Rattle.synth_text.specs.Views.{text_at};
+ghost use Rattle.byte_text.specs.Views.{text_at};
 
-use crate::cuts::{cut_at, first_word, is_blank};
 use crate::description::Indexes;
-use crate::fault::Flaw;
+use crate::fault::{Flaw, Unread};
 use crate::index_text::read_indexes;
 use crate::kind::Kind;
 use crate::size::read_size;
+use byte_text::{Class, are_all, cut, first_piece};
 use std::alloc::Global;
 
 /// The attributes of an item, as far as they are given.
@@ -37,7 +37,11 @@ pub enum Key {
 }
 
 /// Reads the attributes of a kind's item behind their `(`; none where there are no parentheses.
-pub fn read_attributes(alloc: Global, kind: Kind, text: Option<&[u8]>) -> Result<Attributes, Flaw>
+pub fn read_attributes(
+    alloc: Global,
+    kind: Kind,
+    text: Option<&[u8]>,
+) -> Result<Attributes, Unread<Flaw>>
     ensures { Gives result (attributes_of kind (text_at text.entry)) }
 {
     match text {
@@ -49,22 +53,22 @@ pub fn read_attributes(alloc: Global, kind: Kind, text: Option<&[u8]>) -> Result
 // What stands up to the first `)`, which has at most white space behind it.
 #[tactic(auto, unfolding(crate::specs::Attributes::enclosed))]
 fn enclosed(text: &[u8]) -> Result<&[u8], Flaw>
-    ensures { GivesAs (λ inner. inner.now) result (enclosed text.now) }
+    ensures { seen (λ inner. inner.now) result ≡ enclosed text.now }
 {
-    match cut_at(text, b')') {
-        Some((inner, behind)) if is_blank(behind) => Ok(inner),
+    match cut(text, Class::Byte(b')')) {
+        Some((inner, behind)) if are_all(behind, Class::White) => Ok(inner),
         _ => Err(Flaw::Attribute),
     }
 }
 
 // The attributes that stand in parentheses.
-fn read_words(alloc: Global, kind: Kind, text: &[u8]) -> Result<Attributes, Flaw>
+fn read_words(alloc: Global, kind: Kind, text: &[u8]) -> Result<Attributes, Unread<Flaw>>
     ensures { Gives result (attributes_in kind text.now) }
 {
-    let (word, mut rest) = first_word(text);
+    let (word, mut rest) = first_piece(text, Class::White);
     let mut attributes = with_word(alloc, kind, Attributes::none(), word)?;
     while let Some(text) = rest {
-        let (word, behind) = first_word(text);
+        let (word, behind) = first_piece(text, Class::White);
         rest = behind;
         attributes = with_next(alloc, kind, attributes, word, behind.is_some())?;
     }
@@ -79,7 +83,7 @@ fn with_next(
     attributes: Attributes,
     word: &[u8],
     is_more: bool,
-) -> Result<Attributes, Flaw>
+) -> Result<Attributes, Unread<Flaw>>
     ensures { Gives result (with_next kind attributes word.now is_more) }
 {
     if word.is_empty() && is_more {
@@ -95,15 +99,15 @@ fn with_word(
     kind: Kind,
     attributes: Attributes,
     word: &[u8],
-) -> Result<Attributes, Flaw>
+) -> Result<Attributes, Unread<Flaw>>
     ensures { Gives result (with_word kind attributes word.now) }
 {
-    let (key, value) = cut_at(word, b'=').ok_or(Flaw::Attribute)?;
+    let (key, value) = cut(word, Class::Byte(b'=')).ok_or(Flaw::Attribute)?;
     let key = read_key(key).ok_or(Flaw::Attribute)?;
     if takes(kind, key) && !attributes.has(key) {
         attributes.with_value(alloc, key, value)
     } else {
-        Err(Flaw::Attribute)
+        Err(Unread::Fault(Flaw::Attribute))
     }
 }
 
@@ -158,7 +162,12 @@ impl Attributes {
     }
 
     // The attributes with the value of a key.
-    fn with_value(mut self, alloc: Global, key: Key, value: &[u8]) -> Result<Attributes, Flaw>
+    fn with_value(
+        mut self,
+        alloc: Global,
+        key: Key,
+        value: &[u8],
+    ) -> Result<Attributes, Unread<Flaw>>
         ensures { Gives result (with_value self key value.now) }
     {
         match key {

@@ -1,6 +1,7 @@
 // How many objects a description has.
-ghost use Rattle.std.specs.Prelude.{◌≡◌, ◌*◌, ◌<◌, ◌≤◌, length, MatchOption};
+ghost use Rattle.std.specs.Prelude.{◌≡◌, ◌+◌, ◌*◌, ◌<◌, ◌≤◌, length, MatchOption};
 ghost use Rattle.std.specs.List.{AllByRecursion};
+ghost use Rattle.synth_text.specs.Limits.{level_limit, pu_limit};
 ghost use Rattle.synth_text.specs.Rules.{arities, product, tree_size, node_count, is_large};
 
 use crate::description::{Description, Level, Memory};
@@ -13,7 +14,7 @@ const OBJECT_LIMIT: u64 = 16_384;
 
 /// Whether a description has too many PUs or objects.
 pub fn is_large(description: &Description) -> bool
-    requires few { length description.now.levels ≤ 16 }
+    requires few { length description.now.levels ≤ level_limit }
     requires some_each { AllByRecursion (λ level. 1 ≤ level.arity) description.now.levels }
     ensures { result ≡ is_large description.now }
 {
@@ -33,11 +34,14 @@ struct Counts {
     objects: u64,
 }
 
-// The numbers of objects, where the last level has at most 4,096.
+// The numbers of objects, where the last level has as many as there may be PUs at most.
 fn count_objects(levels: &[Level]) -> Option<Counts>
-    requires few { length levels.now ≤ 16 }
+    requires few { length levels.now ≤ level_limit }
     requires some_each { AllByRecursion (λ level. 1 ≤ level.arity) levels.now }
-    ensures { MatchOption result (4096 < product (arities levels.now)) (λ counts. (counts.last ≡ product (arities levels.now)) × (counts.objects ≡ tree_size (arities levels.now)) × (counts.last ≤ 4096) × (counts.objects ≤ 4096 * 17)) }
+    ensures { MatchOption result (pu_limit < product (arities levels.now))
+        (λ counts. (counts.last ≡ product (arities levels.now)) × (counts.objects ≡ tree_size (arities levels.now))
+        × (counts.last ≤ pu_limit)
+        × (counts.objects ≤ pu_limit * (level_limit + 1))) }
 {
     let mut last: u64 = 1;
     let mut objects: u64 = 1;
@@ -53,11 +57,11 @@ fn count_objects(levels: &[Level]) -> Option<Counts>
 
 // How many nodes of memory there are.
 fn nodes(levels: &[Level], memory: &Option<Memory>) -> u64
-    requires few { length levels.now ≤ 16 }
+    requires few { length levels.now ≤ level_limit }
     requires some_each { AllByRecursion (λ level. 1 ≤ level.arity) levels.now }
-    requires pus { product (arities levels.now) ≤ 4096 }
+    requires pus { product (arities levels.now) ≤ pu_limit }
     ensures node_count { result ≡ node_count levels.now memory.now }
-    ensures bound { result ≤ 4096 }
+    ensures bound { result ≤ pu_limit }
 {
     match memory {
         None => 0,

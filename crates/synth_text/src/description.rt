@@ -1,7 +1,7 @@
 // What a text describes.
 
 use crate::kind::Kind;
-use crate::sequence::Sequence;
+use sequence::Sequence;
 
 /// One loop of an interleaving: `step*count`.
 #[derive(Clone, Copy, Debug, PartialEq, Eq)]

@@ -2,7 +2,7 @@
 
 ghost use Rattle.std.specs.Prelude.{◌≡◌};
 ghost use Rattle.synth_text.specs.declared.fault.SynthFault.TheVariants as faults;
-ghost use Rattle.synth_text.specs.declared.fault.Flaw.TheVariants as flaws;
+ghost use Rattle.synth_text.specs.declared.fault.Unread.TheVariants as unread;
 
 use std::alloc::{AllocError, AllocFailed};
 use thiserror::Error;
@@ -59,6 +59,51 @@ impl<T: Drop> From<AllocFailed<T>> for SynthFault {
     }
 }
 
+/// The nine rules of a text, some with the place where it breaks them. A `SynthFault` tells of one, or of want of memory.
+#[derive(Clone, Copy, Debug, PartialEq, Eq)]
+pub enum SynthRule {
+    /// 1. There is a level.
+    Empty,
+    /// 2. Each name is known, and each bracket is closed.
+    BadType { at: usize },
+    /// 3. Each arity is a number from 1.
+    BadArity { at: usize },
+    /// 4. Attributes are well formed, and where they may be.
+    BadAttr { at: usize },
+    /// 5. Indexes are a list or loops.
+    BadIndexes { at: usize },
+    /// 6. The last level is of PUs, with no memory behind it.
+    LastNotPu { at: usize },
+    /// 7. No kind but Group comes twice, and one memory is attached at most.
+    RepeatedType { at: usize },
+    /// 8. There are 16 levels at most.
+    TooManyLevels,
+    /// 9. There are 4,096 PUs and 16,384 objects at most.
+    TooManyObjects,
+}
+
+impl SynthRule {
+    ghost use Rattle.std.specs.Prelude.{◌≡◌};
+    ghost use Rattle.synth_text.specs.Faults.{fault_of};
+
+    /// The fault that tells of the rule.
+    pub fn fault(self) -> SynthFault
+        ensures { result ≡ fault_of self }
+    {
+        match self {
+            SynthRule::Empty => SynthFault::Empty,
+            SynthRule::BadType { at } => SynthFault::BadType { at },
+            SynthRule::BadArity { at } => SynthFault::BadArity { at },
+            SynthRule::BadAttr { at } => SynthFault::BadAttr { at },
+            SynthRule::BadIndexes { at } => SynthFault::BadIndexes { at },
+            SynthRule::LastNotPu { at } => SynthFault::LastNotPu { at },
+            SynthRule::RepeatedType { at } => SynthFault::RepeatedType { at },
+            SynthRule::TooManyLevels => SynthFault::TooManyLevels,
+            SynthRule::TooManyObjects => SynthFault::TooManyObjects,
+        }
+    }
+}
+
 /// What is wrong with an item, apart from its place.
 #[derive(Clone, Copy, Debug, PartialEq, Eq)]
 pub enum Flaw {
@@ -70,40 +115,62 @@ pub enum Flaw {
     Attribute,
     /// The value of `indexes`.
     Indexes,
-    /// Memory ran out.
-    OutOfMemory,
 }
 
 impl Flaw {
     ghost use Rattle.std.specs.Prelude.{◌≡◌};
-    ghost use Rattle.synth_text.specs.Flaws.{fault_at};
+    ghost use Rattle.synth_text.specs.Flaws.{rule_at};
 
-    /// The fault of an item that begins at an offset.
-    pub fn at(self, at: usize) -> SynthFault
-        ensures { result ≡ fault_at at self }
+    /// The rule that an item breaks that begins at an offset.
+    pub fn at(self, at: usize) -> SynthRule
+        ensures { result ≡ rule_at at self }
     {
         match self {
-            Flaw::Name => SynthFault::BadType { at },
-            Flaw::Arity => SynthFault::BadArity { at },
-            Flaw::Attribute => SynthFault::BadAttr { at },
-            Flaw::Indexes => SynthFault::BadIndexes { at },
-            Flaw::OutOfMemory => SynthFault::OutOfMemory,
+            Flaw::Name => SynthRule::BadType { at },
+            Flaw::Arity => SynthRule::BadArity { at },
+            Flaw::Attribute => SynthRule::BadAttr { at },
+            Flaw::Indexes => SynthRule::BadIndexes { at },
         }
     }
 }
 
-impl From<AllocError> for Flaw {
-    ghost from_gives = { λ _ e. e ≡ flaws.OutOfMemory };
+/// Why a reading gave nothing.
+#[derive(Clone, Copy, Debug, PartialEq, Eq)]
+pub enum Unread<F> {
+    /// The text is at fault.
+    Fault(F),
+    /// Memory was refused.
+    OutOfMemory,
+}
 
-    fn from(_refused: AllocError) -> Flaw {
-        Flaw::OutOfMemory
+impl From<Flaw> for Unread<Flaw> {
+    ghost from_gives = { λ flaw e. e ≡ unread.Fault flaw };
+
+    fn from(flaw: Flaw) -> Unread<Flaw> {
+        Unread::Fault(flaw)
     }
 }
 
-impl<T: Drop> From<AllocFailed<T>> for Flaw {
-    ghost from_gives = { λ _ e. e ≡ flaws.OutOfMemory };
+impl From<SynthRule> for Unread<SynthRule> {
+    ghost from_gives = { λ rule e. e ≡ unread.Fault rule };
 
-    fn from(_refused: AllocFailed<T>) -> Flaw {
-        Flaw::OutOfMemory
+    fn from(rule: SynthRule) -> Unread<SynthRule> {
+        Unread::Fault(rule)
+    }
+}
+
+impl<F> From<AllocError> for Unread<F> {
+    ghost from_gives = { λ _ e. e ≡ unread.OutOfMemory };
+
+    fn from(_refused: AllocError) -> Unread<F> {
+        Unread::OutOfMemory
+    }
+}
+
+impl<F, T: Drop> From<AllocFailed<T>> for Unread<F> {
+    ghost from_gives = { λ _ e. e ≡ unread.OutOfMemory };
+
+    fn from(_refused: AllocFailed<T>) -> Unread<F> {
+        Unread::OutOfMemory
     }
 }

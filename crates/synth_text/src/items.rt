@@ -1,7 +1,9 @@
 // Cutting a text into items.
 ghost use Rattle.std.specs.Prelude.{◌≡◌, ◌≢◌, ◌↔◌, ℕ, ◌+◌, ◌<◌, ◌≤◌, true, false, length, slice_index, IsTrue, IfOk, MatchOption};
-ghost use Rattle.synth_text.specs.Items.{is_white, IsGap, IsInside, EndsLevel, IsLevelItem, IsMemoryItem, IsItem, AreItems};
+ghost use Rattle.byte_text.specs.Classes.{is_white};
+ghost use Rattle.synth_text.specs.Items.{IsGap, IsInside, EndsLevel, IsLevelItem, IsMemoryItem, IsItem, AreItems};
 
+use byte_text::is_white;
 use std::alloc::{AllocError, Global};
 
 /// Where an item of a text lies, and whether it is a memory item.
@@ -13,13 +15,6 @@ pub struct Item {
     pub end: usize,
     /// Whether it begins with `[`.
     pub is_memory: bool,
-}
-
-/// Whether a byte is white space: a space, a tab, a carriage return or a line feed.
-pub fn is_white(byte: u8) -> bool
-    ensures { result ≡ is_white byte }
-{
-    byte == b' ' || byte == b'\t' || byte == b'\r' || byte == b'\n'
 }
 
 /// The items of a text, in order.
@@ -38,7 +33,8 @@ pub fn items(alloc: Global, text: &[u8]) -> Result<Vec<Item>, AllocError>
 // The first item from a place on.
 fn next_item(text: &[u8], from: usize) -> Option<Item>
     requires { from ≤ length text.now }
-    ensures { MatchOption result (IsGap text.now from (length text.now)) (λ item. (from ≤ item.start) × IsGap text.now from item.start × IsItem text.now item) }
+    ensures { MatchOption result (IsGap text.now from (length text.now))
+        (λ item. (from ≤ item.start) × IsGap text.now from item.start × IsItem text.now item) }
 {
     let start = gap_end(text, from);
     if start == text.len() {

@@ -1,11 +1,15 @@
 // Laws of descriptions and their texts: each is the contract of a function that does nothing.
-ghost use Rattle.synth_text.specs.Laws.{CanonicalDescribes, DescribedIsSound, EachTextComesToSomething, NoTextComesToTwo, NoTextIsRefusedForMemory};
+ghost use Rattle.synth_text.specs.Laws.{
+  CanonicalDescribes,
+  DescribedIsSound,
+  EachTextComesToSomething,
+  NoTextComesToTwo,
+};
 
-/// Each text comes to a description or one of the nine faults, and no text comes to two: exactly one applies.
+/// Each text comes to a description or one of the nine rules, and no text comes to two: exactly one applies.
 pub fn exactly_one_applies()
     ensures some { EachTextComesToSomething }
     ensures only { NoTextComesToTwo }
-    ensures nine { NoTextIsRefusedForMemory }
 {}
 
 /// What a text describes is sound.

@@ -4,7 +4,6 @@
 
 mod attributes;
 mod counts;
-mod cuts;
 mod description;
 mod fault;
 mod index_text;
@@ -12,22 +11,18 @@ mod items;
 mod kind;
 mod laws;
 mod name;
-mod number;
 mod parts;
 mod reading;
 mod rules;
-mod sequence;
 mod size;
 mod table;
 mod writing;
 
-pub use cuts::{cut_at, first_piece};
 pub use description::{Description, Indexes, Level, Loop, Memory};
-pub use fault::SynthFault;
+pub use fault::{SynthFault, SynthRule};
 pub use kind::Kind;
 pub use laws::{canonical_text_describes, described_is_sound, exactly_one_applies};
 pub use name::{Name, read_name};
-pub use number::number_between;
 pub use reading::read;
 pub use sequence::Sequence;
 pub use writing::write;

@@ -3,8 +3,8 @@ ghost use Rattle.std.specs.Prelude.{◌≡◌, ◌<◌, drop};
 ghost use Rattle.synth_text.specs.Names.{name_of, kind_named, group_numbered};
 
 use crate::kind::Kind;
-use crate::number::capped_number;
 use crate::table::{entry_named, is_same_word};
+use byte_text::number_capped;
 
 /// What a word names.
 #[derive(Clone, Copy, Debug, PartialEq, Eq)]
@@ -73,6 +73,6 @@ fn numbered_group(word: &[u8]) -> Option<Name>
     if !is_same_word(front, b"group") {
         return None;
     }
-    let number = capped_number(digits)?;
+    let number = number_capped(digits)?;
     Some(Name::Group(number))
 }

@@ -1,17 +1,27 @@
 // Reading one item.
 ghost use Rattle.std.specs.Prelude.{◌≡◌, ◌<◌, length};
 ghost use Rattle.synth_text.specs.Names.{name_of};
-ghost use Rattle.synth_text.specs.Flaws.{Gives, GivesAs};
-ghost use Rattle.synth_text.specs.Views.{text_at};
-ghost use Rattle.synth_text.specs.Parts.{level_name, with_arity, head_of, level_part, level_of, node_name, opened, memory_part, memory_in_brackets, memory_of};
+ghost use Rattle.synth_text.specs.Flaws.{Gives, seen};
+ghost use Rattle.byte_text.specs.Views.{text_at};
+ghost use Rattle.synth_text.specs.Parts.{
+  level_name,
+  with_arity,
+  head_of,
+  level_part,
+  level_of,
+  node_name,
+  opened,
+  memory_part,
+  memory_in_brackets,
+  memory_of,
+};
 
 use crate::attributes::{Attributes, read_attributes};
-use crate::cuts::{Class, first_piece, is_blank, split_front};
 use crate::description::{Indexes, Level};
-use crate::fault::Flaw;
+use crate::fault::{Flaw, Unread};
 use crate::kind::Kind;
 use crate::name::{Name, read_name};
-use crate::number::number_between;
+use byte_text::{Class, are_all, first_piece, number_in, split_front};
 use std::alloc::Global;
 
 /// What one item says: a level, nodes of memory at its objects, or both.
@@ -43,10 +53,10 @@ pub struct Nodes {
 
 /// Reads a level item. `untyped` is the kind of a level without a name in its place.
 #[tactic(auto, unfolding(crate::specs::Parts::level_of))]
-pub fn read_level(alloc: Global, untyped: Kind, text: &[u8]) -> Result<Part, Flaw>
+pub fn read_level(alloc: Global, untyped: Kind, text: &[u8]) -> Result<Part, Unread<Flaw>>
     ensures { Gives result (level_of untyped text.now) }
 {
-    let (head, behind) = first_piece(text, b'(');
+    let (head, behind) = first_piece(text, Class::Byte(b'('));
     let (kind, arity) = read_head(untyped, head)?;
     let attributes = read_attributes(alloc, kind, behind)?;
     Ok(level_part(kind, arity, attributes))
@@ -55,9 +65,9 @@ pub fn read_level(alloc: Global, untyped: Kind, text: &[u8]) -> Result<Part, Fla
 // The kind and the arity that a level's head gives.
 #[tactic(auto, unfolding(crate::specs::Parts::head_of))]
 fn read_head(untyped: Kind, head: &[u8]) -> Result<(Kind, u32), Flaw>
-    ensures { Gives result (head_of untyped head.now) }
+    ensures { result ≡ head_of untyped head.now }
 {
-    match first_piece(head, b':') {
+    match first_piece(head, Class::Byte(b':')) {
         (arity, None) => with_arity(untyped, arity),
         (name, Some(arity)) => with_arity(level_kind(name)?, arity),
     }
@@ -65,9 +75,9 @@ fn read_head(untyped: Kind, head: &[u8]) -> Result<(Kind, u32), Flaw>
 
 // A kind with the arity that a text gives.
 fn with_arity(kind: Kind, text: &[u8]) -> Result<(Kind, u32), Flaw>
-    ensures { Gives result (with_arity kind text.now) }
+    ensures { result ≡ with_arity kind text.now }
 {
-    match number_between(1, u64::from(u32::MAX), text) {
+    match number_in(1, u64::from(u32::MAX), text) {
         Some(arity) => Ok((kind, arity as u32)),
         None => Err(Flaw::Arity),
     }
@@ -75,7 +85,7 @@ fn with_arity(kind: Kind, text: &[u8]) -> Result<(Kind, u32), Flaw>
 
 // The kind that a level's name gives.
 fn level_kind(name: &[u8]) -> Result<Kind, Flaw>
-    ensures { Gives result (level_name (name_of name.now)) }
+    ensures { result ≡ level_name (name_of name.now) }
 {
     match read_name(name) {
         None | Some(Name::Kind(Kind::Machine)) => Err(Flaw::Name),
@@ -120,19 +130,19 @@ fn level_part(kind: Kind, arity: u32, attributes: Attributes) -> Part
 
 /// Reads a memory item, with its brackets.
 #[tactic(auto, unfolding(crate::specs::Parts::memory_of))]
-pub fn read_memory(alloc: Global, text: &[u8]) -> Result<Part, Flaw>
+pub fn read_memory(alloc: Global, text: &[u8]) -> Result<Part, Unread<Flaw>>
     requires { 0 < length text.now }
     ensures { Gives result (memory_of text.now) }
 {
-    match first_piece(&text[1..], b']') {
-        (_, None) => Err(Flaw::Name),
+    match first_piece(&text[1..], Class::Byte(b']')) {
+        (_, None) => Err(Unread::Fault(Flaw::Name)),
         (inner, Some(_)) => read_brackets(alloc, inner),
     }
 }
 
 // Reads what stands in brackets.
 #[tactic(auto, unfolding(crate::specs::Parts::memory_in_brackets))]
-fn read_brackets(alloc: Global, text: &[u8]) -> Result<Part, Flaw>
+fn read_brackets(alloc: Global, text: &[u8]) -> Result<Part, Unread<Flaw>>
     ensures { Gives result (memory_in_brackets text.now) }
 {
     let (_, text) = split_front(text, Class::White);
@@ -145,7 +155,7 @@ fn read_brackets(alloc: Global, text: &[u8]) -> Result<Part, Flaw>
 
 // The kind NUMANode, where a name is one of its names.
 fn node_kind(name: &[u8]) -> Result<Kind, Flaw>
-    ensures { Gives result (node_name (name_of name.now)) }
+    ensures { result ≡ node_name (name_of name.now) }
 {
     match read_name(name) {
         Some(Name::Kind(Kind::NumaNode)) => Ok(Kind::NumaNode),
@@ -173,9 +183,9 @@ fn memory_part(attributes: Attributes) -> Part
 
 // What stands behind the `(` that follows a name, if one does; else there is at most white space.
 fn opened(text: &[u8]) -> Result<Option<&[u8]>, Flaw>
-    ensures { GivesAs text_at result (opened text.now) }
+    ensures { seen text_at result ≡ opened text.now }
 {
-    if is_blank(text) {
+    if are_all(text, Class::White) {
         return Ok(None);
     }
     match text {

@@ -1,49 +1,65 @@
 // The rules on all items of a text together.
 ghost use Rattle.std.specs.Prelude.{◌≡◌, ◌≤◌, [], length, IfOk};
 ghost use Rattle.std.specs.List.{AllByRecursion, list_any};
-ghost use Rattle.synth_text.specs.Flaws.{Answers};
-ghost use Rattle.synth_text.specs.Rules.{levels_of, description_of, has_nodes, is_again, is_kind_again, any_of_kind, has_kind, first_again, from_last, wrong_end, broken, unless_broken, broken_items, fault_of};
+ghost use Rattle.synth_text.specs.Flaws.{Gives};
+ghost use Rattle.synth_text.specs.Limits.{level_limit};
+ghost use Rattle.synth_text.specs.Rules.{
+  levels_of,
+  description_of,
+  has_nodes,
+  is_again,
+  is_kind_again,
+  any_of_kind,
+  has_kind,
+  first_again,
+  from_last,
+  wrong_end,
+  broken,
+  unless_broken,
+  broken_items,
+  found_by,
+};
 
 use crate::counts::is_large;
 use crate::description::{Description, Level, Memory};
-use crate::fault::SynthFault;
+use crate::fault::{SynthRule, Unread};
 use crate::kind::Kind;
 use crate::parts::{Nodes, Part, Placed};
-use crate::sequence::Sequence;
+use sequence::Sequence;
 use std::alloc::{AllocError, Global};
 
 // How many levels a description may have.
 const LEVEL_LIMIT: usize = 16;
 
 /// What the items describe, where no rule is broken.
-pub fn described(alloc: Global, parts: Vec<Placed>) -> Result<Description, SynthFault>
+pub fn described(alloc: Global, parts: Vec<Placed>) -> Result<Description, Unread<SynthRule>>
     requires { AllByRecursion (λ level. 1 ≤ level.arity) (levels_of parts.items) }
-    ensures { Answers result (unless_broken (broken parts.items) (description_of parts.items)) }
+    ensures { Gives result (unless_broken (broken parts.items) (description_of parts.items)) }
 {
     check_items(&parts)?;
     let description = describe(alloc, parts)?;
     if is_large(&description) {
-        return Err(SynthFault::TooManyObjects);
+        return Err(Unread::Fault(SynthRule::TooManyObjects));
     }
     Ok(description)
 }
 
 // The first broken rule on the items themselves.
-fn check_items(parts: &[Placed]) -> Result<(), SynthFault>
-    ensures { fault_of result ≡ broken_items parts.now }
+fn check_items(parts: &[Placed]) -> Result<(), SynthRule>
+    ensures { found_by result ≡ broken_items parts.now }
 {
     let levels = count_levels(parts);
     if levels == 0 {
-        return Err(SynthFault::Empty);
+        return Err(SynthRule::Empty);
     }
     if let Some(at) = first_again(parts) {
-        return Err(SynthFault::RepeatedType { at });
+        return Err(SynthRule::RepeatedType { at });
     }
     if let Some(at) = wrong_end(from_last_level(parts)) {
-        return Err(SynthFault::LastNotPu { at });
+        return Err(SynthRule::LastNotPu { at });
     }
     if levels > LEVEL_LIMIT {
-        return Err(SynthFault::TooManyLevels);
+        return Err(SynthRule::TooManyLevels);
     }
     Ok(())
 }
@@ -143,7 +159,7 @@ fn wrong_end(parts: &[Placed]) -> Option<usize>
 
 // What the items describe.
 fn describe(alloc: Global, parts: Vec<Placed>) -> Result<Description, AllocError>
-    requires { length (levels_of parts.items) ≤ 16 }
+    requires { length (levels_of parts.items) ≤ level_limit }
     ensures { IfOk result (λ description. description ≡ description_of parts.items) }
 {
     let mut levels = Vec::new(alloc);

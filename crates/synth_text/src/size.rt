@@ -2,9 +2,8 @@
 ghost use Rattle.std.specs.Prelude.{◌≡◌};
 ghost use Rattle.synth_text.specs.Sizes.{size_of};
 
-use crate::cuts::{Class, split_front};
-use crate::number::number_between;
 use crate::table::entry_named;
+use byte_text::{Class, number_in, split_front};
 
 // The suffixes, in lower case, with the bytes that each stands for.
 const UNITS: [(&[u8], u64); 9] = [
@@ -26,6 +25,6 @@ pub fn read_size(text: &[u8]) -> Option<u64>
 {
     let (digits, suffix) = split_front(text, Class::Digit);
     let unit = entry_named(&UNITS, suffix)?;
-    let number = number_between(0, u64::MAX, digits)?;
+    let number = number_in(0, u64::MAX, digits)?;
     number.checked_mul(unit)
 }

@@ -1,12 +1,24 @@
 // Writing the canonical text.
 ghost use Rattle.std.specs.Prelude.{◌≡◌, ◌++◌, ◌∷◌, ℕ, List, map, decimal, OnOk, IfOk};
 ghost use Rattle.std.specs.List.{join_with_byte};
-ghost use Rattle.synth_text.specs.Canonical.{loop_text, size_texts, indexes_texts, in_parentheses, level_text, memory_text, joined_before, joined_behind, item_texts, canonical, indexes_text};
+ghost use Rattle.synth_text.specs.Canonical.{
+  loop_text,
+  size_texts,
+  indexes_texts,
+  in_parentheses,
+  level_text,
+  memory_text,
+  joined_before,
+  joined_behind,
+  item_texts,
+  canonical,
+  indexes_text,
+};
 
 use crate::description::{Description, Indexes, Level, Loop, Memory};
 use crate::kind::Kind;
 use byte_text::push_decimal;
-use edge_io::OutOfMemory;
+use out_of_memory::OutOfMemory;
 use std::alloc::{AllocError, Global};
 
 /// The canonical text of a description.

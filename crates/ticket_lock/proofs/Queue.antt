@@ -1,5 +1,5 @@
 -- The queue that is computed from words and views is that of the rule.
-use Rattle.std.proofs.Common.{◌≡◌, ℕ, zero, suc, ◌+◌, ◌-◌, ◌%◌, ◌^◌, ◌<◌, Bool, true, false, cond, ◌&&◌, ◌==◌, eq-eqb, List, []}
+use Rattle.std.proofs.Common.{◌≡◌, ℕ, zero, suc, ◌+◌, ◌-◌, ◌%◌, ◌^◌, ◌<◌, true, false, cond, ◌&&◌, ◌==◌, eq-eqb, List, []}
 use Rattle.std.proofs.Common.{◌∷◌, length, map, slice_index, refl, ap, sym, ◌∙◌, arith}
 use Rattle.std.proofs.Math.Nat.{mod-add-mod}
 use mathlib.Core.Option.{some, some-injective, some-ne-none}
@@ -9,16 +9,10 @@ use Rattle.lock_rules.specs.Tag.{Tag}
 use Rattle.lock_rules.specs.declared.view.View.{View}
 use Rattle.lock_tables.specs.Laws.{IsDisciplined, number_at}
 use Rattle.lock_tables.specs.Rule.{is_busy, IsBusyAt, IsQueued}
-use Rattle.lock_tables.proofs.Lists.{number_is, at_below}
+use Rattle.lock_tables.proofs.Lists.{number_is, at_below, both_true}
 use Rattle.lock_tables.proofs.Queues.{few_seats, placed_before_split, placed_before_join}
 use Rattle.ticket_lock.specs.Rule.{next, serving, pass_with, passes_from, queue_of, ticket_discipline}
 use Rattle.ticket_lock.proofs.Rounds.{out_is, one_place, first_ticket}
-
-both_true : (a b : Bool) → (a && b) ≡ true → (a ≡ true) × (b ≡ true)
-both_true true true e = (refl, refl)
-both_true true false e = absurd (cc)
-both_true false true e = absurd (cc)
-both_true false false e = absurd (cc)
 
 pass_with_is : (views : List View) (j : ℕ) (v : View) (t : ℕ) → get_elem? views j ≡ some v → is_busy false v.phase ≡ true → v.ticket ≡ t
     → ((k : ℕ) (u : View) → get_elem? views k ≡ some u → is_busy false u.phase ≡ true → u.ticket ≡ t → k ≡ j) → pass_with views t ≡ v.number

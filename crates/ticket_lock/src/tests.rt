@@ -1,23 +1,10 @@
 use crate::Ticket;
 use lock_rules::{Basic, Plain};
+use lock_trials::Told::{Got, No, Not, Yes};
 use lock_trials::{
-    Call, HOLDS, Move, Parcel, START, Told, Who, carry_out, count_alone, count_by_four,
-    count_by_two, hold_alone, hold_by_four, hold_by_two,
+    Call, HOLDS, Parcel, START, Slow, carry_out, count_alone, count_by_four, count_by_two, first,
+    hold_alone, hold_by_four, hold_by_two, second,
 };
-
-const fn first(call: Call) -> Move {
-    Move {
-        who: Who::First,
-        call,
-    }
-}
-
-const fn second(call: Call) -> Move {
-    Move {
-        who: Who::Second,
-        call,
-    }
-}
 
 #[test]
 fn two_passes_take_turns(rt: HostRuntime) {
@@ -35,17 +22,7 @@ fn two_passes_take_turns(rt: HostRuntime) {
     let Some(outcome) = carry_out::<Ticket<Parcel>>(rt.alloc(), (), &moves) else {
         panic!(rt; "the script was not carried out")
     };
-    let told = [
-        Told::Not,
-        Told::Got,
-        Told::Not,
-        Told::Not,
-        Told::Yes,
-        Told::Got,
-        Told::Got,
-        Told::No,
-        Told::Got,
-    ];
+    let told = [Not, Got, Not, Not, Yes, Got, Got, No, Got];
     assert!(rt; outcome.told.as_slice() == told.as_slice());
     assert!(rt; outcome.count == START);
 }
@@ -67,20 +44,39 @@ fn a_parked_value_is_handed_over(rt: HostRuntime) {
     let Some(outcome) = carry_out::<Ticket<Parcel>>(rt.alloc(), (), &moves) else {
         panic!(rt; "the script was not carried out")
     };
-    let told = [
-        Told::Not,
-        Told::Got,
-        Told::Not,
-        Told::Yes,
-        Told::Got,
-        Told::Got,
-        Told::Got,
-        Told::Yes,
-        Told::No,
-        Told::Got,
-    ];
+    let told = [Not, Got, Not, Yes, Got, Got, Got, Yes, No, Got];
     assert!(rt; outcome.told.as_slice() == told.as_slice());
     assert!(rt; outcome.count == START);
+}
+
+#[test]
+fn a_holder_parks_where_another_waits(rt: HostRuntime) {
+    let moves = [
+        first(Call::Begin),
+        first(Call::Poll),
+        second(Call::Begin),
+        first(Call::Use),
+        first(Call::BeginRelease),
+        second(Call::Poll),
+        second(Call::Use),
+        second(Call::BeginRelease),
+    ];
+    let Some(outcome) = carry_out::<Ticket<Parcel>>(rt.alloc(), (), &moves) else {
+        panic!(rt; "the script was not carried out")
+    };
+    let told = [Not, Got, Not, Yes, Got, Got, No, Got];
+    assert!(rt; outcome.told.as_slice() == told.as_slice());
+    assert!(rt; outcome.count == START + 2);
+}
+
+// `acquire` and `release` wait as long as it takes
+#[test]
+fn a_hold_may_take_millions_of_polls(rt: HostRuntime) {
+    let polls = 1_000_001;
+    let Some(parcel) = hold_alone::<Slow<Ticket<Parcel>>, _>(&rt, rt.alloc(), ((), polls), 1) else {
+        panic!(rt; "there was no memory")
+    };
+    assert!(rt; parcel.count == 1);
 }
 
 #[test]
@@ -96,24 +92,17 @@ fn four_threads_hold_in_turn(rt: HostRuntime) {
 }
 
 #[test]
-fn thousands_of_passes_are_made(rt: HostRuntime) {
-    let Ok((lock, passes)) = Ticket::make(rt.alloc(), (), 4096, Parcel::new(START)) else {
-        panic!(rt; "there was no memory")
-    };
-    assert!(rt; passes.len() == 4096);
-    assert!(rt; lock.close(passes).count == START);
-}
-
-#[test]
-fn one_pass_is_made_or_the_value_comes_back(rt: HostRuntime) {
-    match Ticket::make(rt.alloc(), (), 1, Parcel::new(START)) {
-        Ok((lock, passes)) => {
-            assert!(rt; passes.len() == 1);
-            assert!(rt; lock.close(passes).count == START);
-        }
-        Err(refused) => {
-            assert!(rt; refused.value.count == START);
-            panic!(rt; "there was no memory")
+fn passes_are_made_or_the_value_comes_back(rt: HostRuntime) {
+    for passes in [1, 4096] {
+        match Ticket::make(rt.alloc(), (), passes, Parcel::new(START)) {
+            Ok((lock, list)) => {
+                assert!(rt; list.len() == passes as usize);
+                assert!(rt; lock.close(list).count == START);
+            }
+            Err(refused) => {
+                assert!(rt; refused.value.count == START);
+                panic!(rt; "there was no memory")
+            }
         }
     }
 }

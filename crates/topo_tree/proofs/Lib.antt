@@ -1,3 +1,6 @@
+pub mod CountLaws
+pub mod CountingLoops
+pub mod Covered
 pub mod Numbering
 pub mod SetSteps
 pub mod Faults

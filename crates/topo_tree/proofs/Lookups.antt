@@ -1,10 +1,42 @@
 -- What the tables of a topology have at a place.
-use Rattle.std.proofs.Common.{◌≡◌, ℕ, ◌+◌, ◌-◌, ◌<◌, ◌≤◌, false, ◌==◌, cond, min, ◌^◌, List, length, map, take, get_or, slice_index, Option, Some, None, IfSome, unwrap_or, refl, sym, ap, ◌∙◌, subst, inl, inr, arith}
+use Rattle.std.proofs.Common.{
+  ◌≡◌,
+  ℕ,
+  ◌+◌,
+  ◌-◌,
+  ◌<◌,
+  ◌≤◌,
+  false,
+  ◌==◌,
+  cond,
+  min,
+  ◌^◌,
+  List,
+  length,
+  map,
+  take,
+  get_or,
+  slice_index,
+  Option,
+  Some,
+  None,
+  IfSome,
+  unwrap_or,
+  refl,
+  sym,
+  ap,
+  ◌∙◌,
+  subst,
+  inl,
+  inr,
+  arith,
+}
 use Rattle.std.specs.Option.{option_map}
 use Rattle.std.specs.List.{position}
 use Rattle.std.proofs.lemmas.Bool.{cases_Bool, eqb-true}
 use Rattle.std.proofs.lemmas.List.{length-map, get_or-map}
 use Rattle.std.proofs.lemmas.List.FromFn.{length-map-range_with_len, get_or-map-range_with_len}
+use Rattle.out_of_memory.specs.Memory.{UnlessMemory}
 use Rattle.synth_text.specs.declared.description.Level.{Level}
 use Rattle.synth_text.specs.declared.description.Memory.{Memory}
 use Rattle.synth_text.specs.declared.description.Description.{Description}
@@ -18,7 +50,7 @@ use Rattle.topo_tree.specs.declared.fault.BuildFault.{BuildFault}
 use Rattle.topo_tree.specs.declared.fault.BuildFault.TheVariants as faults
 use Rattle.topo_tree.specs.Objects.{count_of, IsLayer}
 use Rattle.topo_tree.specs.Numbers.{numbers_of, index_count, is_bad, first_fault, indexes_fault}
-use Rattle.topo_tree.specs.Building.{pu_indexes, node_indexes, pu_numbers, node_numbers, or_next, build_fault, IsBuilt, IsFaultUnlessMemory}
+use Rattle.topo_tree.specs.Building.{pu_indexes, node_indexes, pu_numbers, node_numbers, or_next, build_fault, IsBuilt}
 use Rattle.topo_tree.specs.Coverage.{set_covered, layer_depth}
 use Rattle.topo_tree.specs.TableLists.{sets_covered, depth_sets, leaf_table}
 use Rattle.topo_tree.specs.Tables.{IsTabled}
@@ -52,44 +84,59 @@ length-node_numbers described = length-numbers_of (node_indexes described.memory
 
 pub length-depth_sets : (numbers : List ℕ) (levels : List Level) → length (depth_sets numbers levels) ≡ length levels + 1
 unfolding depth_sets
-length-depth_sets numbers levels = length-map-range_with_len (λ depth. sets_covered numbers (product (take depth (arities levels)))) 0 (length levels + 1)
+length-depth_sets numbers levels =
+    length-map-range_with_len (λ depth. sets_covered numbers (product (take depth (arities levels)))) 0 (length levels + 1)
 
-depth_sets-at : (numbers : List ℕ) (levels : List Level) (depth : ℕ) (d : List (List ℕ)) → depth < length levels + 1 → get_or (depth_sets numbers levels) depth d ≡ sets_covered numbers (product (take depth (arities levels)))
+depth_sets-at : (numbers : List ℕ) (levels : List Level) (depth : ℕ) (d : List (List ℕ)) → depth < length levels + 1
+    → get_or (depth_sets numbers levels) depth d ≡ sets_covered numbers (product (take depth (arities levels)))
 unfolding depth_sets
-depth_sets-at numbers levels depth d within = get_or-map-range_with_len (λ depth. sets_covered numbers (product (take depth (arities levels)))) 0 (length levels + 1) depth depth d within (omega arith)
+depth_sets-at numbers levels depth d within =
+    get_or-map-range_with_len (λ depth. sets_covered numbers (product (take depth (arities levels)))) 0
+    (length levels + 1) depth depth d within (omega arith)
 
 pub length-sets_covered : (numbers : List ℕ) (count : ℕ) → length (sets_covered numbers count) ≡ count
 unfolding sets_covered
 length-sets_covered numbers count = length-map-range_with_len (set_covered numbers count) 0 count
 
-pub sets_covered-at : (numbers : List ℕ) (count index : ℕ) (d : List ℕ) → index < count → get_or (sets_covered numbers count) index d ≡ set_covered numbers count index
+pub sets_covered-at : (numbers : List ℕ) (count index : ℕ) (d : List ℕ) → index < count
+    → get_or (sets_covered numbers count) index d ≡ set_covered numbers count index
 unfolding sets_covered
-sets_covered-at numbers count index d within = get_or-map-range_with_len (set_covered numbers count) 0 count index index d within (omega arith)
+sets_covered-at numbers count index d within =
+    get_or-map-range_with_len (set_covered numbers count) 0 count index index d within (omega arith)
 
 -- how many depths the table has
-pub table_length : {V : Type 0} (items : V → List (List ℕ)) (table : List V) (numbers : List ℕ) (levels : List Level) → map items table ≡ depth_sets numbers levels → length table ≡ length levels + 1
+pub table_length : {V : Type 0} (items : V → List (List ℕ)) (table : List V) (numbers : List ℕ) (levels : List Level)
+    → map items table ≡ depth_sets numbers levels → length table ≡ length levels + 1
 table_length items table numbers levels same = sym (length-map table items) ∙ ap length same ∙ length-depth_sets numbers levels
 
 -- what the table has at a depth
-pub table_at : {V : Type 0} (items : V → List (List ℕ)) (table : List V) (numbers : List ℕ) (levels : List Level) (depth : ℕ) (found : V) → map items table ≡ depth_sets numbers levels → depth < length levels + 1 → found ≡ get_or table depth found → items found ≡ sets_covered numbers (product (take depth (arities levels)))
+pub table_at : {V : Type 0} (items : V → List (List ℕ)) (table : List V) (numbers : List ℕ) (levels : List Level) (depth : ℕ) (found : V)
+    → map items table ≡ depth_sets numbers levels → depth < length levels + 1 → found ≡ get_or table depth found
+    → items found ≡ sets_covered numbers (product (take depth (arities levels)))
 table_at items table numbers levels depth found same within here =
     let long = table_length items table numbers levels same in
     ap items here ∙ sym (get_or-map items table depth found (items found) (subst (λ n. depth < n) (sym long) within))
     ∙ ap (λ sets. get_or sets depth (items found)) same ∙ depth_sets-at numbers levels depth (items found) within
 
 -- how many sets the table has at a depth
-pub depth_length : {V : Type 0} (items : V → List (List ℕ)) (table : List V) (described : Description) (depth : ℕ) (found : V) → map items table ≡ depth_sets (pu_numbers described) described.levels → depth < length described.levels + 1 → found ≡ get_or table depth found → length (items found) ≡ product (take depth (arities described.levels))
+pub depth_length : {V : Type 0} (items : V → List (List ℕ)) (table : List V) (described : Description) (depth : ℕ) (found : V)
+    → map items table ≡ depth_sets (pu_numbers described) described.levels → depth < length described.levels + 1
+    → found ≡ get_or table depth found → length (items found) ≡ product (take depth (arities described.levels))
 depth_length items table described depth found same within here =
     ap length (table_at items table (pu_numbers described) described.levels depth found same within here)
     ∙ length-sets_covered (pu_numbers described) (product (take depth (arities described.levels)))
 
 -- ---- the places of objects
 
-place_in : (levels : List Level) (memory : Option Memory) (index : ℕ) → IfSome memory (IsSoundMemory (length levels)) → index < node_count levels memory → (unwrap_or (option_map (λ m. m.above) memory) 0 < length levels + 1) × (index < product (take (unwrap_or (option_map (λ m. m.above) memory) 0) (arities levels)))
+place_in : (levels : List Level) (memory : Option Memory) (index : ℕ) → IfSome memory (IsSoundMemory (length levels))
+    → index < node_count levels memory → (unwrap_or (option_map (λ m. m.above) memory) 0 < length levels + 1)
+    × (index < product (take (unwrap_or (option_map (λ m. m.above) memory) 0) (arities levels)))
 place_in levels None index sound below = absurd (omega arith)
 place_in levels (Some memory) index sound below = (omega (arith, sound.above), below)
 
-pub place_of_object : (described : Description) (layer : Layer) (index : ℕ) → IsSound described → IsLayer described layer → index < count_of described layer → (layer_depth described layer < length described.levels + 1) × (index < product (take (layer_depth described layer) (arities described.levels)))
+pub place_of_object : (described : Description) (layer : Layer) (index : ℕ) → IsSound described → IsLayer described layer
+    → index < count_of described layer → (layer_depth described layer < length described.levels + 1)
+    × (index < product (take (layer_depth described layer) (arities described.levels)))
 place_of_object described (layers.Depth depth) index sound within below = (within, below)
 place_of_object described layers.Memory index sound within below = place_in described.levels described.memory index sound.memory below
 
@@ -105,40 +152,54 @@ counted given count none =
     elim (cases_Bool (index_count given count == count)) [
       | inl same ↦ eqb-true (index_count given count) count same
       | inr other ↦
-          let refused = sym (ap (λ b. cond b (first_fault (numbers_of given count)) (Some (faults.IndexCount (min (index_count given count) (2 ^ 32 - 1)) count))) other) ∙ none in
+          let refused = sym (ap (λ b. cond b (first_fault (numbers_of given count))
+          (Some (faults.IndexCount (min (index_count given count) (2 ^ 32 - 1)) count))) other) ∙ none in
           absurd (cc (refused))
     ]
 
-pub pus_good : (described : Description) → indexes_fault (pu_indexes described) (pu_count described) ≡ None → (k : ℕ) → k < length (pu_numbers described) → is_bad (pu_numbers described) k ≡ false
+pub pus_good : (described : Description) → indexes_fault (pu_indexes described) (pu_count described) ≡ None → (k : ℕ)
+    → k < length (pu_numbers described) → is_bad (pu_numbers described) k ≡ false
 unfolding pu_numbers
-pus_good described none k within = all_good (pu_indexes described) (pu_count described) (counted (pu_indexes described) (pu_count described) none) none k within
+pus_good described none k within =
+    all_good (pu_indexes described) (pu_count described) (counted (pu_indexes described) (pu_count described) none) none k within
 
 pub pus_numbered : (described : Description) → IsBuilt described → indexes_fault (pu_indexes described) (pu_count described) ≡ None
 unfolding build_fault
-pus_numbered described built = (or_next_none (indexes_fault (node_indexes described.memory) (node_count described.levels described.memory)) (indexes_fault (pu_indexes described) (pu_count described)) built.numbered).1
+pus_numbered described built =
+    (or_next_none (indexes_fault (node_indexes described.memory) (node_count described.levels described.memory))
+    (indexes_fault (pu_indexes described) (pu_count described)) built.numbered).1
 
-pub pus_low : (described : Description) → indexes_fault (pu_indexes described) (pu_count described) ≡ None → (k : ℕ) → k < length (pu_numbers described) → slice_index (pu_numbers described) k < 4096
+pub pus_low : (described : Description) → indexes_fault (pu_indexes described) (pu_count described) ≡ None → (k : ℕ)
+    → k < length (pu_numbers described) → slice_index (pu_numbers described) k < 4096
 pus_low described none k within = good_low (pu_numbers described) k (pus_good described none k within)
 
-pub no_leaf : (described : Description) (physical : ℕ) → IsBuilt described → 4096 ≤ physical → position (λ number. number == physical) (pu_numbers described) ≡ None
-no_leaf described physical built large = position-large (pu_numbers described) physical large (λ k within. pus_low described (pus_numbered described built) k within)
+pub no_leaf : (described : Description) (physical : ℕ) → IsBuilt described → 4096 ≤ physical
+    → position (λ number. number == physical) (pu_numbers described) ≡ None
+no_leaf described physical built large =
+    position-large (pu_numbers described) physical large (λ k within. pus_low described (pus_numbered described built) k within)
 
 -- ---- refusals
 
-pub first_refused : (described : Description) (fault : BuildFault) → IsFaultUnlessMemory (indexes_fault (node_indexes described.memory) (node_count described.levels described.memory)) fault → IsFaultUnlessMemory (build_fault described) fault
+pub first_refused : (described : Description) (fault : BuildFault)
+    → UnlessMemory faults.OutOfMemory fault
+    (indexes_fault (node_indexes described.memory) (node_count described.levels described.memory) ≡ Some fault)
+    → UnlessMemory faults.OutOfMemory fault (build_fault described ≡ Some fault)
 unfolding build_fault
-first_refused described faults.OutOfMemory refused = tt
-first_refused described (faults.IndexCount found wanted) refused = ap (λ one. or_next one (indexes_fault (pu_indexes described) (pu_count described))) refused
-first_refused described (faults.IndexRange number) refused = ap (λ one. or_next one (indexes_fault (pu_indexes described) (pu_count described))) refused
-first_refused described (faults.IndexTwice number) refused = ap (λ one. or_next one (indexes_fault (pu_indexes described) (pu_count described))) refused
+first_refused described fault (inl refused) =
+    inl (ap (λ one. or_next one (indexes_fault (pu_indexes described) (pu_count described))) refused)
+first_refused described fault (inr memory) = inr memory
 
-pub next_refused : (described : Description) (fault : BuildFault) → indexes_fault (node_indexes described.memory) (node_count described.levels described.memory) ≡ None → IsFaultUnlessMemory (indexes_fault (pu_indexes described) (pu_count described)) fault → IsFaultUnlessMemory (build_fault described) fault
+pub next_refused : (described : Description) (fault : BuildFault)
+    → indexes_fault (node_indexes described.memory) (node_count described.levels described.memory) ≡ None
+    → UnlessMemory faults.OutOfMemory fault (indexes_fault (pu_indexes described) (pu_count described) ≡ Some fault)
+    → UnlessMemory faults.OutOfMemory fault (build_fault described ≡ Some fault)
 unfolding build_fault
-next_refused described faults.OutOfMemory none refused = tt
-next_refused described (faults.IndexCount found wanted) none refused = ap (λ one. or_next one (indexes_fault (pu_indexes described) (pu_count described))) none ∙ refused
-next_refused described (faults.IndexRange number) none refused = ap (λ one. or_next one (indexes_fault (pu_indexes described) (pu_count described))) none ∙ refused
-next_refused described (faults.IndexTwice number) none refused = ap (λ one. or_next one (indexes_fault (pu_indexes described) (pu_count described))) none ∙ refused
+next_refused described fault none (inl refused) =
+    inl (ap (λ one. or_next one (indexes_fault (pu_indexes described) (pu_count described))) none ∙ refused)
+next_refused described fault none (inr memory) = inr memory
 
-pub none_refused : (described : Description) → indexes_fault (node_indexes described.memory) (node_count described.levels described.memory) ≡ None → indexes_fault (pu_indexes described) (pu_count described) ≡ None → build_fault described ≡ None
+pub none_refused : (described : Description)
+    → indexes_fault (node_indexes described.memory) (node_count described.levels described.memory) ≡ None
+    → indexes_fault (pu_indexes described) (pu_count described) ≡ None → build_fault described ≡ None
 unfolding build_fault
 none_refused described one next = ap (λ o. or_next o (indexes_fault (pu_indexes described) (pu_count described))) one ∙ next

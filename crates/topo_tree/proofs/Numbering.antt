@@ -1,5 +1,30 @@
 -- Steps of the loops that find physical numbers.
-use Rattle.std.proofs.Common.{◌≡◌, ℕ, zero, suc, ◌+◌, ◌*◌, ◌/◌, ◌%◌, ◌<◌, ◌≤◌, min, List, [], ◌∷◌, length, map, take, get_or, sym, ap, ◌∙◌, inl, inr, arith}
+use Rattle.std.proofs.Common.{
+  ◌≡◌,
+  ℕ,
+  zero,
+  suc,
+  ◌+◌,
+  ◌*◌,
+  ◌/◌,
+  ◌%◌,
+  ◌<◌,
+  ◌≤◌,
+  min,
+  List,
+  [],
+  ◌∷◌,
+  length,
+  map,
+  take,
+  get_or,
+  sym,
+  ap,
+  ◌∙◌,
+  inl,
+  inr,
+  arith,
+}
 use Rattle.std.proofs.Math.Nat.{mul_comm, mul-one, one-le-mul, mul-le-mul_left}
 use Rattle.std.proofs.lemmas.Nat.{mod_below}
 use Rattle.std.proofs.lemmas.Bool.{cases_lt}
@@ -11,7 +36,7 @@ use Rattle.synth_text.specs.declared.description.Loop.{Loop}
 use Rattle.synth_text.specs.Rules.{product}
 use Rattle.synth_text.specs.Sound.{IsSoundLoop}
 use Rattle.topo_tree.specs.Numbers.{loop_product, loop_part}
-use Rattle.topo_tree.specs.CountLaws.{product_push}
+use Rattle.topo_tree.proofs.CountLaws.{product_push}
 
 pub loop_product_some : (loops : List Loop) → AllByRecursion IsSoundLoop loops → 1 ≤ loop_product loops
 loop_product_some [] sound = omega arith
@@ -40,10 +65,12 @@ capped_more product factor limit some =
           ap (λ p. min (p * factor) limit) capped ∙ omega (arith, one, other, mul-one limit, mul-one product)
     ]
 
-pub loop_product_more : (loops : List Loop) (place : ℕ) (d : Loop) → place < length loops → loop_product (take (place + 1) loops) ≡ loop_product (take place loops) * (get_or loops place d).count
+pub loop_product_more : (loops : List Loop) (place : ℕ) (d : Loop) → place < length loops
+    → loop_product (take (place + 1) loops) ≡ loop_product (take place loops) * (get_or loops place d).count
 loop_product_more loops place d within = ap product (map_more (λ (given : Loop). given.count) loops place d within) ∙ product_push _ _
 
-pub sound_at : (loops : List Loop) (place : ℕ) (d : Loop) → place < length loops → AllByRecursion IsSoundLoop loops → IsSoundLoop (get_or loops place d)
+pub sound_at : (loops : List Loop) (place : ℕ) (d : Loop) → place < length loops → AllByRecursion IsSoundLoop loops
+    → IsSoundLoop (get_or loops place d)
 sound_at loops place d within sound = All-get_or IsSoundLoop loops place d within (All-from_recursion IsSoundLoop loops sound)
 
 -- no loop: what reading past the end gives
@@ -59,21 +86,26 @@ pub record LoopTurn (loops : List Loop) (place so_far product object : ℕ) (giv
   pub below : so_far + (object / given.step) % given.count * product < product * given.count
 
 -- what a loop adds
-part_at : (loops : List Loop) (place factor object : ℕ) → place < length loops → factor ≡ loop_product (take place loops) → (object / (get_or loops place no_loop).step) % (get_or loops place no_loop).count * factor ≡ loop_part loops object place
+part_at : (loops : List Loop) (place factor object : ℕ) → place < length loops → factor ≡ loop_product (take place loops)
+    → (object / (get_or loops place no_loop).step) % (get_or loops place no_loop).count * factor ≡ loop_part loops object place
 part_at loops place factor object within is =
     let step = get_or-map (λ (given : Loop). given.step) loops place no_loop 0 within in
     let count = get_or-map (λ (given : Loop). given.count) loops place no_loop 0 within in
     ap (λ n. (object / n) % (get_or loops place no_loop).count * factor) (sym step)
     ∙ ap (λ n. (object / get_or (map (λ (given : Loop). given.step) loops) place 0) % n * factor) (sym count)
-    ∙ ap (λ n. (object / get_or (map (λ (given : Loop). given.step) loops) place 0) % get_or (map (λ (given : Loop). given.count) loops) place 0 * n) is
+    ∙ ap (λ n. (object / get_or (map (λ (given : Loop). given.step) loops) place 0) % get_or
+    (map (λ (given : Loop). given.count) loops) place 0 * n) is
 
-pub loop_turn : (loops : List Loop) (place number factor object : ℕ) → place < length loops → AllByRecursion IsSoundLoop loops → loop_product loops ≤ 4096 → number ≡ sum (map (loop_part loops object) (range_with_len 0 place)) → factor ≡ loop_product (take place loops) → number < factor → LoopTurn loops place number factor object (get_or loops place no_loop)
+pub loop_turn : (loops : List Loop) (place number factor object : ℕ) → place < length loops → AllByRecursion IsSoundLoop loops
+    → loop_product loops ≤ 4096 → number ≡ sum (map (loop_part loops object) (range_with_len 0 place))
+    → factor ≡ loop_product (take place loops) → number < factor → LoopTurn loops place number factor object (get_or loops place no_loop)
 loop_turn loops place number factor object within sound few so_far is below =
     let given = get_or loops place no_loop in
     let good = sound_at loops place no_loop within sound in
     let some : 0 < given.count = omega (arith, good.count.0) in
     let turn = digit_below ((object / given.step) % given.count) given.count factor (mod_below (object / given.step) given.count some) in
-    let more : factor * given.count ≡ loop_product (take (place + 1) loops) = ap (λ n. n * given.count) is ∙ sym (loop_product_more loops place no_loop within) in
+    let more : factor * given.count ≡ loop_product (take (place + 1) loops) =
+    ap (λ n. n * given.count) is ∙ sym (loop_product_more loops place no_loop within) in
     let fits : factor * given.count ≤ 4096 = omega (arith, more, loop_product_within (place + 1) loops sound, few) in
     record {
       part = omega (arith, turn, fits);
@@ -85,11 +117,3 @@ loop_turn loops place number factor object within sound few so_far is below =
       factor = more;
       below = omega (arith, turn);
     }
-
--- a loop of one step adds nothing
-pub single_turn : (loops : List Loop) (place so_far product object : ℕ) (given : Loop) → given.count ≡ 1 → LoopTurn loops place so_far product object given → (so_far ≡ sum (map (loop_part loops object) (range_with_len 0 (place + 1)))) × (product ≡ loop_product (take (place + 1) loops))
-single_turn loops place so_far product object given one turn =
-    let digit : (object / given.step) % 1 ≡ 0 = omega (arith, mod_below (object / given.step) 1 (omega arith)) in
-    let none : (object / given.step) % given.count * product ≡ 0 = ap (λ n. (object / given.step) % n * product) one ∙ ap (λ d. d * product) digit ∙ omega arith in
-    let same : product * given.count ≡ product = ap (λ n. product * n) one ∙ mul-one product in
-    (omega (arith, none, turn.number), sym same ∙ turn.factor)

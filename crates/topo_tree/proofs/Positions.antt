@@ -1,9 +1,56 @@
 -- Positions of physical numbers, and the table of them.
-use Rattle.std.proofs.Common.{◌≡◌, ◌≢◌, ℕ, zero, suc, ◌+◌, ◌<◌, ◌≤◌, Bool, true, false, not, ◌||◌, ◌==◌, cond, nat_le, List, [], ◌∷◌, ◌++◌, length, take, get_or, slice_set, slice_index, Option, Some, None, refl, sym, ap, subst, ◌∙◌, inl, inr, arith}
+use Rattle.std.proofs.Common.{
+  ◌≡◌,
+  ◌≢◌,
+  ℕ,
+  zero,
+  suc,
+  ◌+◌,
+  ◌<◌,
+  ◌≤◌,
+  Bool,
+  true,
+  false,
+  not,
+  ◌||◌,
+  ◌==◌,
+  cond,
+  nat_le,
+  List,
+  [],
+  ◌∷◌,
+  ◌++◌,
+  length,
+  take,
+  get_or,
+  slice_set,
+  slice_index,
+  Option,
+  Some,
+  None,
+  refl,
+  sym,
+  ap,
+  subst,
+  ◌∙◌,
+  inl,
+  inr,
+  arith,
+}
 use Rattle.std.specs.List.{position, prefix_len}
 use Rattle.std.proofs.lemmas.Bool.{cases_eq, cases_Bool, false≢true, eq-eqb, ne_eqb, leb-false, lt-ltb, le-ltb}
 use Rattle.std.proofs.lemmas.List.Sums.{prefix_len_is}
-use Rattle.std.proofs.lemmas.List.{get_or-take, ext_get_or, append-nil, length-set, length-take-le, length_push, get_or-set_same, get_or-set_other, take_more}
+use Rattle.std.proofs.lemmas.List.{
+  get_or-take,
+  ext_get_or,
+  append-nil,
+  length-set,
+  length-take-le,
+  length_push,
+  get_or-set_same,
+  get_or-set_other,
+  take_more,
+}
 use Rattle.std.proofs.lemmas.List.FromFn.{length-map-range_with_len, get_or-map-range_with_len}
 use Rattle.cpu_set.specs.Sets.{has}
 use Rattle.topo_tree.specs.Numbers.{is_bad}
@@ -16,10 +63,13 @@ or_none true b none = absurd (false≢true (sym none))
 or_none false b none = (refl, none)
 
 pub good_low : (numbers : List ℕ) (place : ℕ) → is_bad numbers place ≡ false → slice_index numbers place < 4096
-good_low numbers place good = leb-false 4096 (slice_index numbers place) (or_none (nat_le 4096 (slice_index numbers place)) (has (take place numbers) (slice_index numbers place)) good).0
+good_low numbers place good =
+    leb-false 4096 (slice_index numbers place)
+    (or_none (nat_le 4096 (slice_index numbers place)) (has (take place numbers) (slice_index numbers place)) good).0
 
 pub good_new : (numbers : List ℕ) (place : ℕ) → is_bad numbers place ≡ false → has (take place numbers) (slice_index numbers place) ≡ false
-good_new numbers place good = (or_none (nat_le 4096 (slice_index numbers place)) (has (take place numbers) (slice_index numbers place)) good).1
+good_new numbers place good =
+    (or_none (nat_le 4096 (slice_index numbers place)) (has (take place numbers) (slice_index numbers place)) good).1
 
 -- ---- the front without a number
 
@@ -73,10 +123,12 @@ position_push_other k n xs differ =
     elim (cases_Bool (has xs k)) [
       | inl some ↦
           let same = others_some k xs (n ∷ []) some in
-          place_of-before k (xs ++ n ∷ []) (omega (arith, same.0, same.1, length_push xs n)) ∙ ap (λ m. Some m) same.0 ∙ sym (place_of-before k xs same.1)
+          place_of-before k (xs ++ n ∷ []) (omega (arith, same.0, same.1, length_push xs n)) ∙ ap (λ m. Some m) same.0
+          ∙ sym (place_of-before k xs same.1)
       | inr none ↦
           let last : others k (n ∷ []) ≡ 1 = ap (λ b. cond (not b) 1 0) (ne_eqb n k differ) in
-          place_of-past k (xs ++ n ∷ []) (omega (arith, others_all k xs (n ∷ []) none, last, length_push xs n)) ∙ sym (position-none k xs none)
+          place_of-past k (xs ++ n ∷ []) (omega (arith, others_all k xs (n ∷ []) none, last, length_push xs n))
+          ∙ sym (position-none k xs none)
     ]
 
 -- ---- the table
@@ -85,14 +137,17 @@ pub length-leaf_table : (numbers : List ℕ) → length (leaf_table numbers) ≡
 unfolding leaf_table
 length-leaf_table numbers = length-map-range_with_len (λ physical. place_of physical numbers) 0 4096
 
-pub leaf_table-at : (numbers : List ℕ) (k : ℕ) (d : Option ℕ) → k < 4096 → get_or (leaf_table numbers) k d ≡ position (λ number. number == k) numbers
+pub leaf_table-at : (numbers : List ℕ) (k : ℕ) (d : Option ℕ) → k < 4096
+    → get_or (leaf_table numbers) k d ≡ position (λ number. number == k) numbers
 unfolding leaf_table
 leaf_table-at numbers k d below = get_or-map-range_with_len (λ physical. place_of physical numbers) 0 4096 k k d below (omega arith)
 
 -- one number more
-leaf_more : (before : List ℕ) (n place : ℕ) → length before ≡ place → n < 4096 → has before n ≡ false → slice_set (leaf_table before) n (Some place) ≡ leaf_table (before ++ n ∷ [])
+leaf_more : (before : List ℕ) (n place : ℕ) → length before ≡ place → n < 4096 → has before n ≡ false
+    → slice_set (leaf_table before) n (Some place) ≡ leaf_table (before ++ n ∷ [])
 leaf_more before n place long low new =
-    ext_get_or None (slice_set (leaf_table before) n (Some place)) (leaf_table (before ++ n ∷ [])) (length-set (leaf_table before) n (Some place) ∙ length-leaf_table before ∙ sym (length-leaf_table (before ++ n ∷ [])))
+    ext_get_or None (slice_set (leaf_table before) n (Some place)) (leaf_table (before ++ n ∷ []))
+    (length-set (leaf_table before) n (Some place) ∙ length-leaf_table before ∙ sym (length-leaf_table (before ++ n ∷ [])))
     (λ k within.
     let below : k < 4096 = omega (arith, within, length-set (leaf_table before) n (Some place), length-leaf_table before) in
     elim (cases_eq n k) [
@@ -103,16 +158,20 @@ leaf_more before n place long low new =
           ∙ ap (λ m. place_of m (before ++ n ∷ [])) same ∙ sym (leaf_table-at (before ++ n ∷ []) k None below)
       | inr differ ↦
           get_or-set_other (leaf_table before) n k (Some place) None (λ e. differ (sym e))
-          ∙ leaf_table-at before k None below ∙ sym (position_push_other k n before differ) ∙ sym (leaf_table-at (before ++ n ∷ []) k None below)
+          ∙ leaf_table-at before k None below ∙ sym (position_push_other k n before differ)
+          ∙ sym (leaf_table-at (before ++ n ∷ []) k None below)
     ])
 
-pub leaf_step : (numbers : List ℕ) (place : ℕ) → place < length numbers → is_bad numbers place ≡ false → slice_set (leaf_table (take place numbers)) (slice_index numbers place) (Some place) ≡ leaf_table (take (place + 1) numbers)
+pub leaf_step : (numbers : List ℕ) (place : ℕ) → place < length numbers → is_bad numbers place ≡ false
+    → slice_set (leaf_table (take place numbers)) (slice_index numbers place) (Some place) ≡ leaf_table (take (place + 1) numbers)
 leaf_step numbers place within good =
-    leaf_more (take place numbers) (slice_index numbers place) place (length-take-le place numbers (omega arith)) (good_low numbers place good) (good_new numbers place good)
+    leaf_more (take place numbers) (slice_index numbers place) place (length-take-le place numbers (omega arith))
+    (good_low numbers place good) (good_new numbers place good)
     ∙ ap leaf_table (sym (take_more numbers place 0 within))
 
 -- a number that is too large has no position
-pub position-large : (numbers : List ℕ) (k : ℕ) → 4096 ≤ k → ((place : ℕ) → place < length numbers → slice_index numbers place < 4096) → position (λ x. x == k) numbers ≡ None
+pub position-large : (numbers : List ℕ) (k : ℕ) → 4096 ≤ k → ((place : ℕ) → place < length numbers → slice_index numbers place < 4096)
+    → position (λ x. x == k) numbers ≡ None
 position-large numbers k large low = position-none k numbers (none_large numbers low)
   where
     none_large : (xs : List ℕ) → ((place : ℕ) → place < length xs → slice_index xs place < 4096) → has xs k ≡ false
@@ -128,12 +187,14 @@ absent [] n place none within = absurd (omega arith)
 absent (x ∷ xs) n zero none within = (or_none (x == n) (has xs n) none).0
 absent (x ∷ xs) n (suc place) none within = absent xs n place (or_none (x == n) (has xs n) none).1 (omega arith)
 
-pub position-at : (numbers : List ℕ) (place : ℕ) → place < length numbers → is_bad numbers place ≡ false → position (λ x. x == slice_index numbers place) numbers ≡ Some place
+pub position-at : (numbers : List ℕ) (place : ℕ) → place < length numbers → is_bad numbers place ≡ false
+    → position (λ x. x == slice_index numbers place) numbers ≡ Some place
 position-at numbers place within good =
     let n = slice_index numbers place in
     let long : length (take place numbers) ≡ place = length-take-le place numbers (omega arith) in
     let at : others n numbers ≡ place =
     prefix_len_is (λ x. not (x == n)) numbers place 0 (omega arith)
-    (λ k before. ap not (ap (λ x. x == n) (sym (get_or-take place numbers k 0 before)) ∙ absent (take place numbers) n k (good_new numbers place good) (subst (λ m. k < m) (sym long) before)))
+    (λ k before. ap not (ap (λ x. x == n) (sym (get_or-take place numbers k 0 before))
+    ∙ absent (take place numbers) n k (good_new numbers place good) (subst (λ m. k < m) (sym long) before)))
     (λ inside. ap not (eq-eqb n n refl)) in
     place_of-before n numbers (omega (arith, at)) ∙ ap (λ m. Some m) at

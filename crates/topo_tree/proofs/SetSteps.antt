@@ -1,5 +1,27 @@
 -- Sets of listed numbers.
-use Rattle.std.proofs.Common.{◌≡◌, ℕ, ◌+◌, ◌<◌, Bool, true, false, ◌||◌, ◌==◌, List, [], ◌∷◌, ◌++◌, length, take, get_or, refl, sym, ap, ◌∙◌, arith}
+use Rattle.std.proofs.Common.{
+  ◌≡◌,
+  ℕ,
+  ◌+◌,
+  ◌<◌,
+  Bool,
+  true,
+  false,
+  ◌||◌,
+  ◌==◌,
+  List,
+  [],
+  ◌∷◌,
+  ◌++◌,
+  length,
+  take,
+  get_or,
+  refl,
+  sym,
+  ap,
+  ◌∙◌,
+  arith,
+}
 use Rattle.std.proofs.lemmas.List.{take_more}
 use Rattle.cpu_set.specs.Sets.{has, numbers_where, union}
 use Rattle.cpu_set.specs.SetLaws.{has-numbers_below, numbers_below-same, numbers_where-has}
@@ -18,8 +40,10 @@ set_more xs n =
     numbers_below-same 4096 (λ k. has (numbers_where (has xs)) k || has (n ∷ []) k) (has (xs ++ n ∷ []))
     (λ k below. ap (λ b. b || has (n ∷ []) k) (has-numbers_below 4096 (has xs) k below) ∙ sym (has-append xs (n ∷ []) k))
 
-pub set_step : (xs : List ℕ) (place : ℕ) → place < length xs → union (numbers_where (has (take place xs))) (get_or xs place 0 ∷ []) ≡ numbers_where (has (take (place + 1) xs))
-set_step xs place within = set_more (take place xs) (get_or xs place 0) ∙ ap (λ ys. numbers_where (has ys)) (sym (take_more xs place 0 within))
+pub set_step : (xs : List ℕ) (place : ℕ) → place < length xs
+    → union (numbers_where (has (take place xs))) (get_or xs place 0 ∷ []) ≡ numbers_where (has (take (place + 1) xs))
+set_step xs place within =
+    set_more (take place xs) (get_or xs place 0) ∙ ap (λ ys. numbers_where (has ys)) (sym (take_more xs place 0 within))
 
 -- no number
 pub empty_set : numbers_where (has []) ≡ []

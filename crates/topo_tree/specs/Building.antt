@@ -7,7 +7,6 @@ use Rattle.synth_text.specs.declared.description.Description.{Description}
 use Rattle.synth_text.specs.Rules.{node_count, pu_count}
 use Rattle.synth_text.specs.Sound.{IsSound}
 use Rattle.topo_tree.specs.declared.fault.BuildFault.{BuildFault}
-use Rattle.topo_tree.specs.declared.fault.BuildFault.TheVariants as faults
 use Rattle.topo_tree.specs.Numbers.{numbers_of, indexes_fault}
 
 -- the indexes of the PUs, which are those of the last level
@@ -38,11 +37,6 @@ build_fault described =
     or_next
     (indexes_fault (node_indexes described.memory) (node_count described.levels described.memory))
     (indexes_fault (pu_indexes described) (pu_count described))
-
--- this is the first broken rule, or memory ran out
-abbrev pub IsFaultUnlessMemory : Option BuildFault → BuildFault → Type 0
-IsFaultUnlessMemory first faults.OutOfMemory = Unit {0}
-IsFaultUnlessMemory first fault = first ≡ Some fault
 
 -- what each topology is: a description that a text describes, whose numbers break no rule
 pub record IsBuilt (described : Description) : Type 0 where

@@ -15,7 +15,8 @@ first_covered pus count index = index * pus / count
 -- numbers of all PUs are given by position.
 unfoldable pub set_covered : List ℕ → ℕ → ℕ → List ℕ
 set_covered numbers count index =
-    numbers_where (has (slice_range numbers (first_covered (length numbers) count index) (first_covered (length numbers) count (index + 1))))
+    numbers_where (has (slice_range numbers (first_covered (length numbers) count index)
+    (first_covered (length numbers) count (index + 1))))
 
 -- the set of an object of a depth
 abbrev pub set_at : Description → ℕ → ℕ → List ℕ
@@ -32,7 +33,8 @@ set_of described layer index = set_at described (layer_depth described layer) in
 
 -- the physical number of a PU or a NUMANode, and the logical number of any other object
 abbrev pub physical_of : Description → Layer → ℕ → ℕ
-physical_of described (layers.Depth depth) index = if depth == length described.levels then slice_index (pu_numbers described) index else index
+physical_of described (layers.Depth depth) index =
+    if depth == length described.levels then slice_index (pu_numbers described) index else index
 physical_of described layers.Memory index = slice_index (node_numbers described) index
 
 -- the position of the PU that has a physical number

@@ -13,13 +13,18 @@ use Rattle.topo_tree.specs.Coverage.{first_covered, set_at, leaf_of}
 -- Each child of an object is an object of the next depth, and has that object as its parent.
 abbrev pub ChildrenHaveTheirParent : Type 0
 ChildrenHaveTheirParent =
-    (described : Description) (depth index child : ℕ) → IsBuilt described → depth < length described.levels → index < count_at described depth
-    → (children_of described (layers.Depth depth) index).0 ≤ child → child < (children_of described (layers.Depth depth) index).0 + (children_of described (layers.Depth depth) index).1
-    → (child < count_at described (depth + 1)) × (parent_of described (layers.Depth (depth + 1)) child ≡ Some (record { layer = layers.Depth depth; index = index }))
+    (described : Description) (depth index child : ℕ) → IsBuilt described → depth < length described.levels
+    → index < count_at described depth
+    → (children_of described (layers.Depth depth) index).0 ≤ child
+    → child < (children_of described (layers.Depth depth) index).0 + (children_of described (layers.Depth depth) index).1
+    → (child < count_at described (depth + 1))
+    × (parent_of described (layers.Depth (depth + 1)) child ≡ Some (record { layer = layers.Depth depth; index = index }))
 
 -- Each PU is the one with its physical number.
 abbrev pub NumbersNameTheirPus : Type 0
-NumbersNameTheirPus = (described : Description) (index : ℕ) → IsBuilt described → index < pu_count described → leaf_of described (slice_index (pu_numbers described) index) ≡ Some index
+NumbersNameTheirPus =
+    (described : Description) (index : ℕ) → IsBuilt described → index < pu_count described
+    → leaf_of described (slice_index (pu_numbers described) index) ≡ Some index
 
 -- An object has as many PUs as each other of its depth, and at least one.
 pub record HasItsShare (described : Description) (depth index : ℕ) : Type 0 where
@@ -27,24 +32,29 @@ pub record HasItsShare (described : Description) (depth index : ℕ) : Type 0 wh
   pub some : 1 ≤ length (set_at described depth index)
 
 abbrev pub ObjectsHaveTheirShare : Type 0
-ObjectsHaveTheirShare = (described : Description) (depth index : ℕ) → IsBuilt described → index < count_at described depth → HasItsShare described depth index
+ObjectsHaveTheirShare =
+    (described : Description) (depth index : ℕ) → IsBuilt described → index < count_at described depth → HasItsShare described depth index
 
 -- Two objects of a depth have no PU in common.
 abbrev pub ObjectsOfADepthAreDisjoint : Type 0
 ObjectsOfADepthAreDisjoint =
-    (described : Description) (depth index other : ℕ) → IsBuilt described → index ≢ other → meets (set_at described depth index) (set_at described depth other) ≡ false
+    (described : Description) (depth index other : ℕ) → IsBuilt described → index ≢ other
+    → meets (set_at described depth index) (set_at described depth other) ≡ false
 
 -- An object's set is inside another's exactly where its range of positions is.
 abbrev pub InsideIsByPositions : Type 0
 InsideIsByPositions =
     (described : Description) (depth index other above : ℕ) → IsBuilt described → index < count_at described depth
     → is_inside (set_at described depth index) (set_at described other above)
-    ≡ (nat_le (first_covered (pu_count described) (count_at described other) above) (first_covered (pu_count described) (count_at described depth) index)
-    && nat_le (first_covered (pu_count described) (count_at described depth) (index + 1)) (first_covered (pu_count described) (count_at described other) (above + 1)))
+    ≡ (nat_le (first_covered (pu_count described) (count_at described other) above)
+    (first_covered (pu_count described) (count_at described depth) index)
+    && nat_le (first_covered (pu_count described) (count_at described depth) (index + 1))
+    (first_covered (pu_count described) (count_at described other) (above + 1)))
 
 -- A number is in an object's set exactly where it is in a child's.
 abbrev pub ChildrenMakeUpTheirParent : Type 0
 ChildrenMakeUpTheirParent =
     (described : Description) (depth index number : ℕ) → IsBuilt described → depth < length described.levels
     → has (set_at described depth index) number
-    ≡ list_any (λ child. has (set_at described (depth + 1) child) number) (range_with_len (children_of described (layers.Depth depth) index).0 (children_of described (layers.Depth depth) index).1)
+    ≡ list_any (λ child. has (set_at described (depth + 1) child) number)
+    (range_with_len (children_of described (layers.Depth depth) index).0 (children_of described (layers.Depth depth) index).1)

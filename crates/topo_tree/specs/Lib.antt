@@ -1,9 +1,7 @@
 pub mod Objects
 pub mod Numbers
 pub mod Building
-pub mod CountLaws
 pub mod Coverage
-pub mod Covered
 pub mod Naming
 pub mod Sizes
 pub mod Order

@@ -1,6 +1,26 @@
 -- The printed topology: one object a line, in tree order (after the console form of hwloc's lstopo, in this project's
 -- profile). 32 is a space, 10 ends a line.
-use Rattle.std.specs.Prelude.{ℕ, ◌+◌, ◌*◌, ◌==◌, List, [], ◌∷◌, ◌++◌, codes, decimal, map, take, replicate, count_by, slice_index_or, Option, Some, None, if◌then◌else◌}
+use Rattle.std.specs.Prelude.{
+  ℕ,
+  ◌+◌,
+  ◌*◌,
+  ◌==◌,
+  List,
+  [],
+  ◌∷◌,
+  ◌++◌,
+  codes,
+  decimal,
+  map,
+  take,
+  replicate,
+  count_by,
+  slice_index_or,
+  Option,
+  Some,
+  None,
+  if◌then◌else◌,
+}
 use Rattle.std.specs.List.{range_with_len, flat_map}
 use Rattle.synth_text.specs.declared.kind.Kind.{Kind}
 use Rattle.synth_text.specs.declared.kind.Kind.TheVariants.{Group, Pu, NumaNode}
@@ -60,7 +80,8 @@ node_lines (Some memory) physical depth index =
 
 -- the lines of an object of a depth and of the NUMANode that it carries
 unfoldable pub own_lines : Description → ℕ → ℕ → List ℕ
-own_lines described depth index = object_line described depth index ++ node_lines described.memory (physical_of described layers.Memory index) depth index
+own_lines described depth index =
+    object_line described depth index ++ node_lines described.memory (physical_of described layers.Memory index) depth index
 
 -- the lines of an object of a layer; a NUMANode has its line under its carrier's
 abbrev pub lines_of : Description → Layer → ℕ → List ℕ

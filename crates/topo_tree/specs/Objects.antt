@@ -1,6 +1,26 @@
 -- The objects of a topology, by arithmetic on counts. Depth 0 is Machine, and each level is one depth further down
 -- (after the synthetic topologies of hwloc 2).
-use Rattle.std.specs.Prelude.{ℕ, ◌+◌, ◌-◌, ◌*◌, ◌/◌, ◌<◌, ◌==◌, List, ◌∷◌, length, map, take, slice_index, slice_index_or, Option, Some, None, option_map, if◌then◌else◌}
+use Rattle.std.specs.Prelude.{
+  ℕ,
+  ◌+◌,
+  ◌-◌,
+  ◌*◌,
+  ◌/◌,
+  ◌<◌,
+  ◌==◌,
+  List,
+  ◌∷◌,
+  length,
+  map,
+  take,
+  slice_index,
+  slice_index_or,
+  Option,
+  Some,
+  None,
+  option_map,
+  if◌then◌else◌,
+}
 use Rattle.synth_text.specs.declared.kind.Kind.{Kind}
 use Rattle.synth_text.specs.declared.kind.Kind.TheVariants.{Machine}
 use Rattle.synth_text.specs.declared.description.Description.{Description}

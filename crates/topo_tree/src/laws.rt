@@ -1,5 +1,12 @@
 // Laws of the objects of a topology. Each function does nothing: its contract is the law.
-ghost use Rattle.topo_tree.specs.Laws.{ChildrenHaveTheirParent, NumbersNameTheirPus, ObjectsHaveTheirShare, ObjectsOfADepthAreDisjoint, InsideIsByPositions, ChildrenMakeUpTheirParent};
+ghost use Rattle.topo_tree.specs.Laws.{
+  ChildrenHaveTheirParent,
+  NumbersNameTheirPus,
+  ObjectsHaveTheirShare,
+  ObjectsOfADepthAreDisjoint,
+  InsideIsByPositions,
+  ChildrenMakeUpTheirParent,
+};
 
 /// Each child of an object is an object of the next depth, and has that object as its parent.
 pub fn children_have_their_parent()

@@ -1,17 +1,15 @@
 // Physical numbers.
-ghost use Rattle.std.specs.Prelude.{◌≡◌, ◌<◌, ◌≤◌, ◌-◌, ◌^◌, ℕ, None, length, min, IfOk, OnOk, IfErr};
+ghost use Rattle.std.specs.Prelude.{◌≡◌, ◌<◌, ◌≤◌, ◌-◌, ◌^◌, ℕ, Some, None, length, min, IfOk, OnOk, IfErr};
 ghost use Rattle.std.specs.List.{AllByRecursion};
+ghost use Rattle.out_of_memory.specs.Memory.{UnlessMemory};
+ghost use Rattle.synth_text.specs.Limits.{pu_limit};
 ghost use Rattle.synth_text.specs.Sound.{AreSoundIndexes, IsSoundLoop};
-ghost use Rattle.topo_tree.specs.Numbers.{number_of, numbers_of, loops_number, loop_product, index_count, indexes_fault};
-ghost use Rattle.topo_tree.specs.Building.{IsFaultUnlessMemory};
+ghost use Rattle.topo_tree.specs.Numbers.{number_of, numbers_of, loops_number, loop_product, counting_loops, counting_loops_in, index_count, indexes_fault};
 
 use crate::fault::BuildFault;
-use cpu_set::CpuSet;
-use std::alloc::Global;
+use cpu_set::{CpuSet, LIMIT};
+use std::alloc::{AllocError, Global};
 use synth_text::{Indexes, Loop};
-
-/// Physical numbers are below this, as the numbers of a set are.
-pub const NUMBER_LIMIT: u32 = 4096;
 
 /// The physical numbers of so many objects, or the first broken rule.
 pub fn physical_numbers(
@@ -20,10 +18,11 @@ pub fn physical_numbers(
     count: u32,
 ) -> Result<Vec<u32>, BuildFault>
     requires sound { AreSoundIndexes indexes.now }
-    requires few { count ≤ 4096 }
+    requires few { count ≤ pu_limit }
     ensures numbers { IfOk result (λ numbers. numbers.items ≡ numbers_of indexes.now count) }
     ensures good { OnOk result (indexes_fault indexes.now count ≡ None) }
-    ensures fault { IfErr result (IsFaultUnlessMemory (indexes_fault indexes.now count)) }
+    ensures fault { IfErr result
+        (λ fault. UnlessMemory BuildFault.OutOfMemory fault (indexes_fault indexes.now count ≡ Some fault)) }
 {
     let found = capped_count(indexes, count);
     if found != count {
@@ -32,11 +31,12 @@ pub fn physical_numbers(
             wanted: count,
         });
     }
+    let loops = counting_loops(alloc, indexes)?;
     let mut seen = CpuSet::empty();
     let mut numbers = Vec::new(alloc);
     for object in 0..count {
-        let number = number_of(indexes, object);
-        if number >= NUMBER_LIMIT {
+        let number = number_of(indexes, &loops, object);
+        if number >= LIMIT {
             return Err(BuildFault::IndexRange { number });
         }
         if seen.has(number) {
@@ -72,34 +72,53 @@ fn capped_product(loops: &[Loop]) -> u32
     product
 }
 
-// The physical number of an object that the indexes are for.
-fn number_of(indexes: &Indexes, object: u32) -> u32
+// The loops of more than one number. The others add nothing, and a text may have thousands of them.
+fn counting_loops(alloc: Global, indexes: &Indexes) -> Result<Vec<Loop>, AllocError>
+    ensures { IfOk result (λ loops. loops.items ≡ counting_loops_in indexes.now) }
+{
+    match indexes {
+        Indexes::Ordered | Indexes::List(_) => Ok(Vec::new(alloc)),
+        Indexes::Loops(loops) => more_than_one(alloc, loops.as_slice()),
+    }
+}
+
+// Those loops that have more than one number.
+fn more_than_one(alloc: Global, loops: &[Loop]) -> Result<Vec<Loop>, AllocError>
+    ensures { IfOk result (λ counting. counting.items ≡ counting_loops loops.now) }
+{
+    loops
+        .iter()
+        .filter(|given| given.count > 1)
+        .copied()
+        .collect(alloc)
+}
+
+// The physical number of an object that the indexes are for, of which `loops` are those that count.
+fn number_of(indexes: &Indexes, loops: &[Loop], object: u32) -> u32
+    requires loops { loops.now ≡ counting_loops_in indexes.now }
     requires sound { AreSoundIndexes indexes.now }
-    requires within { object < index_count indexes.now 4096 }
-    requires few { index_count indexes.now 4096 ≤ 4096 }
+    requires within { object < index_count indexes.now pu_limit }
+    requires few { index_count indexes.now pu_limit ≤ pu_limit }
     ensures { result ≡ number_of indexes.now object }
 {
     match indexes {
         Indexes::Ordered => object,
         Indexes::List(numbers) => numbers.as_slice()[object as usize],
-        Indexes::Loops(loops) => loops_number(loops.as_slice(), object),
+        Indexes::Loops(_) => loops_number(loops, object),
     }
 }
 
 // The physical number that loops give an object.
 fn loops_number(loops: &[Loop], object: u32) -> u32
     requires sound { AllByRecursion IsSoundLoop loops.now }
-    requires few { loop_product loops.now ≤ 4096 }
+    requires few { loop_product loops.now ≤ pu_limit }
     ensures { result ≡ loops_number loops.now object }
 {
     let mut number = 0;
     let mut factor = 1;
     for given in loops {
-        // Others add nothing, and a text may have thousands of them.
-        if given.count > 1 {
-            number += object / given.step % given.count * factor;
-            factor *= given.count;
-        }
+        number += object / given.step % given.count * factor;
+        factor *= given.count;
     }
     number
 }

@@ -9,7 +9,7 @@ ghost use Rattle.topo_tree.specs.Beginnings.{objects_at};
 
 use crate::layer::{Layer, Object};
 use crate::topology::Topology;
-use edge_io::OutOfMemory;
+use out_of_memory::OutOfMemory;
 use std::alloc::{AllocError, Global};
 
 impl Topology {

@@ -1,7 +1,8 @@
 // The sets of objects.
 ghost use Rattle.std.specs.Prelude.{◌≡◌, ◌<◌, ◌≤◌, ◌+◌, ◌*◌, ◌/◌, ℕ, length, map, All, IfOk};
 ghost use Rattle.std.specs.List.{AllByRecursion};
-ghost use Rattle.cpu_set.specs.Sets.{has, numbers_where};
+ghost use Rattle.cpu_set.specs.Sets.{set_limit, has, numbers_where};
+ghost use Rattle.synth_text.specs.Limits.{pu_limit};
 ghost use Rattle.synth_text.specs.Rules.{arities, product};
 ghost use Rattle.topo_tree.specs.TableLists.{sets_covered, depth_sets};
 
@@ -17,8 +18,8 @@ pub fn depth_sets(
 ) -> Result<Vec<Vec<CpuSet>>, AllocError>
     requires some_each { AllByRecursion (λ level. 1 ≤ level.arity) levels.now }
     requires pus { length numbers.now ≡ product (arities levels.now) }
-    requires few { length numbers.now ≤ 4096 }
-    requires limit { All (λ number. number < 4096) numbers.now }
+    requires few { length numbers.now ≤ pu_limit }
+    requires limit { All (λ number. number < set_limit) numbers.now }
     ensures { IfOk result (λ sets. map (λ depth. depth.items) sets.items ≡ depth_sets numbers.now levels.now) }
 {
     let mut count: usize = 1;
@@ -35,8 +36,8 @@ pub fn depth_sets(
 fn sets_covered(alloc: Global, count: usize, numbers: &[u32]) -> Result<Vec<CpuSet>, AllocError>
     requires some { 0 < count }
     requires whole { count * (length numbers.now / count) ≡ length numbers.now }
-    requires few { length numbers.now ≤ 4096 }
-    requires limit { All (λ number. number < 4096) numbers.now }
+    requires few { length numbers.now ≤ pu_limit }
+    requires limit { All (λ number. number < set_limit) numbers.now }
     ensures { IfOk result (λ sets. sets.items ≡ sets_covered numbers.now count) }
 {
     let width = numbers.len() / count;
@@ -49,7 +50,7 @@ fn sets_covered(alloc: Global, count: usize, numbers: &[u32]) -> Result<Vec<CpuS
 
 // The set of these numbers.
 fn set_of(numbers: &[u32]) -> CpuSet
-    requires { All (λ number. number < 4096) numbers.now }
+    requires { All (λ number. number < set_limit) numbers.now }
     ensures { result ≡ numbers_where (has numbers.now) }
 {
     let mut set = CpuSet::empty();

@@ -11,7 +11,7 @@ ghost use Rattle.topo_tree.specs.Lines.{sizes, group_numbers, node_detail, line,
 use crate::layer::{Layer, Object};
 use crate::lines::{push_detail, push_indent, push_index, push_node_detail, push_short_name};
 use crate::topology::Topology;
-use edge_io::OutOfMemory;
+use out_of_memory::OutOfMemory;
 use std::alloc::{AllocError, Global};
 use synth_text::{Kind, write};
 

@@ -1,18 +1,19 @@
 // A topology and its look-ups.
-ghost use Rattle.std.specs.Prelude.{◌≡◌, ◌<◌, ◌≤◌, None, IfOk, OnOk, IfErr, IfSome};
+ghost use Rattle.std.specs.Prelude.{◌≡◌, ◌<◌, ◌≤◌, Some, None, IfOk, OnOk, IfErr, IfSome};
 ghost use Rattle.synth_text.specs.Canonical.{canonical};
+ghost use Rattle.out_of_memory.specs.Memory.{UnlessMemory};
+ghost use Rattle.synth_text.specs.Limits.{pu_limit};
 ghost use Rattle.synth_text.specs.Sound.{IsSound};
 ghost use Rattle.topo_tree.specs.Objects.{depth_count, kind_at, arity_at, count_of, carrier_of, IsLayer, IsObject, parent_of, children_of};
-ghost use Rattle.topo_tree.specs.Building.{build_fault, IsFaultUnlessMemory, IsBuilt};
+ghost use Rattle.topo_tree.specs.Building.{build_fault, IsBuilt};
 ghost use Rattle.topo_tree.specs.Coverage.{set_of, layer_depth, physical_of, leaf_of};
 
 use crate::building::{node_numbers, pu_numbers};
 use crate::fault::BuildFault;
 use crate::layer::{Layer, Object};
 use crate::leaves::leaf_table;
-use crate::numbers::NUMBER_LIMIT;
 use crate::sets::depth_sets;
-use cpu_set::CpuSet;
+use cpu_set::{CpuSet, LIMIT};
 use std::alloc::Global;
 use std::marker::Model;
 use synth_text::{Description, Kind};
@@ -46,7 +47,7 @@ impl Topology {
         requires { IsSound description }
         ensures built { IfOk result (λ topology. topology ≡ description) }
         ensures accepted { OnOk result (build_fault description ≡ None) }
-        ensures refused { IfErr result (IsFaultUnlessMemory (build_fault description)) }
+        ensures refused { IfErr result (λ fault. UnlessMemory BuildFault.OutOfMemory fault (build_fault description ≡ Some fault)) }
     {
         let nodes = node_numbers(alloc, &description)?;
         let numbers = pu_numbers(alloc, &description)?;
@@ -97,7 +98,7 @@ impl Topology {
     pub fn count(&self, layer: Layer) -> u32
         requires { IsLayer self.now layer }
         ensures count { result ≡ count_of self.now layer }
-        ensures few { result ≤ 4096 }
+        ensures few { result ≤ pu_limit }
     {
         match layer {
             Layer::Depth(depth) => self.sets[depth as usize].len() as u32,
@@ -171,7 +172,7 @@ impl Topology {
         ensures { result ≡ leaf_of self.now physical }
     {
         let leaves = &self.leaves;
-        if physical < NUMBER_LIMIT {
+        if physical < LIMIT {
             leaves[physical as usize]
         } else {
             None

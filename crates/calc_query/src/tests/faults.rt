@@ -9,7 +9,7 @@ fn told(rt: &impl Abort, text: &[u8]) -> CalcFault {
     if text == b"type".as_slice() {
         return CalcFault::NoSuchType { word: WORD };
     }
-    match number_between(0, 99, text) {
+    match number_in(0, 99, text) {
         Some(at) => CalcFault::Location {
             word: WORD,
             at: at as usize,

@@ -23,10 +23,12 @@ const ENDS: &[&str] = &[
 // One level more than the most, and PUs and objects that are one more or a few.
 const LARGE: &[&str] = &[
     "TooManyLevels 1 1 1 1 1 1 1 1 1 1 1 1 1 1 1 1 1|1 1 1 1 1 1 1 1 [numa] 1 1 1 1 1 1 1 1 1",
-    "TooManyLevels Group:1 Group:1 Group:1 Group:1 Group:1 Group:1 Group:1 Group:1 Group:1 Group:1 Group:1 Group:1 Group:1 Group:1 Group:1 Group:1 PU:1",
+    "TooManyLevels Group:1 Group:1 Group:1 Group:1 Group:1 Group:1 Group:1 Group:1 Group:1 Group:1 Group:1 Group:1 Group:1 \
+     Group:1 Group:1 Group:1 PU:1",
     "TooManyObjects PU:4097|Core:17 PU:241|Core:4097 PU:1|Core:64 PU:65|Group:4294967295 PU:1",
     "TooManyObjects Group:4294967295 Group:4294967295 Group:4294967295 PU:1",
-    "TooManyObjects 4294967295 4294967295 4294967295 4294967295 4294967295 4294967295 4294967295 4294967295 4294967295 4294967295 4294967295 4294967295 4294967295 4294967295 4294967295 4294967295",
+    "TooManyObjects 4294967295 4294967295 4294967295 4294967295 4294967295 4294967295 4294967295 4294967295 4294967295 \
+     4294967295 4294967295 4294967295 4294967295 4294967295 4294967295 4294967295",
     "TooManyObjects Group:4096 Group:1 Group:1 PU:1|Group:4096 [numa] Group:1 PU:1",
     "TooManyObjects [numa] Package:3 Group:1365 Group:1 Group:1 PU:1",
     "TooManyObjects Package:3 Group:1365 Group:1 Group:1 [numa] PU:1",

@@ -63,7 +63,8 @@ fn most_pus(rt: HostRuntime) -> Result<(), Fail> {
 #[test]
 fn usual(rt: HostRuntime) {
     let text: &[u8] =
-        b"Package:2 [NUMANode(memory=34359738368)] L3Cache:1(size=33554432) L2Cache:16(size=1048576) L1dCache:1(size=32768) L1iCache:1(size=32768) Core:1 PU:2(indexes=2*32:1*2)";
+        b"Package:2 [NUMANode(memory=34359738368)] L3Cache:1(size=33554432) L2Cache:16(size=1048576) L1dCache:1(size=32768) \
+         L1iCache:1(size=32768) Core:1 PU:2(indexes=2*32:1*2)";
     let usual = built(&rt, rt.alloc(), text);
     let first = set(&rt, &usual, Layer::Depth(1), 0);
     assert!(rt; first.has(0) && first.has(15) && first.has(32) && first.has(47));

@@ -117,9 +117,14 @@ fn check_numbers(rt: &impl Abort, topology: &Topology, numbers: &[u32]) {
 
 #[test]
 fn numbers_of_loops(rt: HostRuntime) {
-    let cases: [(&[u8], &[u32]); 4] = [
+    let cases: [(&[u8], &[u32]); 6] = [
         (b"PU:8(indexes=2*4:1*2)", &[0, 4, 1, 5, 2, 6, 3, 7]),
+        (
+            b"PU:8(indexes=9*1:2*4:4294967295*1:1*2:1*1)",
+            &[0, 4, 1, 5, 2, 6, 3, 7],
+        ),
         (b"PU:6(indexes=3*2:1*3)", &[0, 2, 4, 1, 3, 5]),
+        (b"PU:1(indexes=1*1:2*1)", &[0]),
         (b"PU:6(indexes=1*6)", &[0, 1, 2, 3, 4, 5]),
         (
             b"PU:12(indexes=4*3:7*1:2*2:1*2)",

@@ -94,8 +94,10 @@ fn sizes_by_their_units(rt: HostRuntime) -> Result<(), Fail> {
     check_texts(
         &rt,
         rt.alloc(),
-        b"l5:1(size=1023KiB) l4:1(size=1025) l3:1(size=3TiB) l2:1(size=1025GiB) l1d:1(size=2048MiB) l1i:1(size=1024) numa:1(memory=1kB) pu:1",
-        b"L5Cache:1(size=1047552) L4Cache:1(size=1025) L3Cache:1(size=3298534883328) L2Cache:1(size=1100585369600) L1dCache:1(size=2147483648) L1iCache:1(size=1024) Group:1 [NUMANode(memory=1000)] PU:1\n",
+        b"l5:1(size=1023KiB) l4:1(size=1025) l3:1(size=3TiB) l2:1(size=1025GiB) l1d:1(size=2048MiB) l1i:1(size=1024) \
+         numa:1(memory=1kB) pu:1",
+        b"L5Cache:1(size=1047552) L4Cache:1(size=1025) L3Cache:1(size=3298534883328) L2Cache:1(size=1100585369600) \
+         L1dCache:1(size=2147483648) L1iCache:1(size=1024) Group:1 [NUMANode(memory=1000)] PU:1\n",
         b"Machine L#0
   L5 L#0 (1023KiB)
     L4 L#0 (1025B)
@@ -115,8 +117,11 @@ fn sizes_at_the_edges(rt: HostRuntime) -> Result<(), Fail> {
     check_texts(
         &rt,
         rt.alloc(),
-        b"l5:1(size=18446744073709551615) l4:1(size=1024TiB) l3:1(size=1025KiB) l2:1(size=9223372036854775808) l1:1(size=1023) l1i:1(size=1023GiB) numa:1(memory=0) pu:1",
-        b"L5Cache:1(size=18446744073709551615) L4Cache:1(size=1125899906842624) L3Cache:1(size=1049600) L2Cache:1(size=9223372036854775808) L1dCache:1(size=1023) L1iCache:1(size=1098437885952) Group:1 [NUMANode(memory=0)] PU:1\n",
+        b"l5:1(size=18446744073709551615) l4:1(size=1024TiB) l3:1(size=1025KiB) l2:1(size=9223372036854775808) l1:1(size=1023) \
+         l1i:1(size=1023GiB) numa:1(memory=0) pu:1",
+        b"L5Cache:1(size=18446744073709551615) L4Cache:1(size=1125899906842624) L3Cache:1(size=1049600) \
+         L2Cache:1(size=9223372036854775808) L1dCache:1(size=1023) L1iCache:1(size=1098437885952) Group:1 [NUMANode(memory=0)] \
+         PU:1\n",
         b"Machine L#0
   L5 L#0 (18446744073709551615B)
     L4 L#0 (1024TiB)

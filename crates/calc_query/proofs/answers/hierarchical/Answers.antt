@@ -1,11 +1,13 @@
 use Rattle.std.proofs.Common.{◌≡◌, ◌<◌, ℕ, List, [], ◌∷◌, ◌++◌, take, lit<, refl, sym, ap, subst, ◌∙◌, arith}
 use Rattle.std.specs.List.{All, fold, flat_map}
 use Rattle.std.proofs.lemmas.List.Elements.{All-cons, All-nil, All-same}
+use Rattle.std.proofs.lemmas.List.{take_all}
 use Rattle.std.proofs.lemmas.List.Sums.{fold_more}
 use Rattle.topo_tree.specs.declared.layer.Layer.{Layer}
 use Rattle.topo_tree.specs.Objects.{IsObject}
 use Rattle.calc_query.specs.declared.query.Path.{Path}
 use Rattle.calc_query.specs.Answers.{end_of, extended, chains}
+use Rattle.calc_query.proofs.FitLaws.{chains_fit}
 use Rattle.calc_query.proofs.answers.hierarchical.Goals as goal
 
 pub loop-layer-init : goal.loop-layer-init
@@ -16,7 +18,8 @@ loop-layer-init c =
     let Ends : Path → Type 0 = λ p. IsObject now (end_of p) in
     let none : c.from_vec.result ≡ [] = c.from_vec.ensures ∙ c.new.ensures.items in
     let one : c.push.new.self.items ≡ start ∷ [] =
-    c.in_ok-push.ensures.items ∙ ap (λ ps. ps ++ (record { steps = c.from_vec.result }) ∷ []) c.new-paths.ensures.items ∙ ap (λ steps. (record { steps = steps }) ∷ []) none in
+    c.in_ok-push.ensures.items ∙ ap (λ ps. ps ++ (record { steps = c.from_vec.result }) ∷ []) c.new-paths.ensures.items
+    ∙ ap (λ steps. (record { steps = steps }) ∷ []) none in
     record {
       paths = one;
       ends = All-same Ends _ _ one (All-cons Ends start [] (record { layer = omega arith; index = lit< tt }) (All-nil Ends));
@@ -34,3 +37,12 @@ loop-layer-preserved c =
           ∙ sym (fold_more step (start ∷ []) c.args.layers.now c.loop-layer.layer-index _ c.loop-layer-test.true);
       ends = c.in_ok-paths.ensures.ends;
     }
+
+pub returns-clause-fit : goal.returns-clause-fit
+returns-clause-fit c =
+    let now = c.args.topology.now in
+    let Fit : Path → Type 0 = λ path. All (λ step. IsObject now step.object) path.steps in
+    All-same Fit _ _
+    (c.loop-layer.invariant.paths ∙ ap (chains now c.args.set.now)
+    (take_all c.loop-layer.layer-index c.args.layers.now c.loop-layer-test.false))
+    (chains_fit now c.args.set.now c.args.layers.now c.requires)

@@ -1,9 +1,12 @@
-use Rattle.std.proofs.Common.{◌≡◌, ℕ, Bool, [], ◌∷◌, ◌++◌, sym, ap, ◌∙◌, arith}
+use Rattle.std.proofs.Common.{◌≡◌, ◌<◌, ℕ, Bool, [], ◌∷◌, ◌++◌, sym, ap, ◌∙◌, arith}
 use Rattle.std.specs.List.{filter, range_with_len}
+use Rattle.std.proofs.lemmas.List.Elements.{All-same}
 use Rattle.cpu_set.specs.Tests.{meets}
+use Rattle.topo_tree.specs.Objects.{count_of}
 use Rattle.topo_tree.specs.Coverage.{set_of}
 use Rattle.calc_query.specs.Answers.{intersecting}
 use Rattle.calc_query.proofs.ChainLaws.{filter_in_range, filter_out_range}
+use Rattle.calc_query.proofs.FitLaws.{kept_below}
 use Rattle.calc_query.proofs.answers.intersecting.Goals as goal
 use Rattle.calc_query.proofs.answers.intersecting.Goals.{then-meets+in_ok-push, else-meets}
 
@@ -21,8 +24,20 @@ loop-index-preserved c =
       | else-meets w ↦ ap (λ v. v.items) w.indexes-is ∙ c.loop-index.invariant ∙ filter_out_range test index (tested ∙ w.if-meets.false)
     ]
 
-pub returns : goal.returns
+pub returns-clause-indexes : goal.returns-clause-indexes
 unfolding intersecting
-returns c =
+returns-clause-indexes c =
     let all : c.loop-index.index ≡ c.count-index-end.result = omega arith in
-    c.loop-index.invariant ∙ ap (λ count. filter (λ i. meets (set_of c.args.topology.now c.args.layer i) c.args.set.now) (range_with_len 0 count)) (all ∙ c.count-index-end.ensures.count)
+    c.loop-index.invariant ∙ ap (λ count. filter (λ i. meets (set_of c.args.topology.now c.args.layer i) c.args.set.now)
+    (range_with_len 0 count)) (all ∙ c.count-index-end.ensures.count)
+
+pub returns-clause-fit : goal.returns-clause-fit
+returns-clause-fit c =
+    let now = c.args.topology.now in
+    let layer = c.args.layer in
+    let test : ℕ → Bool = λ i. meets (set_of now layer i) c.args.set.now in
+    let all : c.loop-index.index ≡ count_of now layer = let below : c.loop-index.index ≡ c.count-index-end.result = omega arith in below
+    ∙ c.count-index-end.ensures.count in
+    let items : c.loop-index.indexes.items ≡ filter test (range_with_len 0 (count_of now layer)) =
+    c.loop-index.invariant ∙ ap (λ count. filter test (range_with_len 0 count)) all in
+    All-same (λ index. index < count_of now layer) _ _ items (kept_below test (count_of now layer))

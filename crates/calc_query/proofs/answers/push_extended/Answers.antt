@@ -28,15 +28,23 @@ loop-position-preserved c =
       | then-meets+in_ok-with_step+in_ok-push w ↦
           let longer = w.in_ok-with_step.field-0 in
           let pushed = ap (λ v. v.items) w.out-is ∙ w.in_ok-push.ensures.items in
-          let end = ap end_of w.in_ok-with_step.ensures ∙ end_of-with_step path (record { object = record { layer = layer; index = first + position }; position = position }) in
+          let end = ap end_of w.in_ok-with_step.ensures
+          ∙ end_of-with_step path (record { object = record { layer = layer; index = first + position }; position = position }) in
           record {
             paths =
                 pushed ∙ ap (λ ps. ps ++ longer ∷ []) so_far.paths
-                ∙ through-more now set layer path first count out position c.meets.result longer c.loop-position-test.true tested w.if-meets.true w.in_ok-with_step.ensures;
-            ends = All-same Ends _ _ pushed (All-push Ends c.loop-position.out.items longer so_far.ends (subst (IsObject now) (sym end) (record { layer = c.requires.layer; index = omega (arith, c.inside-run.ensures.within, c.loop-position-test.true) })));
+                ∙ through-more now set layer path first count out position c.meets.result longer c.loop-position-test.true tested
+                w.if-meets.true w.in_ok-with_step.ensures;
+            ends = All-same Ends _ _ pushed (All-push Ends c.loop-position.out.items longer so_far.ends
+                (subst (IsObject now) (sym end) (record {
+                  layer = c.requires.layer;
+                  index =
+                      omega (arith, c.inside-run.ensures.within, c.loop-position-test.true);
+                })));
           }
       | else-meets w ↦ record {
-        paths = ap (λ v. v.items) w.out-is ∙ so_far.paths ∙ through-none now set layer path first count out position c.meets.result c.loop-position-test.true tested w.if-meets.false;
+        paths = ap (λ v. v.items) w.out-is ∙ so_far.paths
+            ∙ through-none now set layer path first count out position c.meets.result c.loop-position-test.true tested w.if-meets.false;
         ends = All-same Ends _ _ (ap (λ v. v.items) w.out-is) so_far.ends;
       }
     ]
@@ -46,5 +54,6 @@ returns-clause-paths c =
     let now = c.args.topology.now in
     let path = c.args.path.now in
     c.loop-position.invariant.paths
-    ∙ ap (λ ps. c.args.out.now.items ++ ps) (through-all now c.args.set.now c.args.layer path c.inside-run.result.first c.inside-run.result.count c.loop-position.position (omega arith)
+    ∙ ap (λ ps. c.args.out.now.items ++ ps) (through-all now c.args.set.now c.args.layer path c.inside-run.result.first
+    c.inside-run.result.count c.loop-position.position (omega arith)
     (ap (λ object. candidates now c.args.layer (set_of now object.layer object.index)) (sym c.end_of.ensures) ∙ c.inside-run.ensures.run))

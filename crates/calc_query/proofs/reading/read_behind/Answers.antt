@@ -10,7 +10,8 @@ use Rattle.calc_query.proofs.reading.read_behind.Goals as goal
 
 pub returns-then-is_whole-clause-location : goal.returns-then-is_whole-clause-location
 returns-then-is_whole-clause-location c =
-    location-whole c.args.topology.now c.args.word (c.args.end - length c.args.text.now) c.args.text.now (sym c.is_whole.ensures ∙ c.if-is_whole.true)
+    location-whole c.args.topology.now c.args.word (c.args.end - length c.args.text.now) c.args.text.now
+    (sym c.is_whole.ensures ∙ c.if-is_whole.true)
 
 pub returns-then-is_empty-clause-location : goal.returns-then-is_empty-clause-location
 returns-then-is_empty-clause-location c =
@@ -43,7 +44,9 @@ returns-in_err-parts-clause-location c =
     let is = location-other now c.args.word at text (sym c.is_whole.ensures ∙ c.if-is_whole.false)
     ∙ location-parts now c.args.word at text (omega (arith, some)) (sym c.is_ascii_digit.ensures.value ∙ c.if-is_ascii_digit.false) in
     let p = err_from_is_err_and c.from_residual.result c.from_residual.ensures.1 in
-    let failed = subst (FailsWith fault) (sym is) (fails_after fault (parts_from now c.args.word at (pieces_of text)) (λ parts. Ok (locations.Parts parts)) c.in_err-parts.ensures.parts) in
+    let failed = subst (FailsWith fault) (sym is)
+    (fails_after fault (parts_from now c.args.word at (pieces_of text))
+    (λ parts. Ok (locations.Parts parts)) c.in_err-parts.ensures.parts) in
     rw (p.1, p.2) failed
 
 pub returns-clause-location : goal.returns-clause-location

@@ -15,12 +15,16 @@ returns-in_err-location-clause-term c =
     let fault = c.in_err-location.field-0.0 in
     let op = c.read_op-op.result in
     let p = err_from_is_err_and c.from_residual.result c.from_residual.ensures.1 in
-    let failed = subst (FailsWith fault) (sym (term_behind now c.args.number word op c.len.result c.split_at.result.1.now c.read_op-op.ensures c.len.ensures c.split_at.ensures.back))
-    (fails_after fault (location_of now c.args.number (length word - length c.split_at.result.1.now) c.split_at.result.1.now) (λ location. Ok (record { op = op; location = location })) c.in_err-location.ensures.location) in
+    let failed = subst (FailsWith fault) (sym
+    (term_behind now c.args.number word op c.len.result c.split_at.result.1.now c.read_op-op.ensures c.len.ensures
+    c.split_at.ensures.back))
+    (fails_after fault (location_of now c.args.number (length word - length c.split_at.result.1.now) c.split_at.result.1.now)
+    (λ location. Ok (record { op = op; location = location })) c.in_err-location.ensures.location) in
     rw (p.1, p.2) failed
 
 pub returns-clause-term : goal.returns-clause-term
 returns-clause-term c =
     let op = c.read_op-op.result in
-    term_behind c.args.topology.now c.args.number c.args.word.now op c.len.result c.split_at.result.1.now c.read_op-op.ensures c.len.ensures c.split_at.ensures.back
+    term_behind c.args.topology.now c.args.number c.args.word.now op c.len.result c.split_at.result.1.now c.read_op-op.ensures c.len.ensures
+    c.split_at.ensures.back
     ∙ ap (λ reading. reading >>= λ location. Ok (record { op = op; location = location })) c.in_ok-location.ensures.location

@@ -8,4 +8,6 @@ use Rattle.calc_query.proofs.selecting.selected_inside.Given as goal
 
 abbrev pub invariant-loop-index : goal.invariant-loop-index
 invariant-loop-index l =
-    l.chosen ≡ collected (λ index outer. has l.before outer && is_picked_among l.topology l.numbering l.part (candidates l.topology l.part.layer (set_of l.topology l.layer outer)) index) l.index
+    l.chosen ≡ collected (λ index outer. has l.before outer
+    && is_picked_among l.topology l.numbering l.part (candidates l.topology l.part.layer (set_of l.topology l.layer outer)) index)
+    l.index

@@ -8,7 +8,8 @@ use Rattle.calc_query.proofs.selecting.union_of.Goals as goal
 use Rattle.calc_query.proofs.selecting.union_of.Goals.{then-has, else-has}
 
 pub loop-index-init : goal.loop-index-init
-loop-index-init c = c.empty-set.ensures ∙ collect_none (λ number index. has c.args.indexes.now index && has (set_of c.args.topology.now c.args.layer index) number)
+loop-index-init c = c.empty-set.ensures ∙ collect_none
+    (λ number index. has c.args.indexes.now index && has (set_of c.args.topology.now c.args.layer index) number)
 
 pub loop-index-preserved : goal.loop-index-preserved
 loop-index-preserved c =
@@ -20,9 +21,13 @@ loop-index-preserved c =
     elim c.if-has.branch [
       | then-has w ↦
           w.set-is ∙ w.union-set.ensures ∙ ap (union set) w.set.ensures
-          ∙ collect_more test set (sets index) index c.loop-index.invariant (λ number low. sym (ap (λ b. b && has (sets index) number) (has_yes indexes index c.has.result c.has.ensures.found w.if-has.true)))
+          ∙ collect_more test set (sets index) index c.loop-index.invariant
+          (λ number low. sym (ap (λ b. b && has (sets index) number)
+          (has_yes indexes index c.has.result c.has.ensures.found w.if-has.true)))
       | else-has w ↦
-          w.set-is ∙ collect_same test set index c.loop-index.invariant (λ number low. and_left (has indexes index) (has (sets index) number) (has_no indexes index c.has.result c.has.ensures.found w.if-has.false))
+          w.set-is ∙ collect_same test set index c.loop-index.invariant
+          (λ number low. and_left (has indexes index) (has (sets index) number)
+          (has_no indexes index c.has.result c.has.ensures.found w.if-has.false))
     ]
 
 pub returns : goal.returns

@@ -2,7 +2,7 @@ use Rattle.std.proofs.Common.{subst}
 use Rattle.std.proofs.lemmas.Result.{IfErr-weaker}
 use Rattle.std.specs.Prelude.{IfErr}
 use Rattle.clof_tool.specs.Outcome.{EndsEarly}
-use Rattle.clof_tool.proofs.Distributions.{early_silent}
+use Rattle.clof_tool.proofs.OnTopologies.{early_silent}
 use Rattle.clof_tool.proofs.answer.answer.Goals as goal
 
 pub returns-in-Distrib-clause-silent : goal.returns-in-Distrib-clause-silent

@@ -1,7 +1,7 @@
 use Rattle.std.proofs.Common.{◌≡◌, ℕ, List, subst, sym, inl, inr}
 use Rattle.std.specs.Prelude.{IfErr}
-use Rattle.clof_tool.specs.Words.{Asked}
-use Rattle.clof_tool.specs.Asked.{plain}
+use Rattle.command_words.specs.Asked.{Asked}
+use Rattle.command_words.specs.Plain.{plain}
 use Rattle.clof_tool.specs.Outcome.{WordsRefused, HasRead, IsAnswer}
 use Rattle.clof_tool.proofs.Stops.{stopped_text}
 use Rattle.clof_tool.proofs.top_call.top.Goals as goal

@@ -1,4 +1,4 @@
-use Rattle.clof_tool.proofs.Distributions.{err_again, not_refused}
+use Rattle.clof_tool.proofs.OnTopologies.{err_again, not_refused}
 use Rattle.clof_tool.proofs.topo_text.topo_text.Goals as goal
 
 pub returns-clause-refused : goal.returns-clause-refused

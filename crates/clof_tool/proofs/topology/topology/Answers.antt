@@ -1,6 +1,27 @@
 use Rattle.std.proofs.Common.{Err, inl, inr, ap, sym, ◌∙◌}
+use Rattle.clof_tool.specs.TopoText.{synth_status, build_status}
 use Rattle.clof_tool.proofs.Topologies.{read_refused, read_built, build_refused, build_built, built_not_refused, only_described}
 use Rattle.clof_tool.proofs.topology.topology.Goals as goal
+
+pub returns-in-Err-clause-err : goal.returns-in-Err-clause-err
+returns-in-Err-clause-err c =
+    elim c.in-Err.ensures.refused [
+      | inl refused ↦ inr (inl (record { fault = c.in-Err.fault; refused = refused; status_is = c.synth_status.ensures.status }))
+      | inr memory ↦ inl (c.synth_status.ensures.status ∙ ap synth_status memory)
+    ]
+
+pub returns-in-Err-build-clause-err : goal.returns-in-Err-build-clause-err
+returns-in-Err-build-clause-err c =
+    elim c.in-Err-build.ensures.refused [
+      | inl refused ↦ inr (inr (record {
+        described = c.in-Ok.description;
+        describes = c.in-Ok.ensures.described;
+        fault = c.in-Err-build.fault;
+        refused = refused;
+        status_is = c.build_status.ensures.status;
+      }))
+      | inr memory ↦ inl (c.build_status.ensures.status ∙ ap build_status memory)
+    ]
 
 pub returns-in-Err-clause-refused : goal.returns-in-Err-clause-refused
 returns-in-Err-clause-refused c status refuses =

@@ -15,16 +15,24 @@ pub returns-in-None-clause-fault : goal.returns-in-None-clause-fault
 returns-in-None-clause-fault c = rw (rule_whole c.args.at c.args.item.now c.in-None.ensures) c.read_range.ensures.fault
 
 pub returns-then-is_empty-clause-fault : goal.returns-then-is_empty-clause-fault
-returns-then-is_empty-clause-fault c = rule_open c.args.at c.args.item.now c.in-Some.low.now c.in-Some.high.now c.in-Some.ensures (sym c.if-is_empty.ensures) ∙ ap Some (sym c.open_fault.ensures)
+returns-then-is_empty-clause-fault c =
+    rule_open c.args.at c.args.item.now c.in-Some.low.now c.in-Some.high.now c.in-Some.ensures (sym c.if-is_empty.ensures)
+    ∙ ap Some (sym c.open_fault.ensures)
 
 pub returns-else-is_empty-clause-first : goal.returns-else-is_empty-clause-first
-returns-else-is_empty-clause-first c = rw (cut_ends c.args.item.now c.in-Some.low.now c.in-Some.high.now c.in-Some.ensures).low_is c.read_range-else-is_empty.ensures.first
+returns-else-is_empty-clause-first c =
+    rw (cut_ends c.args.item.now c.in-Some.low.now c.in-Some.high.now c.in-Some.ensures).low_is c.read_range-else-is_empty.ensures.first
 
 pub returns-else-is_empty-clause-last : goal.returns-else-is_empty-clause-last
-returns-else-is_empty-clause-last c = rw (cut_ends c.args.item.now c.in-Some.low.now c.in-Some.high.now c.in-Some.ensures).high_is c.read_range-else-is_empty.ensures.last
+returns-else-is_empty-clause-last c =
+    rw (cut_ends c.args.item.now c.in-Some.low.now c.in-Some.high.now c.in-Some.ensures).high_is c.read_range-else-is_empty.ensures.last
 
 pub returns-else-is_empty-clause-good : goal.returns-else-is_empty-clause-good
-returns-else-is_empty-clause-good c = rw (rule_cut c.args.at c.args.item.now c.in-Some.low.now c.in-Some.high.now c.in-Some.ensures (sym c.if-is_empty.ensures)) c.read_range-else-is_empty.ensures.good
+returns-else-is_empty-clause-good c =
+    rw (rule_cut c.args.at c.args.item.now c.in-Some.low.now c.in-Some.high.now c.in-Some.ensures (sym c.if-is_empty.ensures))
+    c.read_range-else-is_empty.ensures.good
 
 pub returns-else-is_empty-clause-fault : goal.returns-else-is_empty-clause-fault
-returns-else-is_empty-clause-fault c = rw (rule_cut c.args.at c.args.item.now c.in-Some.low.now c.in-Some.high.now c.in-Some.ensures (sym c.if-is_empty.ensures)) c.read_range-else-is_empty.ensures.fault
+returns-else-is_empty-clause-fault c =
+    rw (rule_cut c.args.at c.args.item.now c.in-Some.low.now c.in-Some.high.now c.in-Some.ensures (sym c.if-is_empty.ensures))
+    c.read_range-else-is_empty.ensures.fault

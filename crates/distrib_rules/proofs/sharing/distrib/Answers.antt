@@ -14,6 +14,8 @@ pub returns-clause-count : goal.returns-clause-count
 returns-clause-count c =
     let way : Way = record { to = c.args.to; backwards = c.args.reverse } in
     let now = c.args.topology.now in
-    let given = λ (old : List (List ℕ)) (count : ℕ). with_pairs now old (expansion now way (shared now c.args.n c.args.from (in_order c.args.reverse (range_with_len 0 count)))) in
-    let all = c.in_ok-share_out.ensures ∙ ap (λ old. given old c.count.result) c.new-masks.ensures.items ∙ ap (given []) c.count.ensures.count in
+    let given = λ (old : List (List ℕ)) (count : ℕ). with_pairs now old
+    (expansion now way (shared now c.args.n c.args.from (in_order c.args.reverse (range_with_len 0 count)))) in
+    let all = c.in_ok-share_out.ensures ∙ ap (λ old. given old c.count.result) c.new-masks.ensures.items
+    ∙ ap (given []) c.count.ensures.count in
     omega (arith, ap length all, as_many now c.depths.ensures.built way c.args.n c.args.from)

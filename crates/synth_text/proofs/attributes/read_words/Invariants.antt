@@ -1,10 +1,10 @@
 use Rattle.std.proofs.Common.{◌≡◌}
-use Rattle.synth_text.specs.Items.{is_white}
-use Rattle.synth_text.specs.Cuts.{pieces}
-use Rattle.synth_text.specs.Views.{text_at}
+use Rattle.byte_text.specs.Classes.{is_white}
+use Rattle.byte_text.specs.Cuts.{pieces}
+use Rattle.byte_text.specs.Views.{text_at}
 use Rattle.synth_text.specs.Attributes.{attributes_in}
 use Rattle.synth_text.specs.AttributeSteps.{with_words}
-use Rattle.synth_text.proofs.CutLaws.{left}
+use Rattle.byte_text.proofs.CutLaws.{left}
 use Rattle.synth_text.proofs.attributes.read_words.Given as goal
 
 -- the rest adds to the attributes so far what the whole text says

@@ -9,10 +9,12 @@ returns-then-last-gt-PU_LIMIT c =
     let inv = c.loop-level.invariant in
     let level = c.level-item.result in
     let rest = drop (c.loop-level.level-index + 1) c.args.levels.now in
-    let e : drop c.loop-level.level-index c.args.levels.now ≡ level ∷ rest = drop_element c.args.levels.now c.loop-level.level-index level c.loop-level-test.true c.level-item.is in
+    let e : drop c.loop-level.level-index c.args.levels.now ≡ level ∷ rest =
+    drop_element c.args.levels.now c.loop-level.level-index level c.loop-level-test.true c.level-item.is in
     let some = rw e at inv.some_each in
     let wide = rw e at inv.product in
-    product_over 4096 (c.loop-level.last * level.arity) (product (arities rest)) _ (rw c.from-last.ensures at c.if-last-gt-PU_LIMIT.true) (product_some rest some.1)
+    product_over 4096 (c.loop-level.last * level.arity) (product (arities rest)) _ (rw c.from-last.ensures at c.if-last-gt-PU_LIMIT.true)
+    (product_some rest some.1)
     (product_goes_on c.loop-level.last level.arity (product (arities rest)) _ wide)
 
 pub loop-level-preserved : goal.loop-level-preserved
@@ -20,7 +22,8 @@ loop-level-preserved c =
     let inv = c.loop-level.invariant in
     let level = c.level-item.result in
     let rest = drop (c.loop-level.level-index + 1) c.args.levels.now in
-    let e : drop c.loop-level.level-index c.args.levels.now ≡ level ∷ rest = drop_element c.args.levels.now c.loop-level.level-index level c.loop-level-test.true c.level-item.is in
+    let e : drop c.loop-level.level-index c.args.levels.now ≡ level ∷ rest =
+    drop_element c.args.levels.now c.loop-level.level-index level c.loop-level-test.true c.level-item.is in
     let some = rw e at inv.some_each in
     let wide = rw e at inv.product in
     let tall = rw e at inv.tree in

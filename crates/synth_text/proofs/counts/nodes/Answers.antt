@@ -16,4 +16,5 @@ returns-in-Some-count_objects-clause-node_count c =
     let above = c.in-Some.memory.above in
     rw c.in-Some.is
     (c.in-Some-count_objects.ensures.0
-    ∙ ap product (ap (λ (n : ℕ). arities (take n levels)) c.min-above.ensures ∙ ap arities (take_min above levels) ∙ sym (take-map (λ level. level.arity) above levels)))
+    ∙ ap product (ap (λ (n : ℕ). arities (take n levels)) c.min-above.ensures ∙ ap arities (take_min above levels)
+    ∙ sym (take-map (λ level. level.arity) above levels)))

@@ -6,4 +6,5 @@ use Rattle.synth_text.proofs.items.items.Goals as goal
 
 pub returns : goal.returns
 returns c =
-    subst (λ (items : List Item). AreItems c.args.text.now 0 items) (append-nil c.loop-item.items.items) (c.loop-item.invariant.completed [] c.in_default.ensures)
+    subst (λ (items : List Item). AreItems c.args.text.now 0 items) (append-nil c.loop-item.items.items)
+    (c.loop-item.invariant.completed [] c.in_default.ensures)

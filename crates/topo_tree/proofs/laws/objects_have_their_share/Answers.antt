@@ -9,6 +9,8 @@ pub returns : goal.returns
 returns c = λ described depth index built below.
     let long = length-set_at described built depth index below in
     record {
-      members = long ∙ sym (div-eq_of_eq-mul_left (some_count described built depth) (sym (widths described built depth) ∙ mul_comm (count_at described depth) (width_at described depth)));
+      members =
+          long ∙ sym (div-eq_of_eq-mul_left (some_count described built depth)
+          (sym (widths described built depth) ∙ mul_comm (count_at described depth) (width_at described depth)));
       some = omega (arith, long, some_width described built depth);
     }

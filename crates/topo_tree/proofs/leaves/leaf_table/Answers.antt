@@ -6,7 +6,13 @@ pub index_mut-requires : goal.index_mut-requires
 index_mut-requires c =
     let numbers = c.args.numbers.now in
     let place = c.loop-position.position in
-    omega (arith, good_low numbers place (c.requires.good place c.loop-position-test.true), ap length c.loop-position.invariant, length-leaf_table (take place numbers))
+    omega (
+      arith,
+      good_low numbers place
+          (c.requires.good place c.loop-position-test.true),
+      ap length c.loop-position.invariant,
+      length-leaf_table (take place numbers),
+    )
 
 pub loop-position-preserved : goal.loop-position-preserved
 loop-position-preserved c =

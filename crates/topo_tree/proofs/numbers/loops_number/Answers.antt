@@ -1,21 +1,15 @@
-use Rattle.std.proofs.Common.{◌≡◌, length, map, get_or, ap, ◌∙◌, arith}
+use Rattle.std.proofs.Common.{◌≡◌, length, map, ap, ◌∙◌, arith}
 use Rattle.std.specs.List.{range_with_len, sum}
 use Rattle.topo_tree.specs.Numbers.{loop_part, loops_number}
-use Rattle.topo_tree.proofs.Numbering.{no_loop, sound_at, loop_turn, single_turn}
+use Rattle.topo_tree.proofs.Numbering.{loop_turn}
 use Rattle.topo_tree.proofs.numbers.loops_number.Goals as goal
-use Rattle.topo_tree.proofs.numbers.loops_number.Goals.{then-given-gt1, else-given-gt1}
 
 pub loop-given-preserved : goal.loop-given-preserved
 loop-given-preserved c =
     let so_far = c.loop-given.invariant in
-    let turn = loop_turn c.args.loops.now c.loop-given.given-index c.loop-given.number c.loop-given.factor c.args.object c.loop-given-test.true c.requires.sound c.requires.few so_far.number so_far.factor so_far.below in
-    let good = sound_at c.args.loops.now c.loop-given.given-index no_loop c.loop-given-test.true c.requires.sound in
-    elim c.if-given-gt1.branch [
-      | then-given-gt1 w ↦ record { number = w.number-is ∙ turn.number; factor = w.factor-is ∙ turn.factor; below = omega (arith, w.number-is, w.factor-is, turn.below) }
-      | else-given-gt1 w ↦
-          let single = single_turn c.args.loops.now c.loop-given.given-index c.loop-given.number c.loop-given.factor c.args.object (get_or c.args.loops.now c.loop-given.given-index no_loop) (omega (arith, w.if-given-gt1.false, good.count.0)) turn in
-          record { number = w.number-is ∙ single.0; factor = w.factor-is ∙ single.1; below = omega (arith, w.number-is, w.factor-is, so_far.below) }
-    ]
+    let turn = loop_turn c.args.loops.now c.loop-given.given-index c.loop-given.number c.loop-given.factor c.args.object
+    c.loop-given-test.true c.requires.sound c.requires.few so_far.number so_far.factor so_far.below in
+    record { number = turn.number; factor = turn.factor; below = omega (arith, turn.below) }
 
 pub returns : goal.returns
 unfolding loops_number
@@ -26,17 +20,20 @@ returns c =
 pub overflow_mul-number : goal.overflow_mul-number
 overflow_mul-number c =
     let so_far = c.loop-given.invariant in
-    let turn = loop_turn c.args.loops.now c.loop-given.given-index c.loop-given.number c.loop-given.factor c.args.object c.loop-given-test.true c.requires.sound c.requires.few so_far.number so_far.factor so_far.below in
+    let turn = loop_turn c.args.loops.now c.loop-given.given-index c.loop-given.number c.loop-given.factor c.args.object
+    c.loop-given-test.true c.requires.sound c.requires.few so_far.number so_far.factor so_far.below in
     omega (arith, turn.part)
 
 pub overflow_add-number : goal.overflow_add-number
 overflow_add-number c =
     let so_far = c.loop-given.invariant in
-    let turn = loop_turn c.args.loops.now c.loop-given.given-index c.loop-given.number c.loop-given.factor c.args.object c.loop-given-test.true c.requires.sound c.requires.few so_far.number so_far.factor so_far.below in
+    let turn = loop_turn c.args.loops.now c.loop-given.given-index c.loop-given.number c.loop-given.factor c.args.object
+    c.loop-given-test.true c.requires.sound c.requires.few so_far.number so_far.factor so_far.below in
     omega (arith, turn.below, turn.next)
 
 pub overflow_mul-factor : goal.overflow_mul-factor
 overflow_mul-factor c =
     let so_far = c.loop-given.invariant in
-    let turn = loop_turn c.args.loops.now c.loop-given.given-index c.loop-given.number c.loop-given.factor c.args.object c.loop-given-test.true c.requires.sound c.requires.few so_far.number so_far.factor so_far.below in
+    let turn = loop_turn c.args.loops.now c.loop-given.given-index c.loop-given.number c.loop-given.factor c.args.object
+    c.loop-given-test.true c.requires.sound c.requires.few so_far.number so_far.factor so_far.below in
     omega (arith, turn.next)

@@ -8,5 +8,6 @@ abbrev pub invariant-loop-level : goal.invariant-loop-level
 invariant-loop-level l =
     record {
       count : l.count ≡ product (take l.level-index (arities l.levels));
-      sets : map (λ depth. depth.items) l.sets.items ≡ map (λ depth. sets_covered l.numbers (product (take depth (arities l.levels)))) (range_with_len 0 (l.level-index + 1));
+      sets : map (λ depth. depth.items) l.sets.items ≡ map (λ depth. sets_covered l.numbers (product (take depth (arities l.levels))))
+          (range_with_len 0 (l.level-index + 1));
     }

@@ -14,17 +14,20 @@ loop-place-preserved c =
     let text = c.loop-place.invariant.0 in
     let place = c.loop-place.place - 1 in
     let one = word_text place (word_of c.args.self.now place) in
-    let added : c.word_len-length.result ≡ length one = c.word_len-length.ensures.length ∙ ap (λ w. length (word_text place w)) c.word.ensures in
+    let added : c.word_len-length.result ≡ length one =
+        c.word_len-length.ensures.length ∙ ap (λ w. length (word_text place w)) c.word.ensures in
     elim c.if-place-count.branch [
       | then-place-count w ↦ (
         (text ++ 44 ∷ []) ++ one,
         omega (arith, w.length-is, added, c.loop-place.invariant.1, length-append (text ++ 44 ∷ []) one, length-append text (44 ∷ [])),
-        hex_next c.args.self.now c.args.count c.loop-place.place place text (omega arith) (omega (arith, w.if-place-count.true)) c.loop-place.invariant.2,
+        hex_next c.args.self.now c.args.count c.loop-place.place place text (omega arith)
+            (omega (arith, w.if-place-count.true)) c.loop-place.invariant.2,
       )
       | else-place-count w ↦ (
         text ++ one,
         omega (arith, w.length-is, added, c.loop-place.invariant.1, length-append text one),
-        hex_first c.args.self.now c.args.count c.loop-place.place place text c.requires.count (omega arith) (omega (arith, w.if-place-count.false)) c.loop-place.auto.place c.loop-place.invariant.2,
+        hex_first c.args.self.now c.args.count c.loop-place.place place text c.requires.count (omega arith)
+            (omega (arith, w.if-place-count.false)) c.loop-place.auto.place c.loop-place.invariant.2,
       )
     ]
 
@@ -37,7 +40,11 @@ overflow_add-length c = omega (arith, c.loop-place.invariant.1, c.loop-place.inv
 pub overflow_add-length-in-loop-place : goal.overflow_add-length-in-loop-place
 overflow_add-length-in-loop-place c =
     let so_far : c.loop-place.length ≤ 1408 = omega (arith, c.loop-place.invariant.1, c.loop-place.invariant.2.bound) in
-    elim c.if-place-count.branch [ then-place-count w ↦ omega (arith, w.length-is, c.word_len-length.ensures.limit) | else-place-count w ↦ omega (arith, w.length-is, c.word_len-length.ensures.limit) ]
+    elim c.if-place-count.branch [ then-place-count w ↦ omega (arith, w.length-is, c.word_len-length.ensures.limit) | else-place-count w
+        ↦ omega (arith, w.length-is, c.word_len-length.ensures.limit) ]
 
 pub returns : goal.returns
-returns c = sym c.loop-place.invariant.1 ∙ ap length (hex_written c.args.self.now c.args.count c.loop-place.place c.loop-place.invariant.0 c.requires.count c.loop-place-test.false c.loop-place.invariant.2)
+returns c =
+    sym c.loop-place.invariant.1 ∙ ap length
+    (hex_written c.args.self.now c.args.count c.loop-place.place c.loop-place.invariant.0 c.requires.count c.loop-place-test.false
+    c.loop-place.invariant.2)

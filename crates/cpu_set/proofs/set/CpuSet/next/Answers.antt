@@ -4,28 +4,35 @@ use Rattle.cpu_set.proofs.Searches.{none_past, numbers_from-Found, found_first, 
 use Rattle.cpu_set.proofs.set.CpuSet.next.Goals as goal
 
 pub returns-then-from-ge-LIMIT-clause-none : goal.returns-then-from-ge-LIMIT-clause-none
-returns-then-from-ge-LIMIT-clause-none c = none_past c.args.self.now c.args.from (IsSet-view c.self.inside.words c.args.self.now c.self.view_is) c.if-from-ge-LIMIT.true
+returns-then-from-ge-LIMIT-clause-none c =
+    none_past c.args.self.now c.args.from (IsSet-view c.self.inside.words c.args.self.now c.self.view_is) c.if-from-ge-LIMIT.true
 
 pub returns-then-from-ge-LIMIT-clause-set : goal.returns-then-from-ge-LIMIT-clause-set
 returns-then-from-ge-LIMIT-clause-set c = IsSet-view c.self.inside.words c.args.self.now c.self.view_is
 
 pub words-init : goal.words-init
-words-init c = none_first c.self.inside.words c.args.self.now c.self.view_is c.self.invariant c.args.from c.if-from-ge-LIMIT.false _ refl c.if-word-ne0.false
+words-init c =
+    none_first c.self.inside.words c.args.self.now c.self.view_is c.self.invariant c.args.from c.if-from-ge-LIMIT.false _ refl
+    c.if-word-ne0.false
 
 pub returns-then-word-ne0-clause-found : goal.returns-then-word-ne0-clause-found
 returns-then-word-ne0-clause-found c =
     numbers_from-Found c.args.self.now c.args.from _ (IsSet-view c.self.inside.words c.args.self.now c.self.view_is)
-    (found_first c.self.inside.words c.args.self.now c.self.view_is c.self.invariant c.args.from c.if-from-ge-LIMIT.false _ refl c.if-word-ne0.true)
+    (found_first c.self.inside.words c.args.self.now c.self.view_is c.self.invariant c.args.from c.if-from-ge-LIMIT.false _ refl
+        c.if-word-ne0.true)
 
 pub returns-then-word-ne0-clause-from : goal.returns-then-word-ne0-clause-from
 returns-then-word-ne0-clause-from c =
-    (found_first c.self.inside.words c.args.self.now c.self.view_is c.self.invariant c.args.from c.if-from-ge-LIMIT.false _ refl c.if-word-ne0.true).from_on
+    (found_first c.self.inside.words c.args.self.now c.self.view_is c.self.invariant c.args.from c.if-from-ge-LIMIT.false _ refl
+        c.if-word-ne0.true).from_on
 
 pub returns-then-word-ne0-clause-set : goal.returns-then-word-ne0-clause-set
 returns-then-word-ne0-clause-set c = IsSet-view c.self.inside.words c.args.self.now c.self.view_is
 
 pub words-preserved : goal.words-preserved
-words-preserved c = none_later c.self.inside.words c.args.self.now c.self.view_is c.self.invariant c.args.from c.if-from-ge-LIMIT.false c.words.place c.words.invariant c.if-word-ne0-2.false
+words-preserved c =
+    none_later c.self.inside.words c.args.self.now c.self.view_is c.self.invariant c.args.from c.if-from-ge-LIMIT.false c.words.place
+    c.words.invariant c.if-word-ne0-2.false
 
 pub returns-then-word-ne0-2-clause-found : goal.returns-then-word-ne0-2-clause-found
 returns-then-word-ne0-2-clause-found c =
@@ -37,7 +44,9 @@ pub returns-then-word-ne0-2-clause-set : goal.returns-then-word-ne0-2-clause-set
 returns-then-word-ne0-2-clause-set c = IsSet-view c.self.inside.words c.args.self.now c.self.view_is
 
 pub returns-clause-none : goal.returns-clause-none
-returns-clause-none c = none_at_all c.self.inside.words c.args.self.now c.self.view_is c.self.invariant c.args.from c.if-from-ge-LIMIT.false c.words.place c.words-test.false c.words.invariant
+returns-clause-none c =
+    none_at_all c.self.inside.words c.args.self.now c.self.view_is c.self.invariant c.args.from c.if-from-ge-LIMIT.false c.words.place
+    c.words-test.false c.words.invariant
 
 pub returns-clause-set : goal.returns-clause-set
 returns-clause-set c = IsSet-view c.self.inside.words c.args.self.now c.self.view_is

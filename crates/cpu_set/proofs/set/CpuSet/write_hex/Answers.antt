@@ -19,10 +19,14 @@ loop-place-preserved c =
     c.in_ok-push_word.ensures ∙ ap (λ w. c.if-place-count.text.items ++ word_text place w) c.word.ensures in
     rw grown (elim c.if-place-count.branch [
       | then-place-count+in_ok-push w ↦ rw (w.text-is, w.in_ok-push.ensures.items)
-          (hex_next c.args.self.now count c.loop-place.place place c.loop-place.text.items (omega arith) (omega (arith, w.if-place-count.true)) c.loop-place.invariant)
+          (hex_next c.args.self.now count c.loop-place.place place c.loop-place.text.items (omega arith)
+              (omega (arith, w.if-place-count.true)) c.loop-place.invariant)
       | else-place-count w ↦ rw w.text-is
-          (hex_first c.args.self.now count c.loop-place.place place c.loop-place.text.items (ap (λ n. n / 32 + 1) c.highest.ensures.number) (omega arith) (omega (arith, w.if-place-count.false)) c.loop-place.auto.place c.loop-place.invariant)
+          (hex_first c.args.self.now count c.loop-place.place place c.loop-place.text.items (ap (λ n. n / 32 + 1) c.highest.ensures.number)
+              (omega arith) (omega (arith, w.if-place-count.false)) c.loop-place.auto.place c.loop-place.invariant)
     ])
 
 pub returns : goal.returns
-returns c = hex_written c.args.self.now (c.highest.result / 32 + 1) c.loop-place.place c.loop-place.text.items (ap (λ n. n / 32 + 1) c.highest.ensures.number) c.loop-place-test.false c.loop-place.invariant
+returns c =
+    hex_written c.args.self.now (c.highest.result / 32 + 1) c.loop-place.place c.loop-place.text.items
+    (ap (λ n. n / 32 + 1) c.highest.ensures.number) c.loop-place-test.false c.loop-place.invariant

@@ -9,4 +9,11 @@ returns-clause-masks c =
     let count = c.args.self.count in
     let place = c.args.place in
     let next : (place + 1) * n ≡ place * n + n = omega arith in
-    omega (arith, c.rounded_up.ensures, c.rounded_up-2.ensures, ap (λ part. rounded_up part count) next, rounded_sum (place * n) n count (omega arith))
+    omega (
+      arith,
+      c.rounded_up.ensures,
+      c.rounded_up-2.ensures,
+      ap (λ part. rounded_up part count) next,
+      rounded_sum (place * n) n count
+          (omega arith),
+    )

@@ -3,7 +3,8 @@ use mathlib.Core.Logic.{dite}
 use native.Mathlib.Decide.{ℕ_discrete}
 use Rattle.mcs_lock.specs.Kinds.{queued_view, entered_view}
 use Rattle.mcs_lock.proofs.Kept.{swaps}
-use Rattle.mcs_lock.proofs.Own.{own_after, alike}
+use Rattle.lock_tables.proofs.Seats.{alike}
+use Rattle.mcs_lock.proofs.Own.{own_after}
 use Rattle.mcs_lock.proofs.steps.Words.fetch_and_store_tail.Goals as goal
 
 pub swap-requires : goal.swap-requires
@@ -19,8 +20,8 @@ swap-requires g c =
 pub returns-clause-seat : goal.returns-clause-seat
 returns-clause-seat g c = dite (ℕ_discrete c.swap.result 0)
     (λ e. own_after _ _ _ _ _ (entered_view c.args.seat.now.me.0) _ c.requires.seat c.swap.ensures.0 (c.swap.ensures.2.0 e).3.0
-    (alike c.args.seat.now.me.0 (entered_view c.args.seat.now.me.0) refl refl refl refl refl refl refl refl refl (omega arith)))
+    (alike c.args.seat.now.me.0 (entered_view c.args.seat.now.me.0) refl refl refl refl refl refl refl refl refl refl (omega arith)))
     (λ ne. own_after _ _ _ _ _ (queued_view c.args.seat.now.me.0 c.swap.result) _ c.requires.seat c.swap.ensures.0
     (c.swap.ensures.2.1 ne).1.0
-    (alike c.args.seat.now.me.0 (queued_view c.args.seat.now.me.0 c.swap.result) refl refl refl refl refl refl refl refl refl
+    (alike c.args.seat.now.me.0 (queued_view c.args.seat.now.me.0 c.swap.result) refl refl refl refl refl refl refl refl refl refl
     (c.swap.ensures.2.1 ne).0))

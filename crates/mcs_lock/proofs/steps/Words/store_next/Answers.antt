@@ -2,7 +2,8 @@ use Rattle.std.proofs.Common.{ap, sym, ◌∙◌, refl, arith}
 use Rattle.mcs_lock.specs.Kinds.{cleared_view}
 use Rattle.mcs_lock.specs.Rule.{next}
 use Rattle.mcs_lock.proofs.Kept.{clears}
-use Rattle.mcs_lock.proofs.Own.{own_after, alike}
+use Rattle.lock_tables.proofs.Seats.{alike}
+use Rattle.mcs_lock.proofs.Own.{own_after}
 use Rattle.mcs_lock.proofs.steps.Words.store_next.Goals as goal
 
 pub store-requires : goal.store-requires
@@ -19,4 +20,4 @@ store-requires g c =
 pub returns-clause-seat : goal.returns-clause-seat
 returns-clause-seat g c = own_after _ _ _ _ _ (cleared_view c.args.seat.now.me.0) _ c.requires.seat c.store.ensures.0 c.store.ensures.2.1.0
     (alike c.args.seat.now.me.0
-    (cleared_view c.args.seat.now.me.0) refl refl refl refl refl refl refl refl refl c.requires.seat.plain.predecessor_within)
+    (cleared_view c.args.seat.now.me.0) refl refl refl refl refl refl refl refl refl refl c.requires.seat.plain.predecessor_within)

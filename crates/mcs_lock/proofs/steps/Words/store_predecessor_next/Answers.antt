@@ -2,7 +2,8 @@ use Rattle.std.proofs.Common.{ℕ, ap, sym, ◌∙◌, refl, arith}
 use Rattle.mcs_lock.specs.Kinds.{linked_view}
 use Rattle.mcs_lock.specs.Rule.{next, pass_named}
 use Rattle.mcs_lock.proofs.Kept.{links}
-use Rattle.mcs_lock.proofs.Own.{own_after, alike}
+use Rattle.lock_tables.proofs.Seats.{alike}
+use Rattle.mcs_lock.proofs.Own.{own_after}
 use Rattle.mcs_lock.proofs.steps.Words.store_predecessor_next.Goals as goal
 
 pub next_of-requires : goal.next_of-requires
@@ -30,4 +31,4 @@ store-requires g c =
 pub returns-clause-seat : goal.returns-clause-seat
 returns-clause-seat g c = own_after _ _ _ _ _ (linked_view c.args.seat.now.me.0) _ c.requires.seat c.store.ensures.0 c.store.ensures.2.1.0
     (alike c.args.seat.now.me.0
-    (linked_view c.args.seat.now.me.0) refl refl refl refl refl refl refl refl refl c.requires.seat.plain.predecessor_within)
+    (linked_view c.args.seat.now.me.0) refl refl refl refl refl refl refl refl refl refl c.requires.seat.plain.predecessor_within)

@@ -2,7 +2,8 @@ use Rattle.std.proofs.Common.{ℕ, ap, sym, ◌∙◌, refl, arith}
 use Rattle.mcs_lock.specs.Kinds.{left_view}
 use Rattle.mcs_lock.specs.Rule.{locked, pass_named}
 use Rattle.mcs_lock.proofs.Kept.{passes}
-use Rattle.mcs_lock.proofs.Own.{own_after, alike}
+use Rattle.lock_tables.proofs.Seats.{alike}
+use Rattle.mcs_lock.proofs.Own.{own_after}
 use Rattle.mcs_lock.proofs.steps.Words.store_successor_locked.Goals as goal
 
 pub locked_of-requires : goal.locked_of-requires
@@ -30,4 +31,4 @@ store-requires g c =
 pub returns-clause-seat : goal.returns-clause-seat
 returns-clause-seat g c = own_after _ _ _ _ _ (left_view c.args.seat.now.me.0) _ c.requires.seat c.store.ensures.0 c.store.ensures.2.1.0
     (alike c.args.seat.now.me.0
-    (left_view c.args.seat.now.me.0) refl refl refl refl refl refl refl refl refl c.requires.seat.plain.predecessor_within)
+    (left_view c.args.seat.now.me.0) refl refl refl refl refl refl refl refl refl refl c.requires.seat.plain.predecessor_within)

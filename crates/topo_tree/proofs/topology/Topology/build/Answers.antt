@@ -5,7 +5,7 @@ use Rattle.synth_text.specs.Rules.{arities, product}
 use Rattle.topo_tree.specs.Building.{pu_numbers}
 use Rattle.topo_tree.specs.Numbers.{is_bad}
 use Rattle.topo_tree.specs.TableLists.{depth_sets, leaf_table}
-use Rattle.topo_tree.specs.CountLaws.{HaveArities, have_arities}
+use Rattle.topo_tree.proofs.CountLaws.{HaveArities, have_arities}
 use Rattle.topo_tree.proofs.Lookups.{length-pu_numbers, pus_good, pus_low, first_refused, next_refused, none_refused}
 use Rattle.topo_tree.proofs.topology.Topology.build.Goals as goal
 
@@ -17,7 +17,8 @@ returns-in_err-nodes-clause-refused c =
 pub returns-in_err-numbers-clause-refused : goal.returns-in_err-numbers-clause-refused
 returns-in_err-numbers-clause-refused c =
     let fault = err_from_is_err_and c.from_residual-in_err-numbers.result c.from_residual-in_err-numbers.ensures.1 in
-    rw (fault.1, fault.2) (next_refused c.args.description c.in_err-numbers.field-0.0 c.in_ok-nodes.ensures.good c.in_err-numbers.ensures.fault)
+    rw (fault.1, fault.2) (next_refused c.args.description c.in_err-numbers.field-0.0 c.in_ok-nodes.ensures.good
+    c.in_err-numbers.ensures.fault)
 
 pub depth_sets-requires-clause-some_each : goal.depth_sets-requires-clause-some_each
 depth_sets-requires-clause-some_each c = subst HaveArities (sym c.as_slice.ensures) (have_arities c.args.description c.requires)
@@ -39,12 +40,18 @@ depth_sets-requires-clause-limit c = λ k d within.
 
 pub leaf_table-requires-clause-few : goal.leaf_table-requires-clause-few
 leaf_table-requires-clause-few c =
-    omega (arith, ap length (c.deref-2.ensures.value ∙ c.in_ok-numbers.ensures.numbers), length-pu_numbers c.args.description, c.requires.pus)
+    omega (
+      arith,
+      ap length (c.deref-2.ensures.value ∙ c.in_ok-numbers.ensures.numbers),
+      length-pu_numbers c.args.description,
+      c.requires.pus,
+    )
 
 pub leaf_table-requires-clause-good : goal.leaf_table-requires-clause-good
 leaf_table-requires-clause-good c = λ place within.
     let same = c.deref-2.ensures.value ∙ c.in_ok-numbers.ensures.numbers in
-    ap (λ numbers. is_bad numbers place) same ∙ pus_good c.args.description c.in_ok-numbers.ensures.good place (omega (arith, within, ap length same))
+    ap (λ numbers. is_bad numbers place) same
+    ∙ pus_good c.args.description c.in_ok-numbers.ensures.good place (omega (arith, within, ap length same))
 
 pub returns-clause-accepted : goal.returns-clause-accepted
 returns-clause-accepted c = none_refused c.args.description c.in_ok-nodes.ensures.good c.in_ok-numbers.ensures.good
@@ -55,7 +62,8 @@ invariant_of-result c =
     record {
       built = record { sound = c.requires; numbered = none_refused described c.in_ok-nodes.ensures.good c.in_ok-numbers.ensures.good };
       sets =
-          c.in_ok-sets.ensures ∙ ap (λ numbers. depth_sets numbers c.as_slice.result.now) (c.deref.ensures.value ∙ c.in_ok-numbers.ensures.numbers)
+          c.in_ok-sets.ensures ∙ ap (λ numbers. depth_sets numbers c.as_slice.result.now)
+          (c.deref.ensures.value ∙ c.in_ok-numbers.ensures.numbers)
           ∙ ap (depth_sets (pu_numbers described)) c.as_slice.ensures;
       numbers = c.in_ok-numbers.ensures.numbers;
       nodes = c.in_ok-nodes.ensures.numbers;

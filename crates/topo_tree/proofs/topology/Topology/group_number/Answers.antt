@@ -13,15 +13,20 @@ loop-above-preserved c =
     let now = c.args.self.now in
     let depth = c.loop-above.above in
     let so_far = c.loop-above.invariant in
-    let within : depth < length (kinds now) = omega (arith, c.requires, c.loop-above-test.true, length-map now.levels (λ (level : Level). level.kind)) in
+    let within : depth < length (kinds now) =
+    omega (arith, c.requires, c.loop-above-test.true, length-map now.levels (λ (level : Level). level.kind)) in
     let tested = ap (λ kind. same_kind kind Group) (sym c.kind.ensures) ∙ sym c.is_same.ensures in
     elim c.if-is_same.branch [
       | then-is_same w ↦ record {
         few = omega (arith, w.number-is, so_far.few);
-        number = w.number-is ∙ ap (λ n. n + 1) so_far.number ∙ sym (count_by_more_yes (λ kind. same_kind kind Group) (kinds now) depth Machine within (tested ∙ w.if-is_same.true));
+        number =
+            w.number-is ∙ ap (λ n. n + 1) so_far.number
+            ∙ sym (count_by_more_yes (λ kind. same_kind kind Group) (kinds now) depth Machine within (tested ∙ w.if-is_same.true));
       }
       | else-is_same w ↦ record {
         few = omega (arith, w.number-is, so_far.few);
-        number = w.number-is ∙ so_far.number ∙ sym (count_by_more_no (λ kind. same_kind kind Group) (kinds now) depth Machine within (tested ∙ w.if-is_same.false));
+        number =
+            w.number-is ∙ so_far.number ∙ sym
+            (count_by_more_no (λ kind. same_kind kind Group) (kinds now) depth Machine within (tested ∙ w.if-is_same.false));
       }
     ]

@@ -16,7 +16,8 @@ loop-depth-preserved c =
     let now = c.args.self.now in
     let depth = c.loop-depth.depth in
     let so_far = c.loop-depth.invariant in
-    let within : depth < length (kinds now) = omega (arith, c.depths-depth-end.ensures.count, c.loop-depth-test.true, length-map now.levels (λ (level : Level). level.kind)) in
+    let within : depth < length (kinds now) =
+    omega (arith, c.depths-depth-end.ensures.count, c.loop-depth-test.true, length-map now.levels (λ (level : Level). level.kind)) in
     let tested = ap (λ kind. same_kind kind Group) (sym c.kind.ensures) ∙ sym c.is_same.ensures in
     let pushed =
     c.in_ok-push.ensures.items ∙ ap (λ numbers. numbers ++ c.loop-depth.number ∷ []) so_far.numbers
@@ -25,12 +26,16 @@ loop-depth-preserved c =
     elim c.if-is_same.branch [
       | then-is_same w ↦ record {
         few = omega (arith, w.number-is, so_far.few);
-        number = w.number-is ∙ ap (λ n. n + 1) so_far.number ∙ sym (count_by_more_yes (λ kind. same_kind kind Group) (kinds now) depth Machine within (tested ∙ w.if-is_same.true));
+        number =
+            w.number-is ∙ ap (λ n. n + 1) so_far.number
+            ∙ sym (count_by_more_yes (λ kind. same_kind kind Group) (kinds now) depth Machine within (tested ∙ w.if-is_same.true));
         numbers = pushed;
       }
       | else-is_same w ↦ record {
         few = omega (arith, w.number-is, so_far.few);
-        number = w.number-is ∙ so_far.number ∙ sym (count_by_more_no (λ kind. same_kind kind Group) (kinds now) depth Machine within (tested ∙ w.if-is_same.false));
+        number =
+            w.number-is ∙ so_far.number ∙ sym
+            (count_by_more_no (λ kind. same_kind kind Group) (kinds now) depth Machine within (tested ∙ w.if-is_same.false));
         numbers = pushed;
       }
     ]

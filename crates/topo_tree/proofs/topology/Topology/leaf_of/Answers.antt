@@ -9,15 +9,15 @@ index-requires c =
     let here = tables c.self.inside c.args.self.now c.self.invariant c.self.view_is in
     omega (arith, ap length here.leaves, length-leaf_table (pu_numbers c.args.self.now))
 
-pub returns-then-physical-lt-NUMBER_LIMIT : goal.returns-then-physical-lt-NUMBER_LIMIT
-returns-then-physical-lt-NUMBER_LIMIT c =
+pub returns-then-physical-lt-LIMIT : goal.returns-then-physical-lt-LIMIT
+returns-then-physical-lt-LIMIT c =
     let now = c.args.self.now in
     let here = tables c.self.inside now c.self.invariant c.self.view_is in
     c.index.ensures ∙ ap (λ leaves. get_or leaves c.args.physical c.index.result.now) here.leaves
-    ∙ leaf_table-at (pu_numbers now) c.args.physical c.index.result.now c.if-physical-lt-NUMBER_LIMIT.true
+    ∙ leaf_table-at (pu_numbers now) c.args.physical c.index.result.now c.if-physical-lt-LIMIT.true
 
-pub returns-else-physical-lt-NUMBER_LIMIT : goal.returns-else-physical-lt-NUMBER_LIMIT
-returns-else-physical-lt-NUMBER_LIMIT c =
+pub returns-else-physical-lt-LIMIT : goal.returns-else-physical-lt-LIMIT
+returns-else-physical-lt-LIMIT c =
     let now = c.args.self.now in
     let here = tables c.self.inside now c.self.invariant c.self.view_is in
-    sym (no_leaf now c.args.physical here.built c.if-physical-lt-NUMBER_LIMIT.false)
+    sym (no_leaf now c.args.physical here.built c.if-physical-lt-LIMIT.false)

@@ -9,7 +9,12 @@ use Rattle.topo_tree.proofs.topology.Topology.numbered_depth.Goals.{then-is_same
 
 pub loop-depth-init : goal.loop-depth-init
 unfolding depths_of
-loop-depth-init c = record { few = omega arith; rest = numbered_first (λ d. same_kind (kind_at c.args.self.now d) c.args.kind) (depth_count c.args.self.now) c.args.number }
+loop-depth-init c =
+    record {
+      few = omega arith;
+      rest = numbered_first (λ d. same_kind (kind_at c.args.self.now d) c.args.kind)
+          (depth_count c.args.self.now) c.args.number;
+    }
 
 pub loop-depth-preserved : goal.loop-depth-preserved
 loop-depth-preserved c =
@@ -35,7 +40,8 @@ loop-depth-preserved c =
         few = omega (arith, w.above-is, c.loop-depth.invariant.few);
         rest =
             ap (λ n. slice_get (passing_from test (depth + 1) (depth_count now)) (number - n)) w.above-is
-            ∙ ap (λ depths. slice_get depths (number - above)) (sym (passing_out test depth (depth_count now) within (tested ∙ w.if-is_same.false)))
+            ∙ ap (λ depths. slice_get depths (number - above))
+            (sym (passing_out test depth (depth_count now) within (tested ∙ w.if-is_same.false)))
             ∙ c.loop-depth.invariant.rest;
       }
     ]

@@ -10,5 +10,6 @@ abbrev pub invariant-loop-depth : goal.invariant-loop-depth
 invariant-loop-depth l =
     record {
       few : l.above ≤ l.number;
-      rest : slice_get (passing_from (λ depth. same_kind (kind_at l.self depth) l.kind) l.depth (depth_count l.self)) (l.number - l.above) ≡ slice_get (depths_of l.self l.kind) l.number;
+      rest : slice_get (passing_from (λ depth. same_kind (kind_at l.self depth) l.kind) l.depth (depth_count l.self))
+          (l.number - l.above) ≡ slice_get (depths_of l.self l.kind) l.number;
     }

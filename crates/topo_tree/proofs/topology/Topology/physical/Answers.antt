@@ -5,7 +5,7 @@ use Rattle.synth_text.specs.Rules.{arities, product}
 use Rattle.topo_tree.specs.Objects.{count_of}
 use Rattle.topo_tree.specs.Building.{pu_numbers}
 use Rattle.topo_tree.specs.Coverage.{physical_of}
-use Rattle.topo_tree.specs.CountLaws.{last_count}
+use Rattle.topo_tree.proofs.CountLaws.{last_count}
 use Rattle.topo_tree.proofs.Lookups.{tables, length-pu_numbers, length-node_numbers}
 use Rattle.topo_tree.proofs.topology.Topology.physical.Goals as goal
 
@@ -15,8 +15,16 @@ index-requires c =
     let index = c.args.object.index in
     let here = tables c.self.inside now c.self.invariant c.self.view_is in
     let below = subst (λ layer. index < count_of now layer) c.in-Depth.is c.requires.index in
-    let last : c.in-Depth.depth ≡ length now.levels = c.if-depth-as_slice.true ∙ ap length c.as_slice.ensures ∙ ap (λ d. length d.levels) c.self.view_is in
-    omega (arith, below, ap (λ depth. product (take depth (arities now.levels))) last, last_count now.levels, ap length here.numbers, length-pu_numbers now)
+    let last : c.in-Depth.depth ≡ length now.levels =
+    c.if-depth-as_slice.true ∙ ap length c.as_slice.ensures ∙ ap (λ d. length d.levels) c.self.view_is in
+    omega (
+      arith,
+      below,
+      ap (λ depth. product (take depth (arities now.levels))) last,
+      last_count now.levels,
+      ap length here.numbers,
+      length-pu_numbers now,
+    )
 
 pub index-requires-in-Memory : goal.index-requires-in-Memory
 index-requires-in-Memory c =
@@ -33,9 +41,17 @@ returns-in-Depth c =
     let depth = c.in-Depth.depth in
     let here = tables c.self.inside now c.self.invariant c.self.view_is in
     let below = subst (λ layer. index < count_of now layer) c.in-Depth.is c.requires.index in
-    let last : depth ≡ length now.levels = c.if-depth-as_slice.true ∙ ap length c.as_slice.ensures ∙ ap (λ d. length d.levels) c.self.view_is in
+    let last : depth ≡ length now.levels =
+    c.if-depth-as_slice.true ∙ ap length c.as_slice.ensures ∙ ap (λ d. length d.levels) c.self.view_is in
     let within : index < length c.self.inside.numbers.items =
-    omega (arith, below, ap (λ d. product (take d (arities now.levels))) last, last_count now.levels, ap length here.numbers, length-pu_numbers now) in
+    omega (
+      arith,
+      below,
+      ap (λ d. product (take d (arities now.levels))) last,
+      last_count now.levels,
+      ap length here.numbers,
+      length-pu_numbers now,
+    ) in
     get_or_read c.self.inside.numbers.items index c.index.result.now within c.index.ensures 0
     ∙ ap (λ numbers. slice_index numbers index) here.numbers
     ∙ sym (ap (λ b. cond b (slice_index (pu_numbers now) index) index) (eq-eqb depth (length now.levels) last))

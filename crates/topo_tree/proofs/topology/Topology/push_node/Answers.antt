@@ -16,5 +16,6 @@ returns c =
     (c.in_ok-push_index.ensures
     ∙ ap (λ o. o ++ (codes " L#" ++ decimal c.args.index))
     (c.in_ok-push_short_name.ensures ∙ ap (λ o. o ++ short_name_of NumaNode) c.in_ok-push_indent.ensures)))
-    ∙ joined_line out (replicate (2 * c.args.depth) 32) (short_name_of NumaNode) (codes " L#") (decimal c.args.index) (node_detail c.physical.result c.args.size) (10 ∷ [])
+    ∙ joined_line out (replicate (2 * c.args.depth) 32) (short_name_of NumaNode) (codes " L#") (decimal c.args.index)
+    (node_detail c.physical.result c.args.size) (10 ∷ [])
     ∙ ap (λ physical. out ++ line c.args.depth (short_name_of NumaNode) c.args.index (node_detail physical c.args.size)) c.physical.ensures

@@ -24,8 +24,13 @@ returns c =
     (c.in_ok-push_index.ensures
     ∙ ap (λ o. o ++ (codes " L#" ++ decimal index))
     (c.in_ok-push_short_name.ensures ∙ ap (λ o. o ++ short_name c.kind-kind.result group) c.in_ok-push_indent.ensures)))
-    ∙ joined_line out (replicate (2 * depth) 32) (short_name c.kind-kind.result group) (codes " L#") (decimal index) (detail c.kind-kind.result c.physical.result c.size.result) (10 ∷ [])
+    ∙ joined_line out (replicate (2 * depth) 32) (short_name c.kind-kind.result group) (codes " L#") (decimal index)
+    (detail c.kind-kind.result c.physical.result c.size.result) (10 ∷ [])
     ∙ ap (λ kind. out ++ line depth (short_name kind group) index (detail kind c.physical.result c.size.result)) c.kind-kind.ensures
-    ∙ ap (λ number. out ++ line depth (short_name (kind_at now depth) number) index (detail (kind_at now depth) c.physical.result c.size.result)) (group_numbers-at now c.args.groups.now depth c.requires.groups c.requires.depth)
-    ∙ ap (λ physical. out ++ line depth (short_name (kind_at now depth) (group_number now depth)) index (detail (kind_at now depth) physical c.size.result)) c.physical.ensures
-    ∙ ap (λ size. out ++ line depth (short_name (kind_at now depth) (group_number now depth)) index (detail (kind_at now depth) (physical_of now (layers.Depth depth) index) size)) c.size.ensures
+    ∙ ap (λ number. out ++ line depth (short_name (kind_at now depth) number) index
+    (detail (kind_at now depth) c.physical.result c.size.result))
+    (group_numbers-at now c.args.groups.now depth c.requires.groups c.requires.depth)
+    ∙ ap (λ physical. out ++ line depth (short_name (kind_at now depth) (group_number now depth)) index
+    (detail (kind_at now depth) physical c.size.result)) c.physical.ensures
+    ∙ ap (λ size. out ++ line depth (short_name (kind_at now depth) (group_number now depth)) index
+    (detail (kind_at now depth) (physical_of now (layers.Depth depth) index) size)) c.size.ensures

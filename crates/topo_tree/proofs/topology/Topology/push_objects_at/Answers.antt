@@ -7,7 +7,7 @@ use Rattle.synth_text.specs.Rules.{arities, product}
 use Rattle.topo_tree.specs.Objects.{count_of, IsObject}
 use Rattle.topo_tree.specs.Order.{object_at}
 use Rattle.topo_tree.specs.Beginnings.{objects_from, objects_at}
-use Rattle.topo_tree.specs.CountLaws.{have_arities, count_some, width_some, product_split, last_count}
+use Rattle.topo_tree.proofs.CountLaws.{have_arities, count_some, width_some, product_split, last_count}
 use Rattle.topo_tree.proofs.Shown.{found_width, some_width, objects_from-first, objects_from-later, objects_more}
 use Rattle.topo_tree.proofs.topology.Topology.push_objects_at.Goals as goal
 use Rattle.topo_tree.proofs.topology.Topology.push_objects_at.Goals.{then-position-width-eq0+in_ok-push, else-position-width-eq0}
@@ -33,7 +33,8 @@ pub loop-depth-preserved : goal.loop-depth-preserved
 loop-depth-preserved c =
     let now = c.args.self.now in
     let some = have_arities now c.depths-depth-end.ensures.built.sound in
-    let pus : c.count-pus.result ≡ product (arities now.levels) = c.count-pus.ensures.count ∙ ap (count_of now) c.pu_layer.ensures.layer ∙ last_count now.levels in
+    let pus : c.count-pus.result ≡ product (arities now.levels) =
+    c.count-pus.ensures.count ∙ ap (count_of now) c.pu_layer.ensures.layer ∙ last_count now.levels in
     let depth = c.loop-depth.depth in
     let position = c.args.position in
     let width = c.count-pus.result / c.count.result in
@@ -43,14 +44,18 @@ loop-depth-preserved c =
           let found = objects_from-first now position depth width is w.if-position-width-eq0.true in
           let split = ap (λ n. product (take depth (arities now.levels)) * n) is ∙ product_split depth (arities now.levels) in
           let below : position / width < product (take depth (arities now.levels)) =
-          div_below position width (product (take depth (arities now.levels))) (omega (arith, is, width_some depth now.levels some)) (omega (arith, split, c.requires.position)) in
+          div_below position width (product (take depth (arities now.levels))) (omega (arith, is, width_some depth now.levels some))
+          (omega (arith, split, c.requires.position)) in
           let within : depth < length now.levels + 1 = omega (arith, c.loop-depth-test.true, c.depths-depth-end.ensures.count) in
           let pushed = ap (λ v. v.items) w.objects-is ∙ w.in_ok-push.ensures.items in
           record {
             order =
                 pushed ∙ ap (λ out. out ++ object_at depth (position / width) ∷ []) c.loop-depth.invariant.order
                 ∙ objects_more now c.args.objects.now.items position depth (object_at depth (position / width) ∷ []) found;
-            objects = All-same (IsObject now) _ _ pushed (All-push (IsObject now) c.loop-depth.objects.items (object_at depth (position / width)) c.loop-depth.invariant.objects (record { layer = within; index = below }));
+            objects =
+                All-same (IsObject now) _ _ pushed
+                (All-push (IsObject now) c.loop-depth.objects.items (object_at depth (position / width)) c.loop-depth.invariant.objects
+                (record { layer = within; index = below }));
           }
       | else-position-width-eq0 w ↦
           let found = objects_from-later now position depth width is w.if-position-width-eq0.false in
@@ -68,4 +73,5 @@ unfolding objects_at
 returns-clause-order c =
     let now = c.args.self.now in
     let all : c.loop-depth.depth ≡ length now.levels + 1 = omega (arith, c.depths-depth-end.ensures.count) in
-    c.loop-depth.invariant.order ∙ ap (λ count. c.args.objects.now.items ++ flat_map (objects_from now c.args.position) (range_with_len 0 count)) all
+    c.loop-depth.invariant.order ∙ ap (λ count. c.args.objects.now.items
+    ++ flat_map (objects_from now c.args.position) (range_with_len 0 count)) all

@@ -10,7 +10,13 @@ index-requires c =
     let now = c.args.self.now in
     let here = tables c.self.inside now c.self.invariant c.self.view_is in
     let place = place_of_object now c.args.object.layer c.args.object.index here.built.sound c.requires.layer c.requires.index in
-    omega (arith, c.depth_of-depth.ensures.depth, place.0, table_length (λ d. d.items) c.self.inside.sets.items (pu_numbers now) now.levels here.sets)
+    omega (
+      arith,
+      c.depth_of-depth.ensures.depth,
+      place.0,
+      table_length (λ d. d.items) c.self.inside.sets.items
+          (pu_numbers now) now.levels here.sets,
+    )
 
 pub index-requires-2 : goal.index-requires-2
 index-requires-2 c =
@@ -31,8 +37,10 @@ returns c =
     let here = tables c.self.inside now c.self.invariant c.self.view_is in
     let place = place_of_object now c.args.object.layer index here.built.sound c.requires.layer c.requires.index in
     let within : depth < length now.levels + 1 = omega (arith, c.depth_of-depth.ensures.depth, place.0) in
-    let found = table_at (λ d. d.items) c.self.inside.sets.items (pu_numbers now) now.levels depth c.index.result.now here.sets within c.index.ensures in
-    let below : index < product (take depth (arities now.levels)) = omega (arith, ap (λ d. product (take d (arities now.levels))) c.depth_of-depth.ensures.depth, place.1) in
+    let found = table_at (λ d. d.items) c.self.inside.sets.items
+    (pu_numbers now) now.levels depth c.index.result.now here.sets within c.index.ensures in
+    let below : index < product (take depth (arities now.levels)) =
+    omega (arith, ap (λ d. product (take d (arities now.levels))) c.depth_of-depth.ensures.depth, place.1) in
     c.index-2.ensures ∙ ap (λ sets. get_or sets index c.index-2.result.now) found
     ∙ sets_covered-at (pu_numbers now) (product (take depth (arities now.levels))) index c.index-2.result.now below
     ∙ ap (λ d. set_covered (pu_numbers now) (product (take d (arities now.levels))) index) c.depth_of-depth.ensures.depth

@@ -10,4 +10,7 @@ returns c =
     let now = c.args.self.now in
     let objects = c.in_ok-objects.objects.items in
     c.loop-object.invariant
-    ∙ ap (flat_map (λ object. lines_of now object.layer object.index)) (ap (take c.loop-object.object-index) c.deref-object-items.ensures.value ∙ take_all c.loop-object.object-index objects (omega (arith, c.loop-object-test.false, ap length c.deref-object-items.ensures.value)) ∙ c.in_ok-objects.ensures.order)
+    ∙ ap (flat_map (λ object. lines_of now object.layer object.index))
+    (ap (take c.loop-object.object-index) c.deref-object-items.ensures.value
+    ∙ take_all c.loop-object.object-index objects
+    (omega (arith, c.loop-object-test.false, ap length c.deref-object-items.ensures.value)) ∙ c.in_ok-objects.ensures.order)

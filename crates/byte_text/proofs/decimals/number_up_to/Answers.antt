@@ -1,0 +1,12 @@
+use Rattle.std.proofs.Common.{sym, arith}
+use Rattle.byte_text.proofs.NumeralLaws.{below_limit, from_limit, none_below}
+use Rattle.byte_text.proofs.decimals.number_up_to.Goals as goal
+
+pub returns-in-Number-clause-number : goal.returns-in-Number-clause-number
+returns-in-Number-clause-number c = let h = c.in-Number.ensures in sym (below_limit _ _ c.args.text.now h.0 h.1 (omega arith))
+
+pub returns-in-TooLarge-clause-number : goal.returns-in-TooLarge-clause-number
+returns-in-TooLarge-clause-number c = let h = c.in-TooLarge.ensures in sym (from_limit _ c.args.text.now (omega arith))
+
+pub returns-in-NotNumeral-clause-number : goal.returns-in-NotNumeral-clause-number
+returns-in-NotNumeral-clause-number c = sym (none_below _ c.args.text.now c.in-NotNumeral.ensures)

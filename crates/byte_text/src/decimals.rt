@@ -1,0 +1,44 @@
+// Decimal numbers within limits.
+ghost use Rattle.std.specs.Prelude.{◌≡◌, ◌+◌, ◌≤◌, IfSome};
+ghost use Rattle.byte_text.specs.Numerals.{number_below, number_in, number_capped};
+
+use crate::numerals::{Numeral, read_numeral};
+
+/// The number that a text writes in decimal digits, leading zeros among them, where it is at most `greatest`. `None` for
+/// each greater number, and for a text that is empty or has a byte that is no digit.
+pub fn number_up_to(greatest: u64, text: &[u8]) -> Option<u64>
+    ensures number { result ≡ number_below (greatest + 1) text.now }
+    ensures bound { IfSome result (λ number. number ≤ greatest) }
+{
+    match read_numeral(10, text, greatest) {
+        Numeral::Number(number) => Some(number),
+        Numeral::TooLarge => None,
+        Numeral::NotNumeral => None,
+    }
+}
+
+/// The number that a text writes in decimal digits, leading zeros among them, where it is from `low` to `high`. `None`
+/// for each other number, and for a text that is empty or has a byte that is no digit.
+pub fn number_in(low: u64, high: u64, text: &[u8]) -> Option<u64>
+    ensures number { result ≡ number_in low high text.now }
+    ensures above { IfSome result (λ number. low ≤ number) }
+    ensures below { IfSome result (λ number. number ≤ high) }
+{
+    match read_numeral(10, text, high) {
+        Numeral::Number(number) => { if low <= number { Some(number) } else { None } }
+        Numeral::TooLarge => None,
+        Numeral::NotNumeral => None,
+    }
+}
+
+/// The number that a text writes in decimal digits, or the greatest u32 where it is over that; `None` for a text that
+/// is empty or has a byte that is no digit.
+pub fn number_capped(text: &[u8]) -> Option<u32>
+    ensures { result ≡ number_capped text.now }
+{
+    match read_numeral(10, text, u64::from(u32::MAX)) {
+        Numeral::Number(number) => Some(number as u32),
+        Numeral::TooLarge => Some(u32::MAX),
+        Numeral::NotNumeral => None,
+    }
+}

@@ -1,0 +1,14 @@
+use Rattle.std.proofs.Common.{◌≡◌, ◌++◌, ◌∷◌, [], ap, ◌∙◌, decimal}
+use Rattle.calc_text.specs.Texts.{step_text}
+use Rattle.calc_text.proofs.Joins.{joined-step}
+use Rattle.calc_text.proofs.items.push_steps.Goals as goal
+
+pub loop-place-preserved : goal.loop-place-preserved
+loop-place-preserved c =
+    let now = c.args.topology.now in
+    let numbering = c.args.numbering in
+    let separated = c.push_separator.new.out.items in
+    joined-step (step_text now numbering) (46 ∷ []) c.args.steps.now c.loop-place.place _ c.args.out.now.items c.loop-place.out.items
+    separated _
+    c.loop-place-test.true c.loop-place.invariant c.in_ok-push_separator.ensures
+    (c.in_ok-push_label.ensures)

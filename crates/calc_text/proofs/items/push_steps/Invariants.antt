@@ -1,0 +1,8 @@
+use Rattle.std.proofs.Common.{◌≡◌, [], ◌∷◌, ◌++◌, take}
+use Rattle.std.specs.List.{join_by}
+use Rattle.calc_text.specs.Texts.{step_text}
+use Rattle.calc_text.proofs.items.push_steps.Given as goal
+
+abbrev pub invariant-loop-place : goal.invariant-loop-place
+invariant-loop-place l =
+    l.out.items ≡ l.fn.out.items ++ join_by (step_text l.topology l.numbering) (46 ∷ []) (take l.place l.steps)

@@ -1,0 +1,80 @@
+// Names and numbers of objects.
+ghost use Rattle.std.specs.Prelude.{◌≡◌, ◌++◌, ◌<◌, OnOk, decimal};
+ghost use Rattle.topo_tree.specs.Objects.{IsLayer, IsObject};
+ghost use Rattle.calc_text.specs.Texts.{has_numbers, label, layer_name, long_name, shown_number};
+
+use byte_text::push_decimal;
+use calc_query::Numbering;
+use std::alloc::AllocError;
+use synth_text::Kind;
+use topo_tree::{Layer, Object, Topology};
+
+/// Appends an object's name, a colon and its number.
+#[tactic(auto, unfolding(crate::specs::Texts::label))]
+pub(crate) fn push_label(
+    out: &mut Vec<u8>,
+    topology: &Topology,
+    numbering: Numbering,
+    object: Object,
+    number: u32,
+) -> Result<(), AllocError>
+    requires { IsObject topology.now object }
+    ensures { OnOk result (out.new.items ≡ out.old.items ++ label topology.now numbering object number) }
+{
+    push_name(out, topology, object.layer)?;
+    out.push(b':')?;
+    push_decimal(
+        out,
+        u64::from(shown_number(topology, numbering, object, number)),
+    )
+}
+
+/// The number that is shown of an object: this one, or its physical one where that is asked for and it has one.
+pub(crate) fn shown_number(
+    topology: &Topology,
+    numbering: Numbering,
+    object: Object,
+    number: u32,
+) -> u32
+    requires { IsObject topology.now object }
+    ensures { result ≡ shown_number topology.now numbering object number }
+{
+    match numbering {
+        Numbering::Physical if has_numbers(topology, object.layer) => topology.physical(object),
+        _ => number,
+    }
+}
+
+// Whether the objects of a layer have physical numbers of their own.
+fn has_numbers(topology: &Topology, layer: Layer) -> bool
+    ensures { result ≡ has_numbers topology.now layer }
+{
+    match layer {
+        Layer::Depth(depth) => depth == topology.depths() - 1,
+        Layer::Memory => true,
+    }
+}
+
+// Appends the name of a layer's objects.
+fn push_name(out: &mut Vec<u8>, topology: &Topology, layer: Layer) -> Result<(), AllocError>
+    requires { IsLayer topology.now layer }
+    ensures { OnOk result (out.new.items ≡ out.old.items ++ layer_name topology.now layer) }
+{
+    match layer {
+        Layer::Depth(depth) => {
+            push_long_name(out, topology.kind(depth), topology.group_number(depth))
+        }
+        Layer::Memory => out.extend_from_slice(Kind::NumaNode.long_name()),
+    }
+}
+
+// Appends the name of a kind, and of a Group its number.
+fn push_long_name(out: &mut Vec<u8>, kind: Kind, number: u32) -> Result<(), AllocError>
+    ensures { OnOk result (out.new.items ≡ out.old.items ++ long_name kind number) }
+{
+    out.extend_from_slice(kind.long_name())?;
+    match kind {
+        Kind::Group => push_decimal(out, u64::from(number)),
+        _ => Ok(()),
+    }
+}

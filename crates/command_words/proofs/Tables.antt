@@ -1,0 +1,41 @@
+-- The commands, by their tables. Each is one of which `clap` tells exactly how it reads words.
+use Rattle.std.proofs.Common.{◌≡◌, List, true, refl, ap, sym, ◌∙◌, codes}
+use Rattle.clap.specs.Words.{Rule, is_simple_and_free}
+use Rattle.clap.proofs.OnLiterals.{clap_on_literals}
+use Rattle.command_words.specs.Commands.{command_of}
+use Rattle.command_words.specs.CalcWords.{calc_rules, calc_command}
+use Rattle.command_words.specs.DistribWords.{distrib_rules, distrib_command}
+use Rattle.command_words.specs.SetWords.{set_rules, set_command}
+use Rattle.command_words.specs.TopoWords.{topo_rules, topo_command}
+
+pub set_made : (rules : List Rule) → rules ≡ set_rules → command_of (codes "set") rules ≡ set_command
+unfolding set_command
+set_made rules is = ap (command_of (codes "set")) is
+
+pub topo_made : (rules : List Rule) → rules ≡ topo_rules → command_of (codes "topo") rules ≡ topo_command
+unfolding topo_command
+topo_made rules is = ap (command_of (codes "topo")) is
+
+pub calc_made : (rules : List Rule) → rules ≡ calc_rules → command_of (codes "calc") rules ≡ calc_command
+unfolding calc_command
+calc_made rules is = ap (command_of (codes "calc")) is
+
+pub distrib_made : (rules : List Rule) → rules ≡ distrib_rules → command_of (codes "distrib") rules ≡ distrib_command
+unfolding distrib_command
+distrib_made rules is = ap (command_of (codes "distrib")) is
+
+pub set_simple : is_simple_and_free set_command ≡ true
+unfolding set_command clap_on_literals
+set_simple = refl
+
+pub topo_simple : is_simple_and_free topo_command ≡ true
+unfolding topo_command clap_on_literals
+topo_simple = refl
+
+pub calc_simple : is_simple_and_free calc_command ≡ true
+unfolding calc_command clap_on_literals
+calc_simple = refl
+
+pub distrib_simple : is_simple_and_free distrib_command ≡ true
+unfolding distrib_command clap_on_literals
+distrib_simple = refl

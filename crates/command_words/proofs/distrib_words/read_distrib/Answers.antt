@@ -1,0 +1,29 @@
+use Rattle.std.proofs.Common.{◌≡◌, ◌∙◌, ap, sym, map, codes, true, string_bytes, inr, refl, option_map}
+use Rattle.clap.specs.Words.{App, is_simple_and_free}
+use Rattle.command_words.specs.Commands.{rule_of}
+use Rattle.command_words.specs.Asked.{Distrib}
+use Rattle.command_words.specs.DistribWords.{distrib_of}
+use Rattle.command_words.proofs.Reading.{asked-some, asked-none, asked-refused}
+use Rattle.command_words.proofs.Tables.{distrib_made, distrib_simple}
+use Rattle.command_words.proofs.distrib_words.read_distrib.Goals as goal
+
+pub matches-requires : goal.matches-requires
+matches-requires c = ap is_simple_and_free (distrib_made (map rule_of c.arguments.result.now) c.arguments.ensures) ∙ distrib_simple
+
+pub returns-in-Some-clause-asked : goal.returns-in-Some-clause-asked
+returns-in-Some-clause-asked c =
+    asked-some distrib_of _ _ (map string_bytes c.args.words.now) (distrib_made (map rule_of c.arguments.result.now) c.arguments.ensures)
+    _ _ c.in-Ok.ensures.read (ap (option_map Distrib) c.in-Some.ensures)
+
+pub returns-in-Ok-clause-refused : goal.returns-in-Ok-clause-refused
+returns-in-Ok-clause-refused c =
+    inr (
+      refl,
+      asked-none distrib_of _ _ (map string_bytes c.args.words.now)
+          (distrib_made (map rule_of c.arguments.result.now) c.arguments.ensures) _ c.in-Ok.ensures.read (ap (option_map Distrib) c.in-None.ensures),
+    )
+
+pub returns-clause-refused : goal.returns-clause-refused
+returns-clause-refused c =
+    asked-refused distrib_of _ _ (map string_bytes c.args.words.now) (distrib_made (map rule_of c.arguments.result.now) c.arguments.ensures)
+    c.in-Err.fault c.in-Err.ensures.refused

@@ -1,0 +1,45 @@
+-- What words ask for.
+use Rattle.std.specs.Prelude.{ℕ, Bool, List, Option}
+use Rattle.clap.specs.Words.{Text}
+
+-- what is asked of a set: itself, the objects of a type that meet it, how many these are, the chains of objects of types
+-- between whose names a dot stands, or the largest objects inside it
+pub data Question : Type 0 where
+  TheSet : Question
+  Intersect : (type_name : Text) → Question
+  NumberOf : (type_name : Text) → Question
+  Hierarchical : (type_names : Text) → Question
+  Largest : Question
+
+-- a question on the set that locations select
+pub record Calculation : Type 0 where
+  pub question : Question
+  -- objects are numbered by their physical numbers
+  pub physical : Bool
+  -- the set has its first number alone
+  pub single : Bool
+  pub taskset : Bool
+  pub separator : Option Text
+  pub description : Text
+  pub locations : List Text
+
+-- where a distribution starts and ends: between two depths, or at one
+pub data Depths : Type 0 where
+  Between : (from to : Option Text) → Depths
+  At : (name : Text) → Depths
+
+-- so many masks of a description
+pub record Distribution : Type 0 where
+  pub masks : ℕ
+  pub depths : Depths
+  pub single : Bool
+  pub reverse : Bool
+  pub taskset : Bool
+  pub description : Text
+
+pub data Asked : Type 0 where
+  Run : Asked
+  Set : (list : Bool) (text : Text) → Asked
+  Topo : (export : Bool) (text : Text) → Asked
+  Calc : (asked : Calculation) → Asked
+  Distrib : (asked : Distribution) → Asked

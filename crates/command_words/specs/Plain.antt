@@ -1,0 +1,54 @@
+-- What the code's reading of the words says, without where its texts lie in memory.
+use Rattle.std.specs.Prelude.{ℕ, List, Option, map, option_map}
+use Rattle.std.specs.Borrow.{Bor}
+use Rattle.command_words.specs.declared.asked.Asked.{Asked}
+use Rattle.command_words.specs.declared.asked.Asked.TheVariants as asked
+use Rattle.command_words.specs.declared.asked.Question.{Question}
+use Rattle.command_words.specs.declared.asked.Question.TheVariants as questions
+use Rattle.command_words.specs.declared.asked.Calculation.{Calculation}
+use Rattle.command_words.specs.declared.asked.Depths.{Depths}
+use Rattle.command_words.specs.declared.asked.Depths.TheVariants as depths
+use Rattle.command_words.specs.declared.asked.Distribution.{Distribution}
+use Rattle.command_words.specs.Asked as words
+
+abbrev pub plain_text : Option (Bor (List ℕ)) → Option (List ℕ)
+plain_text = option_map (λ text. text.now)
+
+abbrev pub plain_question : Question → words.Question
+plain_question questions.Set = words.TheSet
+plain_question (questions.Intersect name) = words.Intersect name.now
+plain_question (questions.NumberOf name) = words.NumberOf name.now
+plain_question (questions.Hierarchical names) = words.Hierarchical names.now
+plain_question questions.Largest = words.Largest
+
+abbrev pub plain_calculation : Calculation → words.Calculation
+plain_calculation given = record {
+  question = plain_question given.question;
+  physical = given.physical;
+  single = given.single;
+  taskset = given.taskset;
+  separator = plain_text given.separator;
+  description = given.description.now;
+  locations = map (λ text. text.now) given.locations.items;
+}
+
+abbrev pub plain_depths : Depths → words.Depths
+plain_depths (depths.Between from to) = words.Between (plain_text from) (plain_text to)
+plain_depths (depths.At name) = words.At name.now
+
+abbrev pub plain_distribution : Distribution → words.Distribution
+plain_distribution given = record {
+  masks = given.masks;
+  depths = plain_depths given.depths;
+  single = given.single;
+  reverse = given.reverse;
+  taskset = given.taskset;
+  description = given.description.now;
+}
+
+abbrev pub plain : Asked → words.Asked
+plain asked.Run = words.Run
+plain (asked.Set list text) = words.Set list text.now
+plain (asked.Topo export text) = words.Topo export text.now
+plain (asked.Calc given) = words.Calc (plain_calculation given)
+plain (asked.Distrib given) = words.Distrib (plain_distribution given)

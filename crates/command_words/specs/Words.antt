@@ -1,0 +1,46 @@
+-- The words of the command line.
+use Rattle.std.specs.Prelude.{◌≡◌, Bool, false, true, List, [], ◌∷◌, Option, Some, None, IsTrue, codes, map, string_bytes, if◌then◌else◌}
+use Rattle.std.specs.List.{list_any}
+use Rattle.std.specs.Str.{bytes_eq}
+use Rattle.std.specs.declared.string.String.{String}
+use Rattle.std.specs.declared.alloc.Global.{Global}
+use Rattle.clap.specs.Words.{Text}
+use Rattle.command_words.specs.Asked.{Asked, Run}
+use Rattle.command_words.specs.CalcWords.{calc_asked}
+use Rattle.command_words.specs.DistribWords.{distrib_asked}
+use Rattle.command_words.specs.SetWords.{set_asked}
+use Rattle.command_words.specs.TopoWords.{topo_asked}
+
+-- `run` stands alone
+abbrev pub run_asked : List Text → Option Asked
+run_asked [] = Some Run
+run_asked (word ∷ words) = None
+
+-- What words ask for. The first one names the command, which reads them.
+unfoldable pub asked_of : List Text → Option Asked
+asked_of [] = None
+asked_of (name ∷ words) =
+    if bytes_eq name (codes "run") then run_asked words
+    else (if bytes_eq name (codes "set") then set_asked (name ∷ words)
+    else (if bytes_eq name (codes "topo") then topo_asked (name ∷ words)
+    else (if bytes_eq name (codes "calc") then calc_asked (name ∷ words)
+    else (if bytes_eq name (codes "distrib") then distrib_asked (name ∷ words) else None))))
+
+abbrev pub Says : List (String Global) → Asked → Type 0
+Says words asked = asked_of (map string_bytes words) ≡ Some asked
+
+-- the words ask for nothing that the program does
+abbrev pub IsUsage : List (String Global) → Type 0
+IsUsage words = asked_of (map string_bytes words) ≡ None
+
+-- the names of the commands whose words `clap` reads
+abbrev pub tabled_names : List Text
+tabled_names = codes "set" ∷ codes "topo" ∷ codes "calc" ∷ codes "distrib" ∷ []
+
+abbrev pub is_tabled : List Text → Bool
+is_tabled [] = false
+is_tabled (name ∷ words) = list_any (bytes_eq name) tabled_names
+
+-- the first word names a command whose words `clap` reads
+abbrev pub IsTabled : List (String Global) → Type 0
+IsTabled words = IsTrue (is_tabled (map string_bytes words))

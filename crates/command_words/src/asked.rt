@@ -1,0 +1,81 @@
+// What words ask for.
+ghost use Rattle.std.specs.Prelude.{◌<◌, ◌^◌, vec_len};
+
+/// What the words ask for.
+#[derive(Drop)]
+pub enum Asked<'a> {
+    /// Serve the sections of the input.
+    Run,
+    /// Print a set, read as a list or in hexadecimal.
+    Set { list: bool, text: &'a [u8] },
+    /// Print the tree of a description, or its canonical text.
+    Topo { export: bool, text: &'a [u8] },
+    /// Answer a question on the set that locations select.
+    Calc(Calculation<'a>),
+    /// Print masks, shared out over the objects of a description.
+    Distrib(Distribution<'a>),
+}
+
+/// What is asked of a set.
+#[derive(Clone, Copy)]
+pub enum Question<'a> {
+    /// The set itself.
+    Set,
+    /// The objects of a type that have a PU of it.
+    Intersect(&'a [u8]),
+    /// How many objects of a type have a PU of it.
+    NumberOf(&'a [u8]),
+    /// The chains of objects of types, between whose names a dot stands.
+    Hierarchical(&'a [u8]),
+    /// The largest objects inside it.
+    Largest,
+}
+
+/// A question on the set that locations select.
+#[derive(Drop)]
+pub struct Calculation<'a> {
+    /// What is asked of the set.
+    pub question: Question<'a>,
+    /// PUs and NUMANodes are numbered by their physical numbers.
+    pub physical: bool,
+    /// The set has its first number alone.
+    pub single: bool,
+    /// Sets are printed in taskset's form.
+    pub taskset: bool,
+    /// What stands between two items of an answer, where that is given.
+    pub separator: Option<&'a [u8]>,
+    /// The description of the topology.
+    pub description: &'a [u8],
+    /// The locations, in order.
+    pub locations: Vec<&'a [u8]>,
+    pub ghost numbered: { vec_len locations < 2 ^ 32 },
+}
+
+/// Where a distribution starts and ends.
+#[derive(Clone, Copy)]
+pub enum Depths<'a> {
+    /// At the depths of two names; where one is absent, at depth 0 and at that of the PUs.
+    Between {
+        from: Option<&'a [u8]>,
+        to: Option<&'a [u8]>,
+    },
+    /// At the depth of one name.
+    At(&'a [u8]),
+}
+
+/// Masks that are shared out over the objects of a description.
+#[derive(Clone, Copy)]
+pub struct Distribution<'a> {
+    /// How many masks.
+    pub masks: u32,
+    /// Where it starts and ends.
+    pub depths: Depths<'a>,
+    /// Each mask has its first number alone.
+    pub single: bool,
+    /// Lists of objects are taken from their ends.
+    pub reverse: bool,
+    /// Masks are printed in taskset's form.
+    pub taskset: bool,
+    /// The description of the topology.
+    pub description: &'a [u8],
+}

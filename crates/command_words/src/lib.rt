@@ -1,0 +1,18 @@
+//! The words of the program's commands, read by `clap`: what they ask for, or that they are a usage error.
+#![tactic(auto)]
+
+mod asked;
+mod calc_words;
+mod command;
+mod distrib_words;
+mod fault;
+mod set_words;
+mod topo_words;
+mod words;
+
+pub use asked::{Asked, Calculation, Depths, Distribution, Question};
+pub use fault::WordsFault;
+pub use words::read_words;
+
+#[cfg(test)]
+mod tests;

@@ -1,0 +1,29 @@
+//! How a call that waits pauses between two of its polls.
+use crossbeam_utils::Backoff;
+
+/// How many polls have a single pause behind each. A lock that goes from one running thread to the next does so within these.
+const EARLY_POLLS: u32 = 100;
+
+/// The pauses of one call. Behind the early polls they grow, and then yield the processor.
+#[derive(Drop)]
+pub(crate) struct Pauses {
+    backoff: Backoff,
+    early: u32,
+}
+
+impl Pauses {
+    pub(crate) fn new() -> Pauses {
+        Pauses {
+            backoff: Backoff::new(),
+            early: EARLY_POLLS,
+        }
+    }
+
+    pub(crate) fn pause(&mut self) {
+        if self.early > 0 {
+            self.early -= 1;
+            self.backoff.reset();
+        }
+        self.backoff.snooze();
+    }
+}

@@ -1,6 +1,0 @@
-use Rattle.std.proofs.lemmas.List.Sums.{prefix_len-le-length}
-use Rattle.synth_text.specs.Classes.{in_class}
-use Rattle.synth_text.proofs.cuts.split_front.Goals as goal
-
-pub split_at-requires : goal.split_at-requires
-split_at-requires c = rw c.front_len.ensures (prefix_len-le-length (in_class c.args.class) c.args.text.now)
