@@ -61,7 +61,7 @@ fn hold_often<B: Basic<Parcel>, R: Wait>(
 
 /// What a thread does with its pass. The checker doesn't yet send a closure to a thread whose body rests on a trait like `Basic`, where an
 /// associated type has a bound with a type argument, so the closures rest on this trait.
-pub(crate) trait Works<P: Placed> {
+pub trait Works<P: Placed> {
     ghost allows: { Self → P → Type 0 };
 
     fn work(&self, pass: P) -> P
@@ -86,7 +86,8 @@ impl<'a, B: Basic<Parcel>, R: Wait> Works<B::Pass> for Shift<'a, B, R> {
     }
 }
 
-pub(crate) fn by_two<P: Placed + Send, W: Works<P> + Sync, R: Threads + Sync>(
+/// Each pass works in a thread of its own.
+pub fn by_two<P: Placed + Send, W: Works<P> + Sync, R: Threads + Sync>(
     rt: &R,
     shift: &W,
     first: P,
@@ -111,7 +112,7 @@ pub(crate) fn by_two<P: Placed + Send, W: Works<P> + Sync, R: Threads + Sync>(
 }
 
 /// Each pass works in a thread of its own.
-pub(crate) fn by_four<P: Placed + Send, W: Works<P> + Sync, R: Threads + Sync>(
+pub fn by_four<P: Placed + Send, W: Works<P> + Sync, R: Threads + Sync>(
     rt: &R,
     shift: &W,
     front: (P, P),
@@ -148,7 +149,7 @@ pub(crate) fn by_four<P: Placed + Send, W: Works<P> + Sync, R: Threads + Sync>(
 }
 
 /// Takes the four passes of a lock out of their list, which is then empty.
-pub(crate) fn apart<V: Cargo, B: Basic<V>>(
+pub fn apart<V: Cargo, B: Basic<V>>(
     _lock: &B,
     passes: &mut Vec<B::Pass>,
 ) -> Option<((B::Pass, B::Pass), (B::Pass, B::Pass))>

@@ -1,0 +1,3 @@
+pub mod LevelItems
+pub mod MemoryItems
+pub mod WholeTexts

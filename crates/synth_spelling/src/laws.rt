@@ -1,0 +1,14 @@
+// Laws of spellings: each is the contract of a function that does nothing.
+ghost use Rattle.synth_spelling.specs.Spelling.{LevelItemsAreSpelled, MemoryItemsAreSpelled, DescriptionsAreSpelled};
+
+/// An item says exactly what it is spelled as: a level item is a name, `:` and a numeral, or a numeral alone, and a memory
+/// item a name of NUMANode in brackets; both may have attributes in parentheses, words `key=value` with gaps between them.
+pub fn items_are_spelled()
+    ensures level { LevelItemsAreSpelled }
+    ensures memory { MemoryItemsAreSpelled }
+{}
+
+/// A text describes something exactly where it is a list of items that are spelled so, which break no rule.
+pub fn descriptions_are_spelled()
+    ensures { DescriptionsAreSpelled }
+{}
