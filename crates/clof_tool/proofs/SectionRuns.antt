@@ -6,8 +6,8 @@ use Rattle.placed_runner.specs.declared.fault.SectionFault.{SectionFault}
 use Rattle.placed_runner.specs.declared.fault.SectionFault.TheVariants as section
 use Rattle.placed_runner.specs.Sections.{IsRefused}
 use Rattle.placed_runner.proofs.Uniqueness.{refusal_once, not_both}
-use Rattle.clof_tool.specs.declared.status.Status.{Status}
-use Rattle.clof_tool.specs.declared.status.Status.TheVariants as statuses
+use Rattle.command_texts.specs.declared.status.Status.{Status}
+use Rattle.command_texts.specs.declared.status.Status.TheVariants as statuses
 use Rattle.clof_tool.specs.Run.{section_status, PrintsSections, RefusesSections}
 
 -- the status of a refusal is its own

@@ -6,10 +6,10 @@ use Rattle.placed_runner.specs.declared.fault.SectionFault.TheVariants as sectio
 use Rattle.placed_runner.specs.Sections.{Placed, Sections, IsRefused}
 use Rattle.placed_runner.specs.Running.{calls_in_order}
 use Rattle.placed_runner.specs.Text.{run_text, one_lock, holds_of}
-use Rattle.clof_tool.specs.declared.status.Fault.TheVariants.{Section, Input}
-use Rattle.clof_tool.specs.declared.status.Status.{Status}
-use Rattle.clof_tool.specs.declared.status.Status.TheVariants as statuses
-use Rattle.clof_tool.specs.TopoText.{IsBuilt}
+use Rattle.command_texts.specs.declared.status.Fault.TheVariants.{Section, Input}
+use Rattle.command_texts.specs.declared.status.Status.{Status}
+use Rattle.command_texts.specs.declared.status.Status.TheVariants as statuses
+use Rattle.command_texts.specs.TopoText.{IsBuilt}
 
 -- the greatest length of an input
 abbrev pub input_limit : ℕ

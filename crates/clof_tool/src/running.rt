@@ -1,10 +1,10 @@
 // What `run` prints.
 ghost use Rattle.std.specs.Prelude.{◌≡◌, ◌⊎◌, ◌≤◌, ℕ, List, length, map, IfOk, IfErr, IsOk, sum_by};
-ghost use Rattle.clof_tool.specs.declared.status.Status.{Status as AnyStatus};
+ghost use Rattle.command_texts.specs.declared.status.Status.{Status as AnyStatus};
 ghost use Rattle.placed_runner.specs.Sections.{caller_limit};
 ghost use Rattle.placed_runner.specs.Views.{section_view};
 ghost use Rattle.clof_tool.specs.Run.{input_limit, section_status, text_in_order, PrintsSections, RefusesSections};
-ghost use Rattle.clof_tool.specs.Outcome.{EndsEarly};
+ghost use Rattle.command_texts.specs.Ends.{EndsEarly};
 
 use crate::{Fault, Status};
 use kv_history::Journal;

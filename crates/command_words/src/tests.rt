@@ -83,9 +83,7 @@ fn reads_sets_topologies_and_runs(rt: HostRuntime) -> Result<(), Fail> {
     assert!(rt;
         matches!(
             read_words(alloc, &words),
-            Ok(Asked::Run {
-                description: b"-1"
-            })
+            Ok(Asked::Run { description: b"-1" })
         )
     );
     Ok(())

@@ -42,8 +42,7 @@ begins_once described text section other behind after first second =
     let there : place_of described second.head.place ≡ Some section.place =
     ap (λ (h : Head). place_of described h.place) (sym heads) ∙ first.place in
     let also = second.place in
-    let place : section.place ≡ other.place = cc in
-    (
+    let place : section.place ≡ other.place = cc in (
       ap (λ (p : Place). record { place = p; bytes = section.bytes }) place
           ∙ ap (λ (b : List ℕ). record { place = other.place; bytes = b }) bytes,
       cc,

@@ -62,5 +62,9 @@ pub reads_within : (described : Description) (sections : List Written) (text res
     → sum_by (λ section. length section.bytes) sections + length rest ≤ length text
 reads_within described [] text rest reads = omega (arith, ap length reads)
 reads_within described (section ∷ sections) text rest reads =
-    omega (arith, begins_longer described text section reads.0 reads.1, reads_within described sections reads.0 rest reads.2,
-    sum_by-cons (λ (s : Written). length s.bytes) section sections)
+    omega (
+      arith,
+      begins_longer described text section reads.0 reads.1,
+      reads_within described sections reads.0 rest reads.2,
+      sum_by-cons (λ (s : Written). length s.bytes) section sections,
+    )

@@ -4,7 +4,15 @@ ghost use Rattle.std.specs.List.{enumerate_from};
 ghost use Rattle.out_of_memory.specs.Memory.{UnlessMemory};
 ghost use Rattle.placed_runner.specs.declared.fault.SectionFault.TheVariants as faults;
 ghost use Rattle.placed_runner.specs.Sections.{
-    caller_limit, BeginsWith, ReadsTo, FrontBreaks, IsRefused, AreSections, Sections, placed};
+  caller_limit,
+  BeginsWith,
+  ReadsTo,
+  FrontBreaks,
+  IsRefused,
+  AreSections,
+  Sections,
+  placed,
+};
 ghost use Rattle.placed_runner.specs.Views.{written_view, section_view};
 
 use crate::fault::SectionFault;

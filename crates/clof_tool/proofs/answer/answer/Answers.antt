@@ -4,8 +4,9 @@ use Rattle.std.specs.Prelude.{IfErr}
 use Rattle.edge_io.specs.Counts.{Rose}
 use Rattle.command_words.specs.declared.asked.Asked.{Asked}
 use Rattle.command_words.specs.Plain.{plain}
-use Rattle.clof_tool.specs.Outcome.{EndsEarly, IsInput, IsAnswer, ReadsInput}
-use Rattle.clof_tool.proofs.OnTopologies.{early_silent}
+use Rattle.command_texts.specs.Ends.{EndsEarly}
+use Rattle.command_texts.proofs.OnTopologies.{early_silent}
+use Rattle.clof_tool.specs.Outcome.{IsInput, IsAnswer, ReadsInput}
 use Rattle.clof_tool.proofs.answer.answer.Goals as goal
 
 pub returns-in-Distrib-clause-silent : goal.returns-in-Distrib-clause-silent

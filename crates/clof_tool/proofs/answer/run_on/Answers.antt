@@ -1,6 +1,6 @@
 use Rattle.std.proofs.Common.{subst}
 use Rattle.clof_tool.specs.Run.{PrintsSections, Refuses}
-use Rattle.clof_tool.proofs.OnTopologies.{err_again, not_refused}
+use Rattle.command_texts.proofs.OnTopologies.{err_again, not_refused}
 use Rattle.clof_tool.proofs.answer.run_on.Goals as goal
 
 pub returns-in-Ok-clause-words_unread : goal.returns-in-Ok-clause-words_unread

@@ -21,16 +21,24 @@ sum_texts : (texts : List (Bor (List ℕ)))
     → sum_by (λ (one : Bor (List ℕ)). length one.now) texts ≡ sum_by (λ (one : List ℕ). length one) (map (λ one. one.now) texts)
 sum_texts [] = refl
 sum_texts (text ∷ texts) =
-    omega (arith, sum_texts texts, sum_by-cons (λ (one : Bor (List ℕ)). length one.now) text texts,
-    sum_by-cons (λ (one : List ℕ). length one) text.now (map (λ one. one.now) texts))
+    omega (
+      arith,
+      sum_texts texts,
+      sum_by-cons (λ (one : Bor (List ℕ)). length one.now) text texts,
+      sum_by-cons (λ (one : List ℕ). length one) text.now (map (λ one. one.now) texts),
+    )
 
 sum_sections : (sections : List Section)
     → sum_by (λ (section : Section). length section.bytes.now) sections
     ≡ sum_by (λ (one : List ℕ). length one) (map (λ section. section.bytes.now) sections)
 sum_sections [] = refl
 sum_sections (section ∷ sections) =
-    omega (arith, sum_sections sections, sum_by-cons (λ (one : Section). length one.bytes.now) section sections,
-    sum_by-cons (λ (one : List ℕ). length one) section.bytes.now (map (λ one. one.bytes.now) sections))
+    omega (
+      arith,
+      sum_sections sections,
+      sum_by-cons (λ (one : Section). length one.bytes.now) section sections,
+      sum_by-cons (λ (one : List ℕ). length one) section.bytes.now (map (λ one. one.bytes.now) sections),
+    )
 
 pub reserve-requires : goal.reserve-requires
 reserve-requires c =

@@ -40,18 +40,21 @@ pub returns-in_default-split_bytes-clause-refused : goal.returns-in_default-spli
 returns-in_default-split_bytes-clause-refused c =
     let text = c.args.text.now in
     let head = head_view c.in-Some-read_head.head in
-    inl (refl, (
-      head,
-      c.in-Ok.place,
-      record {
-        line = c.in-Some.line.now;
-        behind = c.in-Some.behind.now;
-        cut = c.in-Some.ensures;
-        head_is = sym c.in-Some-read_head.ensures;
-      },
-      c.in-Ok.ensures.found,
-      λ section behind begins.
-          let parts = section_behind c.args.topology.now text c.in-Some.line.now c.in-Some.behind.now head section behind
-          c.in-Some.ensures (sym c.in-Some-read_head.ensures) begins in
-          c.in_default-split_bytes.ensures section.bytes behind parts.0 parts.1,
-    ))
+    inl (
+      refl,
+      (
+        head,
+        c.in-Ok.place,
+        record {
+          line = c.in-Some.line.now;
+          behind = c.in-Some.behind.now;
+          cut = c.in-Some.ensures;
+          head_is = sym c.in-Some-read_head.ensures;
+        },
+        c.in-Ok.ensures.found,
+        λ section behind begins.
+            let parts = section_behind c.args.topology.now text c.in-Some.line.now c.in-Some.behind.now head section behind
+            c.in-Some.ensures (sym c.in-Some-read_head.ensures) begins in
+            c.in_default-split_bytes.ensures section.bytes behind parts.0 parts.1,
+      ),
+    )

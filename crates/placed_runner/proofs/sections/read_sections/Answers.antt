@@ -15,8 +15,13 @@ placed_length : (described : Description) (written : List Written) (sections : L
     → map section_view sections ≡ placed described written → length sections ≡ length written
 unfolding placed
 placed_length described written sections is =
-    omega (arith, ap length is, length-map sections section_view, length-enumerate_from 0 written,
-    length-map (enumerate_from 0 written) (placed_at described (length written)))
+    omega (
+      arith,
+      ap length is,
+      length-map sections section_view,
+      length-enumerate_from 0 written,
+      length-map (enumerate_from 0 written) (placed_at described (length written)),
+    )
 
 -- and as many bytes
 sum_placed : (described : Description) (n k : ℕ) (written : List Written)
@@ -24,16 +29,24 @@ sum_placed : (described : Description) (n k : ℕ) (written : List Written)
     ≡ sum_by (λ (w : Written). length w.bytes) written
 sum_placed described n k [] = refl
 sum_placed described n k (first ∷ written) =
-    omega (arith, sum_placed described n (k + 1) written, sum_by-cons (λ (w : Written). length w.bytes) first written,
-    sum_by-cons (λ (p : Placed). length p.bytes) (placed_at described n (k, first))
-    (map (placed_at described n) (enumerate_from (k + 1) written)))
+    omega (
+      arith,
+      sum_placed described n (k + 1) written,
+      sum_by-cons (λ (w : Written). length w.bytes) first written,
+      sum_by-cons (λ (p : Placed). length p.bytes) (placed_at described n (k, first))
+          (map (placed_at described n) (enumerate_from (k + 1) written)),
+    )
 
 sum_views : (sections : List Section)
     → sum_by (λ (s : Section). length s.bytes.now) sections ≡ sum_by (λ (p : Placed). length p.bytes) (map section_view sections)
 sum_views [] = refl
 sum_views (first ∷ sections) =
-    omega (arith, sum_views sections, sum_by-cons (λ (s : Section). length s.bytes.now) first sections,
-    sum_by-cons (λ (p : Placed). length p.bytes) (section_view first) (map section_view sections))
+    omega (
+      arith,
+      sum_views sections,
+      sum_by-cons (λ (s : Section). length s.bytes.now) first sections,
+      sum_by-cons (λ (p : Placed). length p.bytes) (section_view first) (map section_view sections),
+    )
 
 placed_sum : (described : Description) (written : List Written) (sections : List Section)
     → map section_view sections ≡ placed described written
@@ -46,13 +59,20 @@ pub returns-in-Ok-clause-few : goal.returns-in-Ok-clause-few
 returns-in-Ok-clause-few c =
     let written = c.in_ok-written.written.items in
     let placed_are = c.in-Ok.ensures.placed ∙ ap (λ ws. placed c.args.topology.now (map written_view ws)) c.deref.ensures.value in
-    omega (arith, placed_length c.args.topology.now (map written_view written) c.in-Ok.sections.items placed_are,
-    length-map written written_view, c.in_ok-written.ensures.few)
+    omega (
+      arith,
+      placed_length c.args.topology.now (map written_view written) c.in-Ok.sections.items placed_are,
+      length-map written written_view,
+      c.in_ok-written.ensures.few,
+    )
 
 pub returns-in-Ok-clause-small : goal.returns-in-Ok-clause-small
 returns-in-Ok-clause-small c =
     let described = c.args.topology.now in
     let written = c.in_ok-written.written.items in
     let placed_are = c.in-Ok.ensures.placed ∙ ap (λ ws. placed described (map written_view ws)) c.deref.ensures.value in
-    omega (arith, placed_sum described (map written_view written) c.in-Ok.sections.items placed_are,
-    reads_within described (map written_view written) c.args.input.now [] c.in_ok-written.ensures.sections)
+    omega (
+      arith,
+      placed_sum described (map written_view written) c.in-Ok.sections.items placed_are,
+      reads_within described (map written_view written) c.args.input.now [] c.in_ok-written.ensures.sections,
+    )
