@@ -3,3 +3,4 @@ pub mod OnTopologies
 pub mod Masks
 pub mod Stops
 pub mod Topologies
+pub mod RunAnswers

@@ -8,6 +8,7 @@ ghost use Rattle.clof_tool.specs.Run.{input_limit, Prints, IsNotYet};
 
 use crate::{Fault, Status};
 use kv_history::Journal;
+use mc_text::one_reading;
 use placed_runner::{Section, read_first, run_in_order, text};
 use std::alloc::Global;
 
@@ -19,7 +20,11 @@ pub(crate) fn run_text(alloc: Global, input: &[u8]) -> Result<Vec<u8>, Status>
         (status ≡ Status.OutOfMemory) ⊎ ((status ≡ Status.Malformed (SectionOf NotYet)) × IsNotYet input.now)) }
 {
     match read_first(input) {
-        Ok(Some(section)) => section_text(alloc, &section),
+        Ok(Some(section)) => {
+            // By this law, the commands and the rest that are printed are the ones that fit the section.
+            one_reading();
+            section_text(alloc, &section)
+        }
         Ok(None) => Ok(Vec::new(alloc)),
         Err(fault) => Err(Status::Malformed(Fault::Section(fault))),
     }

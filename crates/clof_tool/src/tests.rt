@@ -330,12 +330,24 @@ fn long_input(alloc: Global, length: usize) -> Result<Vec<u8>, Fail> {
 #[test]
 fn takes_values_and_keys_up_to_their_limits(rt: HostRuntime) -> Result<(), Fail> {
     let alloc = rt.alloc();
-    let cases = [
-        (250, 1_048_576, Status::Ok),
-        (251, 1_048_576, NOT_YET),
-        (250, 1_048_577, NOT_YET),
+    let cases: [(usize, usize, &[u8]); 3] = [
+        (
+            250,
+            1_048_576,
+            b"\" \"STORED\\r\\n\"\ncaller 0 pu 0 commands 1 rest 0\n",
+        ),
+        (
+            251,
+            1_048_576,
+            b"\" \"ERROR\\r\\n\"\ncaller 0 pu 0 commands 2 rest 0\n",
+        ),
+        (
+            250,
+            1_048_577,
+            b"\" \"SERVER_ERROR object too large for cache\\r\\n\"\ncaller 0 pu 0 commands 1 rest 0\n",
+        ),
     ];
-    for (key, value, status) in cases {
+    for (key, value, end) in cases {
         let mut section = Vec::new(alloc);
         section.extend_from_slice(b"set ")?;
         section.extend_from_slice(&filled(alloc, b'k', key)?)?;
@@ -347,14 +359,8 @@ fn takes_values_and_keys_up_to_their_limits(rt: HostRuntime) -> Result<(), Fail>
         let mut input = Vec::new(alloc);
         push_input(&mut input, &section)?;
         let ended = call(&rt, alloc, &["run"], input)?;
-        assert_eq!(rt; ended.status, status);
-        if ended.status == Status::Ok {
-            assert!(rt;
-                ended
-                    .out
-                    .ends_with(b"\" \"STORED\\r\\n\"\ncaller 0 pu 0 commands 1 rest 0\n")
-            );
-        }
+        assert_eq!(rt; ended.status, Status::Ok);
+        assert!(rt; ended.out.ends_with(end));
     }
     serves(&rt, alloc, b"set k 0 0 4294967295\r\nx\r\n", &[], 25)
 }

@@ -1,7 +1,6 @@
 use Rattle.std.proofs.Common.{◌≡◌, ℕ, inr, ap, ◌∙◌}
 use Rattle.std.proofs.lemmas.Result.{IfOk-weaker}
 use Rattle.mc_text.specs.Reading.{commands_of, rest_of}
-use Rattle.mc_text.proofs.Sections.{section_spelled}
 use Rattle.placed_runner.specs.Input.{IsLoneSection}
 use Rattle.placed_runner.specs.Text.{section_text}
 use Rattle.clof_tool.proofs.running.run_text.Goals as goal
@@ -17,7 +16,7 @@ returns-in-Ok-Some-clause-ok c =
       commands = commands_of bytes;
       rest = rest_of bytes;
       served = served;
-      spelled = section_spelled bytes;
+      spelled = c.one_reading.ensures.exists bytes;
       printed = printed ∙ ap (λ (at : ℕ). section_text at (commands_of bytes) (rest_of bytes)) pu;
     }))
     c.section_text.ensures.ok
