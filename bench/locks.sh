@@ -2,7 +2,8 @@
 # Times crates/lock_bench beside the same work over Concurrency Kit (Debian's libck-dev), both in turn, five times each, and prints a table:
 # lock, threads, nanoseconds a hold (the median) of each, and the ratio. It needs a built lock_bench (rt run in crates/lock_bench).
 #
-#   bench/locks.sh [LOCK..]       by default: ticket mcs clh hemlock. Concurrency Kit has no Hemlock: there it stands beside the MCS lock
+#   bench/locks.sh [LOCK[:THREADS]..]     by default ticket mcs clh hemlock, each with 1, 2 and 4 threads, in about a minute. mcs:4 is one line of
+#                                         the table, in a few seconds. Concurrency Kit has no Hemlock: there it stands beside the MCS lock
 set -eu
 cd "$(dirname "$0")/.."
 ours=crates/lock_bench/out/lock_bench
@@ -22,9 +23,11 @@ median() { sort -n | sed -n 3p; }
 
 printf '%s, %s processors, load %s\n' "$(sed -n 's/^model name[^:]*: //p' /proc/cpuinfo | head -1)" "$(nproc)" "$(cut -d' ' -f1 /proc/loadavg)"
 printf '%-8s %7s %12s %12s %6s\n' lock threads 'ns here' 'ns ck' ratio
-for lock in "$@"; do
+for word in "$@"; do
+  lock=${word%%:*}
   case $lock in hemlock) peer=mcs ;; *) peer=$lock ;; esac
-  for threads in 1 2 4; do
+  case $word in *:*) counts=${word#*:} ;; *) counts='1 2 4' ;; esac
+  for threads in $counts; do
     case $threads in 1) holds=10000000 ;; 2) holds=2000000 ;; *) holds=500000 ;; esac
     here=$(mktemp); there=$(mktemp)
     for _ in 1 2 3 4 5; do

@@ -29,7 +29,7 @@ module _ {P Pass Held : Type 0} (rest : Pass → Rest) (stand : Held → Stand (
     (releasing : IsSomeAnd (kept_stand stand high).root (IsReleasing calls tag (kept_stand stand high).context.tag level keep node))
     (payload : r₁.payload ≡ r.payload)
     (noted : r₁.trail ≡ record r.trail { current = option_map (λ u. tested u level yes) r.trail.current; noted = level + 1 })
-    (lawful : IsTrail r₁.trail) where
+    (lawful : IsTrail r₁.trail) (was : IsTrail r.trail) where
   rel : IsReleasing calls tag (kept_stand stand high).context.tag level keep node r
   rel = at_root (IsReleasing calls tag (kept_stand stand high).context.tag level keep node) (kept_stand stand high).root r value releasing
 
@@ -40,19 +40,19 @@ module _ {P Pass Held : Type 0} (rest : Pass → Rest) (stand : Held → Stand (
   high₁ = high_with_root put high r₁
 
   pub stands_noted : IsStanding stands high₁
-  stands_noted = stays r₁ (noted_kept calls tag (kept_stand stand high).context.tag level keep node yes r r₁ rel payload noted lawful
+  stands_noted = stays r₁ (noted_kept calls tag (kept_stand stand high).context.tag level keep node yes r r₁ rel payload noted lawful was
       (kept_stand stand high).context.level)
 
   pub ready_above : (yes ≡ true → keep ≤ kept) → IsSomeAnd (kept_stand stand high₁).root (MayRelease calls tag (kept_stand stand
       high).context.tag (level + 1) node)
   ready_above full = some_with (MayRelease calls tag (kept_stand stand high).context.tag (level + 1) node) (kept_stand stand high)
       (kept_stand stand high₁) r₁ (others r₁)
-      (may_release_above calls tag (kept_stand stand high).context.tag level keep node yes r r₁ rel payload noted lawful (level + 1) refl
+      (may_release_above calls tag (kept_stand stand high).context.tag level keep node yes r r₁ rel payload noted lawful was (level + 1) refl
       (λ e below. let f : keep ≤ kept = full e in let k = kept_is in absurd (omega (arith, f, below, k))))
 
   turn_is : r₁.trail.current ≡ Some (tested rel.turn level yes)
   turn_is = ap (λ (s : TrailState). s.current) (noted_is calls tag (kept_stand stand high).context.tag level keep node yes r r₁ rel
-      payload noted lawful)
+      payload noted lawful was)
 
   tests_noted : tests_in (kept_stand stand high₁).root ≡ (tested rel.turn level yes).tests
   tests_noted = ap (λ (s : Stand (Root P)). tests_in s.root) (others r₁) ∙ ap tests_of turn_is
@@ -62,10 +62,10 @@ module _ {P Pass Held : Type 0} (rest : Pass → Rest) (stand : Held → Stand (
 
   pub bit_noted : bit_at (tests_in (kept_stand stand high₁).root) level ≡ bit_of yes
   bit_noted = ap (λ (n : ℕ). bit_at n level) tests_noted ∙ bit_is calls tag (kept_stand stand high).context.tag level keep node yes r r₁
-      rel payload noted lawful
+      rel payload noted lawful was
 
   same_tests : SameBelow level (tests_in (kept_stand stand high).root) (tested rel.turn level yes).tests
-  same_tests j h = below_same calls tag (kept_stand stand high).context.tag level keep node yes r r₁ rel payload noted lawful j h
+  same_tests j h = below_same calls tag (kept_stand stand high).context.tag level keep node yes r r₁ rel payload noted lawful was j h
       ∙ sym (ap (λ (n : ℕ). bit_at n j) tests_before)
 
   pub same_noted : SameBelow level (tests_in (kept_stand stand high).root) (tests_in (kept_stand stand high₁).root)
@@ -82,7 +82,7 @@ module _ {P Pass Held : Type 0} (rest : Pass → Rest) (stand : Held → Stand (
     module _ (answered : yes ≡ true) (below : kept < keep) where
       pub may_leave : IfSome r₁'.trail.current (MayLeave r₁'.trail level)
       may_leave = subst (λ (q : Root P). IfSome q.trail.current (MayLeave q.trail level)) root_same
-          (may_leave_here calls tag (kept_stand stand high).context.tag level keep node yes r r₁ rel payload noted lawful kept answered
+          (may_leave_here calls tag (kept_stand stand high).context.tag level keep node yes r r₁ rel payload noted lawful was kept answered
           below kept_is)
 
       module _ (others₁ : (x : Root P) → kept_stand stand (high_with_root put high₁ x) ≡ record (kept_stand stand high₁) { root = Some x })
@@ -117,7 +117,7 @@ module _ {P Pass Held : Type 0} (rest : Pass → Rest) (stand : Held → Stand (
 
         pub stands_left : IsStanding stands (high_with_root put high₁ r₂)
         stands_left = stays₁ r₂ (subst (λ (q : Root P). IsKept calls (kept_stand stand high₁).context.level q r₂) root_same
-            (left_kept calls tag (kept_stand stand high).context.tag level keep node yes r r₁ rel payload noted lawful kept answered
+            (left_kept calls tag (kept_stand stand high).context.tag level keep node yes r r₁ rel payload noted lawful was kept answered
             below kept_is r₂ payload₃ trail₃ lawful₂ (kept_stand stand high₁).context.level (let a = above₁ in omega (arith, a))))
 
         pub context_left : (kept_stand stand (high_with_root put high₁ r₂)).context ≡ (kept_stand stand high).context
@@ -125,7 +125,7 @@ module _ {P Pass Held : Type 0} (rest : Pass → Rest) (stand : Held → Stand (
 
         pub fits_left : IsOwnFit rest stand calls tag stands node (kept + 1) yes (high_with_root put high₁ r₂)
         fits_left =
-            let over = left_over calls tag (kept_stand stand high).context.tag level keep node yes r r₁ rel payload noted lawful kept
+            let over = left_over calls tag (kept_stand stand high).context.tag level keep node yes r r₁ rel payload noted lawful was kept
             answered below kept_is r₂ payload₃ trail₃ lawful₂ in
             let over' : IsHandedOver calls tag (kept_stand stand (high_with_root put high₁ r₂)).context.tag level node (kept + 1) r₂ =
             subst (λ (x : Context). IsHandedOver calls tag x.tag level node (kept + 1) r₂) (sym context_left) over in

@@ -7,3 +7,7 @@ pub mod Owned
 pub mod Released
 pub mod Tried
 pub mod Keeping
+pub mod Nodes
+pub mod Stages
+pub mod Lists
+pub mod Parents

@@ -1,7 +1,7 @@
 -- How a node's holder notes the answer of `waiter`, and keeps the high lock or not.
 use Rattle.std.proofs.Common.{◌≡◌, ℕ, ◌+◌, ◌<◌, Bool, true, false, List, [], ◌∷◌, ◌++◌, refl, ap, sym, ◌∙◌, subst, arith}
 use Rattle.std.proofs.Common.{Option, Some, None}
-use Rattle.std.specs.Prelude.{IfSome, option_map, slice_index}
+use Rattle.std.specs.Prelude.{All, IfSome, option_map, slice_index}
 use Rattle.std.specs.Int.{bit_at}
 use Rattle.std.proofs.lemmas.List.{append-nil}
 use Rattle.std.proofs.lemmas.List.Elements.{All-nil, All-cons}
@@ -10,7 +10,7 @@ use mathlib.Core.Logic.{dite}
 use native.Mathlib.Decide.{ℕ_discrete}
 use Rattle.lock_rules.specs.Tag.{Tag}
 use Rattle.keep_local.specs.declared.turn.Turn.{Turn}
-use Rattle.keep_local.specs.Shapes.{top_of, node_of}
+use Rattle.keep_local.specs.Shapes.{top_of, callers_of, node_of}
 use Rattle.keep_local.specs.Turns.{run, last_turn, IsDue}
 use Rattle.keep_local.specs.States.{TrailState, IsTrail, IsNoting, MayLeave, callers_in, all_turns, option_list, left_at, tested}
 use Rattle.keep_local.proofs.Runs.{run_same}
@@ -20,7 +20,7 @@ use Rattle.clof_compose.specs.Owns.{IsHandedOver, bit_of}
 use Rattle.clof_compose.specs.Releases.{IsReleasing}
 use Rattle.clof_compose.specs.Roots.{root_tag, IsKept}
 use Rattle.clof_compose.specs.declared.root.Root.{Root}
-use Rattle.clof_compose.proofs.Begun.{last_push, leaves_at_level}
+use Rattle.clof_compose.proofs.Begun.{all_last, last_push, leaves_at_level}
 use Rattle.clof_compose.proofs.Tops.{calls_closed, closed_is}
 
 callers_noted : (turns : List Turn) (t u : Turn) → t.caller ≡ u.caller → callers_in (turns ++ t ∷ []) ≡ callers_in (turns ++ u ∷ [])
@@ -30,7 +30,7 @@ callers_noted (x ∷ xs) t u e = λ i. x.caller ∷ callers_noted xs t u e i
 module _ {P : Type 0} (calls : P → List ℕ) (tag : P → Tag) (t : Tag) (level keep node : ℕ) (yes : Bool) (r r₁ : Root P) (is : IsReleasing
     calls tag t level keep node r) (payload : r₁.payload ≡ r.payload)
     (trail : r₁.trail ≡ record r.trail { current = option_map (λ u. tested u level yes) r.trail.current; noted = level + 1 }) (lawful :
-    IsTrail r₁.trail) where
+    IsTrail r₁.trail) (was : IsTrail r.trail) where
   abbrev noted_turn : Turn
   noted_turn = tested is.turn level yes
 
@@ -43,11 +43,19 @@ module _ {P : Type 0} (calls : P → List ℕ) (tag : P → Tag) (t : Tag) (leve
   shape_same : r₁.trail.shape ≡ r.trail.shape
   shape_same = ap (λ (s : TrailState). s.shape) noted_is
 
+  -- the open turn is of a caller of the shape, and so under the node
+  near : node_of r.trail.shape is.turn.caller level ≡ node
+  near =
+      let all : All (λ u. u.caller < callers_of r.trail.shape) (r.trail.closed ++ is.turn ∷ []) = subst (λ (o : Option Turn). All (λ u.
+      u.caller < callers_of r.trail.shape) (r.trail.closed ++ option_list o)) is.now was.known in
+      is.near (all_last (λ u. u.caller < callers_of r.trail.shape) (r.trail.closed ++ is.turn ∷ []) is.turn (last_push r.trail.closed
+      is.turn) all)
+
   -- nothing was noted at this level before
   no_bit : bit_at is.turn.tests level ≡ 0
   no_bit =
       let noting : IsNoting r.trail.shape r.trail.noted is.turn = subst (λ (o : Option Turn). IfSome o (λ u. IsNoting r.trail.shape
-      r.trail.noted u)) is.now is.trail.noting in
+      r.trail.noted u)) is.now was.noting in
       let small = bit_at-lt is.turn.tests level in
       dite (ℕ_discrete (bit_at is.turn.tests level) 1)
       (λ e. let below : level < r.trail.noted = noting.tests level e in let n = is.noted in absurd (omega (arith, below, n)))
@@ -111,7 +119,7 @@ module _ {P : Type 0} (calls : P → List ℕ) (tag : P → Tag) (t : Tag) (leve
     context = record {
       lowest = λ e. absurd (omega (arith, e, up));
       higher = λ k e. let k_is : k ≡ level = omega (arith, e, up) in sym (ap (λ (n : ℕ). node_of r₁.trail.shape is.turn.caller n) k_is
-          ∙ ap (λ s. node_of s is.turn.caller level) shape_same ∙ is.near);
+          ∙ ap (λ s. node_of s is.turn.caller level) shape_same ∙ near);
     };
     noted = ap (λ (s : TrailState). s.noted) noted_is ∙ sym up;
     undue = λ j h due. dite (ℕ_discrete j level)
@@ -160,7 +168,7 @@ module _ {P : Type 0} (calls : P → List ℕ) (tag : P → Tag) (t : Tag) (leve
             last_is = ap last_turn closed ∙ last_push r₁.trail.closed (left_at noted_turn level);
             left = refl;
             near = ap (λ (s : TrailState). node_of s.shape is.turn.caller level) left_is
-                ∙ ap (λ s. node_of s is.turn.caller level) shape_same ∙ is.near;
+                ∙ ap (λ s. node_of s is.turn.caller level) shape_same ∙ near;
             kept_is = omega (arith, counted, before, after, kept_is);
           }
 

@@ -97,7 +97,7 @@ map_some v (Some a) b e = (a, refl, cc)
 -- all passes of the top lock have those of its basic lock
 pub top_passes : {T L : Type 0} (low : T → L) (place : L → Place) (at : T
     → ℕ) (level count : ℕ) (name tag : Tag) (passes : List T) (lows : List L)
-    → AreAll (λ p. top_context (at p) (place (low p))) (IsOfTop level name tag) count passes → lows ≡ map low passes
+    → AreAll (λ p. top_context (at p) (place (low p))) (IsOfTop level name tag) level tag count passes → lows ≡ map low passes
     → length lows ≡ length passes → AreAllLow place name tag count lows
 top_passes {T} {L} low place at level count name tag passes lows are e long = record {
   all = long ∙ are.all;
@@ -112,18 +112,20 @@ top_passes {T} {L} low place at level count name tag passes lows are e long = re
 -- the passes of a top lock as it is made
 pub fresh_passes : {L : Type 0} (place : L → Place) (level made count : ℕ) (name tag : Tag) (passes : List (TopPass L)) (lows : List L)
     → made ≡ count → AreAllLow place name tag made lows → passes ≡ map (fresh_pass level) lows → length passes ≡ length lows
-    → AreAll (λ p. top_context p.level (place p.low)) (IsOfTop level name tag) count passes
+    → AreAll (λ p. top_context p.level (place p.low)) (IsOfTop level name tag) level tag count passes
 fresh_passes {L} place level made count name tag passes lows same are e long = record {
   all = long ∙ are.all ∙ same;
   each = λ k p here.
       let found = map_some (fresh_pass level) (slice_get lows k) p (sym (slice_get-map (fresh_pass level) lows k)
       ∙ sym (ap (λ (l : List (TopPass L)). slice_get l k) e) ∙ here) in
       let is = are.each k found.0 found.1 in
-      let at : IsNumber (IsOfTop level name tag) k (top_context level (place found.0)) = record {
+      let at : IsNumber (IsOfTop level name tag) level tag k (top_context level (place found.0)) = record {
         own = record { pass_is = record { lock_is = ap (λ q. q.lock) is; tag_is = ap (λ q. q.tag) is }; context_is = refl };
+        level_is = refl;
+        tag_is = ap (λ q. q.tag) is;
         number_is = ap (λ q. q.number) is;
       } in
-      subst (λ (q : TopPass L). IsNumber (IsOfTop level name tag) k (top_context q.level (place q.low))) found.2 at;
+      subst (λ (q : TopPass L). IsNumber (IsOfTop level name tag) level tag k (top_context q.level (place q.low))) found.2 at;
 }
 
 pub all_fresh : {L : Type 0} (level : ℕ) (lows : List L) → AreFresh (map (fresh_pass level) lows)

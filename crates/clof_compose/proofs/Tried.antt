@@ -50,13 +50,13 @@ may_release_lowest calls tag t level number caller share r r₁ lowest has conte
     }
 
 -- the passes of two contexts
-pub two_passes : {T : Type 0} (context : T → Context) (has : Context → Type 0) (count : ℕ) (passes front rest : List T) (a b : T)
-    → AreAll context has count passes → count ≡ 2
-    → passes ≡ front ++ b ∷ [] → front ≡ rest ++ a ∷ [] → IsNumber has 0 (context a) × IsNumber has 1 (context b)
-two_passes {T} context has count passes front [] a b are two e f =
+pub two_passes : {T : Type 0} (context : T → Context) (has : Context → Type 0) (level : ℕ) (tag : Tag) (count : ℕ) (passes front rest : List T) (a b : T)
+    → AreAll context has level tag count passes → count ≡ 2
+    → passes ≡ front ++ b ∷ [] → front ≡ rest ++ a ∷ [] → IsNumber has level tag 0 (context a) × IsNumber has level tag 1 (context b)
+two_passes {T} context has level tag count passes front [] a b are two e f =
     let is : passes ≡ a ∷ b ∷ [] = e ∙ ap (λ (l : List T). l ++ b ∷ []) f in
     (are.each 0 a (ap (λ (l : List T). slice_get l 0) is), are.each 1 b (ap (λ (l : List T). slice_get l 1) is))
-two_passes context has count passes front (x ∷ xs) a b are two e f =
+two_passes context has level tag count passes front (x ∷ xs) a b are two e f =
     let all = are.all in absurd (omega (
       arith,
       all,
@@ -68,19 +68,24 @@ two_passes context has count passes front (x ∷ xs) a b are two e f =
           (a ∷ []),
     ))
 
-each_of_two : {T : Type 0} (context : T → Context) (has : Context → Type 0) (a b : T) → IsNumber has 0 (context a)
-    → IsNumber has 1 (context b)
-    → (k : ℕ) (p : T) → slice_get (a ∷ b ∷ []) k ≡ Some p → IsNumber has k (context p)
-each_of_two {T} context has a b at_0 at_1 zero p e = let is : a ≡ p = cc in subst (λ (x : T). IsNumber has 0 (context x)) is at_0
-each_of_two {T} context has a b at_0 at_1 (suc zero) p e = let is : b ≡ p = cc in subst (λ (x : T). IsNumber has 1 (context x)) is at_1
-each_of_two context has a b at_0 at_1 (suc (suc k)) p e = absurd (cc)
+each_of_two : {T : Type 0} (context : T → Context) (has : Context → Type 0) (level : ℕ) (tag : Tag) (a b : T)
+    → IsNumber has level tag 0 (context a) → IsNumber has level tag 1 (context b)
+    → (k : ℕ) (p : T) → slice_get (a ∷ b ∷ []) k ≡ Some p → IsNumber has level tag k (context p)
+each_of_two {T} context has level tag a b at_0 at_1 zero p e =
+    let is : a ≡ p = cc in subst (λ (x : T). IsNumber has level tag 0 (context x)) is at_0
+each_of_two {T} context has level tag a b at_0 at_1 (suc zero) p e =
+    let is : b ≡ p = cc in subst (λ (x : T). IsNumber has level tag 1 (context x)) is at_1
+each_of_two context has level tag a b at_0 at_1 (suc (suc k)) p e = absurd (cc)
 
-pub are_two : {T : Type 0} (context : T → Context) (has : Context → Type 0) (count : ℕ) (passes front rest : List T) (a b : T)
-    → count ≡ 2 → IsNumber has 0 (context a) → IsNumber has 1 (context b)
-    → passes ≡ front ++ b ∷ [] → front ≡ rest ++ a ∷ [] → rest ≡ [] → AreAll context has count passes
-are_two {T} context has count passes front rest a b two at_0 at_1 e f g =
+pub are_two : {T : Type 0} (context : T → Context) (has : Context → Type 0) (level : ℕ) (tag : Tag) (count : ℕ) (passes front rest : List T) (a b : T)
+    → count ≡ 2 → IsNumber has level tag 0 (context a) → IsNumber has level tag 1 (context b)
+    → passes ≡ front ++ b ∷ [] → front ≡ rest ++ a ∷ [] → rest ≡ [] → AreAll context has level tag count passes
+are_two {T} context has level tag count passes front rest a b two at_0 at_1 e f g =
     let is : passes ≡ a ∷ b ∷ [] = e ∙ ap (λ (l : List T). l ++ b ∷ []) (f ∙ ap (λ (l : List T). l ++ a ∷ []) g) in
-    subst (λ (l : List T). AreAll context has count l) (sym is) (record { all = sym two; each = each_of_two context has a b at_0 at_1 })
+    subst (λ (l : List T). AreAll context has level tag count l) (sym is) (record {
+      all = sym two;
+      each = each_of_two context has level tag a b at_0 at_1;
+    })
 
 -- the shares of two callers with one turn each
 pub two_shares : (name : TableId) (shares front rest : List ShareState) (a b : ShareState) → shares ≡ new_shares name (1 ∷ 1 ∷ [])

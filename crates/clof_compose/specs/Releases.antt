@@ -2,9 +2,9 @@
 use Rattle.std.specs.Prelude.{◌≡◌, ℕ, ◌<◌, List, Some, slice_index}
 use Rattle.lock_rules.specs.Tag.{Tag}
 use Rattle.keep_local.specs.declared.turn.Turn.{Turn}
-use Rattle.keep_local.specs.Shapes.{top_of, node_of}
+use Rattle.keep_local.specs.Shapes.{top_of, callers_of, node_of}
 use Rattle.keep_local.specs.Turns.{IsDue}
-use Rattle.keep_local.specs.States.{callers_in, all_turns, IsTrail}
+use Rattle.keep_local.specs.States.{callers_in, all_turns}
 use Rattle.clof_compose.specs.Roots.{root_tag}
 use Rattle.clof_compose.specs.declared.root.Root.{Root}
 
@@ -12,12 +12,11 @@ use Rattle.clof_compose.specs.declared.root.Root.{Root}
 -- in the shape
 pub record IsReleasing {P : Type 0} (calls : P → List ℕ) (tag : P
     → Tag) (root_tag_is : Tag) (level keep node : ℕ) (r : Root P) : Type 0 where
-  pub trail : IsTrail r.trail
   pub tagged : root_tag tag r ≡ root_tag_is
   pub calls_are : calls r.payload ≡ callers_in (all_turns r.trail)
   pub turn : Turn
   pub now : r.trail.current ≡ Some turn
-  pub near : node_of r.trail.shape turn.caller level ≡ node
+  pub near : turn.caller < callers_of r.trail.shape → node_of r.trail.shape turn.caller level ≡ node
   pub keep_is : keep ≡ slice_index r.trail.shape.keeps level
   pub below_top : level < top_of r.trail.shape
   pub noted : r.trail.noted ≡ level

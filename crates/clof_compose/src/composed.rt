@@ -1,12 +1,15 @@
 //! The contract of a composed lock.
-ghost use Rattle.std.specs.Prelude.{◌≡◌, ◌+◌, ◌≤◌, ℕ, IsSomeAnd};
+ghost use Rattle.std.specs.Prelude.{◌≡◌, ◌+◌, ◌≤◌, ℕ, IsSomeAnd, Some};
+ghost use Rattle.std.specs.Borrow.{Lends, sem};
 ghost use Rattle.lock_rules.specs.Tag.{Tag};
 ghost use Rattle.lock_rules.specs.Steps.{IfNot, IfGot};
 ghost use Rattle.clof_compose.specs.Contexts.{Context};
 ghost use Rattle.clof_compose.specs.Courses.{course_of};
 ghost use Rattle.clof_compose.specs.Calls.{MayTurn, HasOpened, MayRelease, HasClimbed, HasDescended, SameBelow, tests_in};
 ghost use Rattle.clof_compose.specs.Passes.{AreAll};
-ghost use Rattle.clof_compose.specs.Roots.{root_tag, IsFit};
+ghost use Rattle.clof_compose.specs.Roots.{root_tag, IsFit, IsKept};
+ghost use Rattle.clof_compose.specs.declared.root.Root.{Root as TheRoot};
+ghost use Rattle.clof_compose.specs.contracts.root.Root.{the_row};
 
 use crate::payload::Payload;
 use crate::root::Root;
@@ -111,7 +114,7 @@ pub trait Composed<P: Payload>: Sized {
     /// Takes the lock apart, with all its passes in the order of their numbers.
     fn close(self, passes: Vec<Self::Pass>) -> Root<P>
         requires sound { sound self }
-        requires all { AreAll (λ p. (Self.Pass.rest p).context) (has self) (count self) passes.items }
+        requires all { AreAll (λ p. (Self.Pass.rest p).context) (has self) (level self) (tag self) (count self) passes.items }
         ensures fit { IsFit P.calls result }
         ensures tagged { root_tag P.tag result ≡ tag self };
 
@@ -127,5 +130,68 @@ pub trait Composed<P: Payload>: Sized {
         ensures { result ≡ (Self.Leave.descent leave.now).level }
     {
         leave.leaves_at()
+    }
+
+    /// Lends the root.
+    final fn root(held: &mut Self::Held) -> &mut Root<P>
+        requires stands { Self.Held.stands held.old }
+        ensures* writes_back { sem 𝓛 (Lends Self.Held.row (the_row P.row) held.entry result (Self.Held.put_root held.old)) }
+        ensures value { (Self.Held.stand held.old).root ≡ Some result.now }
+        ensures others { (r : TheRoot P) → Self.Held.stand (Self.Held.put_root held.old r)
+            ≡ record (Self.Held.stand held.old) { root = Some r } }
+        ensures stays { (r : TheRoot P) → IsKept P.calls (Self.Held.stand held.old).context.level result.now r
+            → Self.Held.stands (Self.Held.put_root held.old r) }
+    {
+        held.root()
+    }
+
+    /// Waits until the pass holds the lock.
+    final fn acquire<R: Wait>(&self, rt: &R, pass: Self::Pass, share: &mut Share) -> Self::Held
+        requires sound { sound self.now }
+        requires own { has self.now (Self.Pass.rest pass).context }
+        requires share { MayTurn (course_of (tag self.now)) (level self.now) (Self.Pass.rest pass).context.number share.old }
+        ensures held { (Self.Held.stand result).context ≡ (Self.Pass.rest pass).context }
+        ensures stands { Self.Held.stands result }
+        ensures made { share.new ≡ record share.old { made = share.old.made + 1 } }
+        ensures opened { IsSomeAnd (Self.Held.stand result).root (HasOpened P.calls P.tag (tag self.now) (level self.now) share.new) }
+    {
+        let mut queue = match self.begin(pass, share) {
+            Step::Got(held) => return held,
+            Step::Not(queue) => queue,
+        };
+        let backoff = Backoff::new();
+        for _ in rt.forever() {
+            queue = match self.poll(queue, share) {
+                Step::Got(held) => return held,
+                Step::Not(queue) => queue,
+            };
+            backoff.snooze();
+        }
+        unreachable!()
+    }
+
+    /// Leaves the lock, and waits until the pass is idle again.
+    final fn release<R: Wait>(&self, rt: &R, held: Self::Held) -> Self::Pass
+        requires sound { sound self.now }
+        requires own { has self.now (Self.Held.stand held).context }
+        requires stands { Self.Held.stands held }
+        requires root { IsSomeAnd (Self.Held.stand held).root (MayRelease P.calls P.tag (tag self.now) (level self.now)
+            (Self.Held.stand held).context.number) }
+        ensures pass { (Self.Pass.rest result).context ≡ (Self.Held.stand held).context }
+        ensures tests { SameBelow (level self.now) (tests_in (Self.Held.stand held).root) (Self.Pass.rest result).tests }
+    {
+        let mut leave = match self.begin_release(held) {
+            Step::Got(pass) => return pass,
+            Step::Not(leave) => leave,
+        };
+        let backoff = Backoff::new();
+        for _ in rt.forever() {
+            leave = match self.poll_release(leave) {
+                Step::Got(pass) => return pass,
+                Step::Not(leave) => leave,
+            };
+            backoff.snooze();
+        }
+        unreachable!()
     }
 }

@@ -6,6 +6,7 @@ ghost use Rattle.lock_rules.specs.declared.step.Answer.TheVariants.{Open};
 ghost use Rattle.clof_compose.specs.Levels.{level_context, kept_stand, own_with_root, IsHolding, IsStanding};
 ghost use Rattle.clof_compose.specs.Stages.{queue_climb, IsQueued, leave_descent, IsLeaving};
 
+use crate::context_id::ContextId;
 use crate::own::Own;
 use crate::own_cargo::kept_root;
 use crate::payload::Payload;
@@ -17,38 +18,30 @@ use lock_rules::{Departing, Held as Holds, Holding, Placed, Queueing};
 #[derive(Drop)]
 pub struct LevelPass<L> {
     pub(crate) low: L,
-    pub(crate) node: u32,
-    pub(crate) number: u32,
-    pub(crate) level: u32,
+    pub(crate) id: ContextId,
     pub(crate) tests: u32,
 }
 
 #[derive(Drop)]
 pub struct LevelHeld<P, Pass, Held> {
     pub(crate) low: Holds<Own<P, Pass, Held>>,
-    pub(crate) node: u32,
-    pub(crate) number: u32,
-    pub(crate) level: u32,
+    pub(crate) id: ContextId,
 }
 
 #[derive(Drop)]
 pub struct LevelQueue<P, Q, Pass, Held, HQ> {
     pub(crate) stage: QueueStage<P, Q, Pass, Held, HQ>,
-    pub(crate) node: u32,
-    pub(crate) number: u32,
-    pub(crate) level: u32,
+    pub(crate) id: ContextId,
 }
 
 #[derive(Drop)]
 pub struct LevelLeave<P, L, Pass, Held, HL> {
     pub(crate) stage: LeaveStage<P, L, Pass, Held, HL>,
-    pub(crate) node: u32,
-    pub(crate) number: u32,
-    pub(crate) level: u32,
+    pub(crate) id: ContextId,
 }
 
 impl<L: Placed> Resting for LevelPass<L> {
-    ghost rest = { λ p. record { context = level_context p.level p.node p.number (L.place p.low); tests = p.tests } };
+    ghost rest = { λ p. record { context = level_context p.id.level p.id.node p.id.number (L.place p.low); tests = p.tests } };
 
     fn tests(&self) -> u32 {
         self.tests
@@ -57,12 +50,12 @@ impl<L: Placed> Resting for LevelPass<L> {
 
 impl<P: Payload, Pass: Resting, Held: Standing<P>> Standing<P> for LevelHeld<P, Pass, Held> {
     ghost stand = { λ h. record {
-      context = level_context h.level h.node h.number (holder_of h.low).place;
+      context = level_context h.id.level h.id.node h.id.number (holder_of h.low).place;
       root =
           (kept_stand Held.stand h.low.value.high).root;
     } };
 
-    ghost stands = { λ h. IsHolding h.level h.low.value.node h.low.value.kept (holder_of h.low).place.tag
+    ghost stands = { λ h. IsHolding h.id.level h.low.value.node h.low.value.kept (holder_of h.low).place.tag
         (IsStanding Held.stands h.low.value.high) (kept_stand Held.stand h.low.value.high) × ((holder_of h.low).tested ≡ Open) };
 
     ghost put_root = { λ h r. record h { low = with_value h.low (own_with_root Held.put_root h.low.value r) } };
@@ -75,13 +68,13 @@ impl<P: Payload, Pass: Resting, Held: Standing<P>> Standing<P> for LevelHeld<P, 
 
 impl<P: Payload, Q: Queueing, Pass: Resting, Held: Standing<P>, HQ: Climbing> Climbing
     for LevelQueue<P, Q, Pass, Held, HQ> {
-    ghost climb = { λ q. queue_climb Q.waiting HQ.climb q.level q.node q.number q.stage };
+    ghost climb = { λ q. queue_climb Q.waiting HQ.climb q.id.level q.id.node q.id.number q.stage };
 
-    ghost climbs = { λ q. IsQueued HQ.climb HQ.climbs q.level q.stage };
+    ghost climbs = { λ q. IsQueued HQ.climb HQ.climbs q.id.level q.stage };
 
     fn waits_at(&self) -> u32 {
         match &self.stage {
-            QueueStage::Low(_) => self.level,
+            QueueStage::Low(_) => self.id.level,
             QueueStage::High(_, high) => high.waits_at(),
         }
     }
@@ -89,13 +82,13 @@ impl<P: Payload, Q: Queueing, Pass: Resting, Held: Standing<P>, HQ: Climbing> Cl
 
 impl<P: Payload, L: Departing, Pass: Resting, Held: Standing<P>, HL: Descending> Descending
     for LevelLeave<P, L, Pass, Held, HL> {
-    ghost descent = { λ l. leave_descent L.waiting HL.descent l.level l.node l.number l.stage };
+    ghost descent = { λ l. leave_descent L.waiting HL.descent l.id.level l.id.node l.id.number l.stage };
 
-    ghost descends = { λ l. IsLeaving L.rests HL.descent HL.descends l.level l.stage };
+    ghost descends = { λ l. IsLeaving L.rests HL.descent HL.descends l.id.level l.stage };
 
     fn leaves_at(&self) -> u32 {
         match &self.stage {
-            LeaveStage::Low(_, _) => self.level,
+            LeaveStage::Low(_, _) => self.id.level,
             LeaveStage::High(_, high) => high.leaves_at(),
         }
     }

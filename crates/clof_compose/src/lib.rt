@@ -3,12 +3,17 @@
 
 mod cargo;
 mod climb;
+mod closing;
 mod composed;
+mod context_id;
+mod level;
+mod level_making;
 mod level_tokens;
 mod making;
 mod node;
 mod own;
 mod own_cargo;
+mod passing;
 mod payload;
 mod release;
 mod root;
@@ -21,6 +26,8 @@ mod top_tokens;
 mod turns;
 
 pub use composed::Composed;
+pub use level::Level;
+pub use level_making::{Returned, make_level};
 pub use level_tokens::{LevelHeld, LevelLeave, LevelPass, LevelQueue};
 pub use making::make_top;
 pub use node::Node;

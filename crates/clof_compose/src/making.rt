@@ -32,7 +32,7 @@ pub fn make_top<P: Payload, B: Basic<Root<P>, Held = Held<Root<P>>> + Drop>(
     ensures count { IfOk result (λ m. B.count m.0.low ≡ contexts) }
     ensures sound { IfOk result (λ m. IsTop m.0.level (B.count m.0.low) (B.tag m.0.low) m.0.list.items (vec_capacity m.0.list)) }
     ensures passes { IfOk result (λ m. AreAll (λ p. top_context p.level (B.Pass.place p.low)) (IsOfTop m.0.level (B.name m.0.low)
-        (B.tag m.0.low)) contexts m.1.items) }
+        (B.tag m.0.low)) m.0.level (B.tag m.0.low) (B.count m.0.low) m.1.items) }
     ensures fresh { IfOk result (λ m. AreFresh m.1.items) }
     ensures refused { IfErr result (λ r. r.value ≡ root) }
 {

@@ -3,8 +3,10 @@ ghost use Rattle.std.specs.Prelude.{◌≡◌, ◌+◌, ◌<◌, ◌≤◌, true
 ghost use Rattle.std.specs.Int.{bit_at};
 ghost use Rattle.lock_rules.specs.Steps.{IfNot, IfGot};
 ghost use Rattle.clof_compose.specs.Calls.{MayRelease, SameBelow, tests_in};
-ghost use Rattle.clof_compose.specs.Levels.{IsIdleAgain, IsStanding, kept_stand};
-ghost use Rattle.clof_compose.specs.Owns.{IsOwnFit, bit_of};
+ghost use Rattle.clof_compose.specs.Levels.{IsDescending, IsIdleAgain, IsStanding, kept_stand};
+ghost use Rattle.clof_compose.specs.Contexts.{own_tag};
+ghost use Rattle.clof_compose.specs.Nodes.{IsContextOfNode};
+ghost use Rattle.clof_compose.specs.Owns.{IsOwnFit, bit_of, is_kept, own_tag_of};
 ghost use Rattle.clof_compose.specs.Releases.{IsReleasing};
 ghost use Rattle.clof_compose.specs.declared.own.High.TheVariants.{Idle, Away};
 ghost use Rattle.keep_local.specs.Turns.{run};
@@ -93,6 +95,44 @@ pub(crate) fn release_high<P: Payload, H: Composed<P>>(
         Step::Not(leave) => Step::Not((low, leave)),
         Step::Got(pass) => Step::Got(put_back(low, pass)),
     }
+}
+
+/// Keeps the high lock of a node for the next one, or releases it, by the answer of `waiter`. The value may then be put back, and the
+/// answer beside it is the tests of the closed turn.
+pub(crate) fn let_go<P: Payload, H: Composed<P>>(
+    high: &H,
+    mut low: InHand<P, H>,
+    level: u32,
+    keep: u32,
+    yes: bool,
+) -> Step<(InHand<P, H>, H::Leave), (InHand<P, H>, u32)>
+    requires sound { H.sound high.now }
+    requires above { H.level high.now ≡ level + 1 }
+    requires context { IsContextOfNode (H.has high.now) level (H.tag high.now) low.value.node
+        (kept_stand H.Held.stand low.value.high).context }
+    requires stands { IsStanding H.Held.stands low.value.high }
+    requires kept { IfSome (kept_stand H.Held.stand low.value.high).root (λ r. low.value.kept ≡ run level r.trail.closed) }
+    requires root { IsSomeAnd (kept_stand H.Held.stand low.value.high).root (IsReleasing P.calls P.tag (H.tag high.now) level keep
+        low.value.node) }
+    ensures seat { IfNot result (λ w. w.0.seat ≡ low.seat) }
+    ensures descends { IfNot result (λ w. IsDescending level w.0.value.node w.0.value.said (own_tag low.value.node
+        (kept_stand H.Held.stand low.value.high).context) (H.Leave.descends w.1) (H.Leave.descent w.1)) }
+    ensures said { IfNot result (λ w. w.0.value.said ≡ yes) }
+    ensures noted { IfNot result (λ w. SameBelow level (tests_in (kept_stand H.Held.stand low.value.high).root)
+        (H.Leave.descent w.1).tests) }
+    ensures same_seat { IfGot result (λ w. w.0.seat ≡ low.seat) }
+    ensures fit { IfGot result (λ w. IsOwnFit H.Pass.rest H.Held.stand P.calls P.tag H.Held.stands w.0.value.node w.0.value.kept
+        w.0.value.said w.0.value.high) }
+    ensures tagged { IfGot result (λ w. own_tag_of H.Pass.rest H.Held.stand w.0.value.node w.0.value.high ≡ own_tag low.value.node
+        (kept_stand H.Held.stand low.value.high).context) }
+    ensures answered { IfGot result (λ w. w.0.value.said ≡ yes) }
+    ensures parked { IfGot result (λ w. is_kept H.Pass.rest H.Held.stand w.0.value.high ≡ true → yes ≡ true) }
+    ensures tests { IfGot result (λ w. SameBelow level (tests_in (kept_stand H.Held.stand low.value.high).root) w.1) }
+{
+    if let Some(tests) = keep_for_next(&mut low.value, level, keep, yes) {
+        return Step::Got((low, tests));
+    }
+    release_high(high, low)
 }
 
 /// Puts the pass of a released high lock back into the value. The answer has its tests.

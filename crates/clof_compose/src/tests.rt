@@ -96,7 +96,7 @@ fn hold_by_two<C: Composed<Roll> + Drop>(
     requires sound { C.sound lock }
     requires lowest { C.level lock ≡ 0 }
     requires count { C.count lock ≡ 2 }
-    requires all { AreAll (λ p. (C.Pass.rest p).context) (C.has lock) (C.count lock) passes.items }
+    requires all { AreAll (λ p. (C.Pass.rest p).context) (C.has lock) (C.level lock) (C.tag lock) (C.count lock) passes.items }
     requires callers { callers_of (course_of (C.tag lock)).shape ≡ 2 }
     requires shares { shares.items ≡ new_shares (course_of (C.tag lock)).name (1 ∷ 1 ∷ []) }
     ensures { IfSome result (IsFit (λ r. r.callers.items)) }

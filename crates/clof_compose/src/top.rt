@@ -95,7 +95,7 @@ impl<P: Payload, B: Basic<Root<P>, Held = Held<Root<P>>>> Composed<P> for Top<B,
     fn close(self, passes: Vec<TopPass<B::Pass>>) -> Root<P>
         requires sound { IsTop self.level (B.count self.low) (B.tag self.low) self.list.items (vec_capacity self.list) }
         requires all { AreAll (λ p. top_context p.level (B.Pass.place p.low)) (IsOfTop self.level (B.name self.low) (B.tag self.low))
-            (B.count self.low) passes.items }
+            self.level (B.tag self.low) (B.count self.low) passes.items }
         ensures fit { IsFit P.calls result }
         ensures tagged { root_tag P.tag result ≡ B.tag self.low }
     {

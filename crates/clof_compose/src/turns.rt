@@ -55,6 +55,9 @@ pub(crate) fn note_waiter<P>(root: &mut Root<P>, level: u32, yes: bool)
       noted = level + 1;
     } }
     ensures lawful { IsTrail root.new.trail }
+    ensures lawful_before { IsTrail root.old.trail }
 {
+    // Whoever looks at a trail is told that it is lawful.
+    root.trail.is_open();
     root.trail.note(level, yes);
 }

@@ -3,9 +3,9 @@ use Rattle.std.proofs.Common.{◌≡◌, ◌≤◌, ◌<◌, ◌⊎◌, inl, inr
 use Rattle.std.specs.Prelude.{Result, Ok, Err, IfOk, IfErr, IsOk}
 use Rattle.std.specs.declared.alloc.Global.{Global}
 use Rattle.placed_runner.specs.declared.fault.SectionFault.TheVariants.{NotYet}
-use Rattle.clof_tool.specs.declared.status.Status.{Status}
-use Rattle.clof_tool.specs.declared.status.Status.TheVariants as statuses
-use Rattle.clof_tool.specs.declared.status.Fault.TheVariants.{Section as SectionOf}
+use Rattle.command_texts.specs.declared.status.Status.{Status}
+use Rattle.command_texts.specs.declared.status.Status.TheVariants as statuses
+use Rattle.command_texts.specs.declared.status.Fault.TheVariants.{Section as SectionOf}
 use Rattle.clof_tool.specs.Run.{input_limit, Prints, IsNotYet}
 use Rattle.clof_tool.specs.Outcome.{RunRefuses}
 

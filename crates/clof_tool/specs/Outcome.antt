@@ -3,16 +3,16 @@ use Rattle.std.specs.Prelude.{◌≡◌, ◌≤◌, ◌<◌, ◌+◌, ◌⊎◌,
 use Rattle.std.specs.declared.option.Option.{Option}
 use Rattle.edge_io.specs.Counts.{RisesBy}
 use Rattle.placed_runner.specs.declared.fault.SectionFault.TheVariants.{NotYet}
-use Rattle.clof_tool.specs.declared.status.Fault.TheVariants.{Set as SetOf, Section, Input}
-use Rattle.clof_tool.specs.declared.status.Status.{Status}
-use Rattle.clof_tool.specs.declared.status.Status.TheVariants as statuses
+use Rattle.command_texts.specs.declared.status.Fault.TheVariants.{Set as SetOf, Section, Input}
+use Rattle.command_texts.specs.declared.status.Status.{Status}
+use Rattle.command_texts.specs.declared.status.Status.TheVariants as statuses
 use Rattle.command_words.specs.Asked.{Asked, Run, Set, Topo, Calc, Distrib}
 use Rattle.cpu_set.specs.declared.fault.SetFault.{SetFault}
 use Rattle.clof_tool.specs.Run.{input_limit, Prints, IsNotYet}
-use Rattle.clof_tool.specs.SetText.{PrintsSet, IsRefused}
-use Rattle.clof_tool.specs.CalcText.{PrintsCalc, CalcRefuses}
-use Rattle.clof_tool.specs.DistribText.{PrintsDistrib, DistribRefuses}
-use Rattle.clof_tool.specs.TopoText.{PrintsTopo, TopoRefuses}
+use Rattle.command_texts.specs.SetText.{PrintsSet, IsRefused}
+use Rattle.command_texts.specs.CalcText.{PrintsCalc, CalcRefuses}
+use Rattle.command_texts.specs.DistribText.{PrintsDistrib, DistribRefuses}
+use Rattle.command_texts.specs.TopoText.{PrintsTopo, TopoRefuses}
 
 -- what is asked for depends on the input
 abbrev pub ReadsInput : Asked → Type 0
@@ -115,33 +115,3 @@ WasFound (Distrib asked) left given given_now status = ⊥
 -- the cause of a refusal: the words, or what was read
 abbrev pub HasCause : Asked → Option (List ℕ) → ℕ → ℕ → Status → Type 0
 HasCause asked left given given_now status = WordsRefused asked status ⊎ WasFound asked left given given_now status
-
--- the status is a refusal: something is malformed or over its limit
-abbrev pub IsRefusal : Status → Type 0
-IsRefusal statuses.Ok = ⊥
-IsRefusal statuses.Usage = ⊥
-IsRefusal (statuses.Malformed fault) = Unit {0}
-IsRefusal (statuses.Limit fault) = Unit {0}
-IsRefusal statuses.ReadFault = ⊥
-IsRefusal (statuses.WriteFault written) = ⊥
-IsRefusal statuses.OutOfMemory = ⊥
-
--- the statuses with which a command ends before it reads or writes: something is refused, or memory ran out
-abbrev pub EndsEarly : Status → Type 0
-EndsEarly statuses.Ok = ⊥
-EndsEarly statuses.Usage = ⊥
-EndsEarly (statuses.Malformed fault) = Unit {0}
-EndsEarly (statuses.Limit fault) = Unit {0}
-EndsEarly statuses.ReadFault = ⊥
-EndsEarly (statuses.WriteFault written) = ⊥
-EndsEarly statuses.OutOfMemory = Unit {0}
-
--- the statuses after which something may have been written
-abbrev pub HasWritten : Status → Type 0
-HasWritten statuses.Ok = Unit {0}
-HasWritten statuses.Usage = ⊥
-HasWritten (statuses.Malformed fault) = ⊥
-HasWritten (statuses.Limit fault) = ⊥
-HasWritten statuses.ReadFault = ⊥
-HasWritten (statuses.WriteFault written) = Unit {0}
-HasWritten statuses.OutOfMemory = ⊥

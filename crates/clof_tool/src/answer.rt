@@ -3,19 +3,17 @@ ghost use Rattle.std.specs.Prelude.{◌≡◌, ◌≢◌, ◌≤◌, ◌⊎◌, 
 ghost use Rattle.edge_io.specs.Counts.{Rose};
 ghost use Rattle.edge_io.specs.Contents.{IsDrained};
 ghost use Rattle.edge_io.specs.Reading.{HasGiven};
-ghost use Rattle.clof_tool.specs.declared.status.Status.{Status as AnyStatus};
-ghost use Rattle.clof_tool.specs.declared.status.Fault.TheVariants.{Input as InputOf};
+ghost use Rattle.command_texts.specs.declared.status.Status.{Status as AnyStatus};
+ghost use Rattle.command_texts.specs.declared.status.Fault.TheVariants.{Input as InputOf};
 ghost use Rattle.command_words.specs.Plain.{plain};
 ghost use Rattle.clof_tool.specs.Run.{input_limit};
 ghost use Rattle.clof_tool.specs.Outcome.{ReadsInput, IsInput, WasRead, WasTooLong, HasRead, IsAnswer, WordsRefused, InputRefused};
-ghost use Rattle.clof_tool.specs.Outcome.{HasCause, IsRefusal, HasWritten};
+ghost use Rattle.command_texts.specs.Ends.{IsRefusal, HasWritten};
+ghost use Rattle.clof_tool.specs.Outcome.{HasCause};
 
-use crate::calculation::calc_text;
-use crate::distrib_text::distrib_text;
 use crate::running::run_text;
-use crate::set_text::set_text;
-use crate::topo_text::topo_text;
 use crate::{Fault, Status};
+use command_texts::{calc_text, distrib_text, set_text, topo_text};
 use command_words::Asked;
 use edge_io::{ReadAllFault, Source, read_all};
 use std::alloc::Global;

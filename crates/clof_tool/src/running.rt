@@ -3,7 +3,7 @@ ghost use Rattle.std.specs.Prelude.{◌≡◌, ◌⊎◌, ◌≤◌, length, IfO
 ghost use Rattle.placed_runner.specs.declared.fault.SectionFault.TheVariants.{NotYet};
 ghost use Rattle.mc_text.specs.Reading.{commands_of, rest_of};
 ghost use Rattle.placed_runner.specs.Text.{section_text};
-ghost use Rattle.clof_tool.specs.declared.status.Fault.TheVariants.{Section as SectionOf};
+ghost use Rattle.command_texts.specs.declared.status.Fault.TheVariants.{Section as SectionOf};
 ghost use Rattle.clof_tool.specs.Run.{input_limit, Prints, IsNotYet};
 
 use crate::{Fault, Status};

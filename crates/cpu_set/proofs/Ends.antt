@@ -1,7 +1,41 @@
 -- The lowest and the highest numbers of a set.
 use Rattle.std.proofs.Common.{
-  ◌≡◌, ◌≢◌, ℕ, suc, ◌+◌, ◌-◌, ◌/◌, ◌%◌, ◌^◌, ◌<◌, ◌≤◌, true, false, ◌==◌, nat_le, List, [], ◌∷◌, Option, Some, None,
-  unwrap_or, slice_get, IfNone, IfSome, IsNone, is_some, ◌↔◌, refl, sym, ap, ◌∙◌, arith, inl, inr, w32
+  ◌≡◌,
+  ◌≢◌,
+  ℕ,
+  suc,
+  ◌+◌,
+  ◌-◌,
+  ◌/◌,
+  ◌%◌,
+  ◌^◌,
+  ◌<◌,
+  ◌≤◌,
+  true,
+  false,
+  ◌==◌,
+  nat_le,
+  List,
+  [],
+  ◌∷◌,
+  Option,
+  Some,
+  None,
+  unwrap_or,
+  slice_get,
+  IfNone,
+  IfSome,
+  IsNone,
+  is_some,
+  ◌↔◌,
+  refl,
+  sym,
+  ap,
+  ◌∙◌,
+  arith,
+  inl,
+  inr,
+  w32,
 }
 use Rattle.std.specs.Int.{bit_at, trailing_zeros, leading_zeros}
 use Rattle.std.specs.List.{last_or}
@@ -44,7 +78,7 @@ first_in_rising from number low (x ∷ xs) rises found at none = elim (cases_eq 
   | inl here ↦
       filter_in (λ n. nat_le from n) x xs xs (le-leb from x (omega arith)) (from_all from (x + 1) xs rises.1 (omega arith))
       ∙ ap (λ n. n ∷ xs) here ∙ ap (λ ns. number ∷ ns)
-          (sym (from_skip (number + 1) x xs (omega arith) ∙ from_all (number + 1) (x + 1) xs rises.1 (omega arith)))
+      (sym (from_skip (number + 1) x xs (omega arith) ∙ from_all (number + 1) (x + 1) xs rises.1 (omega arith)))
   | inr other ↦ elim (cases_lt x from) [
     | inl before ↦ from_skip from x xs before
         ∙ first_in_rising from number (x + 1) xs rises.1 (has_rest x number xs found other) at
@@ -118,9 +152,15 @@ record LastOf (first : ℕ) (rest : List ℕ) (top low : ℕ) : Type 0 where
   above : Rises low (first ∷ rest) → (n : ℕ) → top < n → has (first ∷ rest) n ≡ false
 
 last_of : (first low : ℕ) (rest : List ℕ) → (top : ℕ) × LastOf first rest top low
-last_of first low [] =
-    (first, record { is = refl; among = has_first first first [] refl; above =
-    λ rises n more. has_later first n [] false (omega arith) refl })
+last_of first low [] = (
+  first,
+  record {
+    is = refl;
+    among = has_first first first [] refl;
+    above =
+        λ rises n more. has_later first n [] false (omega arith) refl;
+  },
+)
 last_of first low (second ∷ rest) =
     let later = last_of second (first + 1) rest in
     let top = later.0 in (
@@ -130,9 +170,12 @@ last_of first low (second ∷ rest) =
         among = or_right (first == top) (has (second ∷ rest) top) later.1.among;
         above = λ rises n more. has_later first n (second ∷ rest) false
             (let order : first < top = elim
-                (cases_lt first top) [ inl less ↦ less | inr at_most
-                ↦ absurd (false≢true (sym (has_below (first + 1) top (second ∷ rest) rises.1 (omega arith)) ∙ later.1.among)) ] in
-                omega arith)
+            (cases_lt first top) [
+              | inl less ↦ less
+              | inr at_most
+                  ↦ absurd (false≢true (sym (has_below (first + 1) top (second ∷ rest) rises.1 (omega arith)) ∙ later.1.among))
+            ] in
+            omega arith)
             (later.1.above rises.1 n more);
       },
     )

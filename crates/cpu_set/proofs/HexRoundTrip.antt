@@ -1,7 +1,45 @@
 -- The hexadecimal text of a set is read as that set.
 use Rattle.std.proofs.Common.{
-  ◌≡◌, ◌≢◌, ℕ, zero, suc, ◌+◌, ◌*◌, ◌/◌, ◌%◌, ◌^◌, ◌<◌, ◌≤◌, Bool, true, false, cond, not, ◌&&◌, ◌||◌, ◌==◌, nat_lt,
-  nat_le, nat_eq, List, [], ◌∷◌, ◌++◌, length, map, codes, Some, None, refl, sym, ap, ◌∙◌, arith, ◌⊎◌, inl, inr
+  ◌≡◌,
+  ◌≢◌,
+  ℕ,
+  zero,
+  suc,
+  ◌+◌,
+  ◌*◌,
+  ◌/◌,
+  ◌%◌,
+  ◌^◌,
+  ◌<◌,
+  ◌≤◌,
+  Bool,
+  true,
+  false,
+  cond,
+  not,
+  ◌&&◌,
+  ◌||◌,
+  ◌==◌,
+  nat_lt,
+  nat_le,
+  nat_eq,
+  List,
+  [],
+  ◌∷◌,
+  ◌++◌,
+  length,
+  map,
+  codes,
+  Some,
+  None,
+  refl,
+  sym,
+  ap,
+  ◌∙◌,
+  arith,
+  ◌⊎◌,
+  inl,
+  inr,
 }
 use Rattle.std.proofs.Math.Nat.{pow-suc}
 use Rattle.std.proofs.Math.Numerals.{add-one}
@@ -10,8 +48,19 @@ use Rattle.std.specs.Int.{bit_at}
 use Rattle.std.specs.List.{All, AllByRecursion, join_with_byte, starts_with, flat_map}
 use Rattle.std.specs.Str.Parse.{AllDigits, digits_value}
 use Rattle.std.proofs.lemmas.Bool.{
-  cases_lt, cases_eq, eq-eqb, ne_eqb, le-leb, lt-leb, lt-ltb, and_from, and_left, and_right, or_left, or_right,
-  false≢true
+  cases_lt,
+  cases_eq,
+  eq-eqb,
+  ne_eqb,
+  le-leb,
+  lt-leb,
+  lt-ltb,
+  and_from,
+  and_left,
+  and_right,
+  or_left,
+  or_right,
+  false≢true,
 }
 use Rattle.std.proofs.lemmas.Int.Digits.{digits_push, digits_value_push}
 use Rattle.std.proofs.lemmas.List.Elements.{All-append, All-cons, All-nil}
@@ -42,7 +91,7 @@ pub parts_of-join : (first : List ℕ) (parts : List (List ℕ)) → NoComma fir
 parts_of-join first [] none rest = slice_split_none (λ byte. byte == 44) first none
 parts_of-join first (second ∷ parts) none rest =
     slice_split_at (λ byte. byte == 44) first 44 (join_with_byte 44 (second ∷ parts)) none refl
-        ∙ ap (λ ps. first ∷ ps) (parts_of-join second parts rest.0 rest.1)
+    ∙ ap (λ ps. first ∷ ps) (parts_of-join second parts rest.0 rest.1)
 
 -- ---- hexadecimal digits
 
@@ -61,7 +110,7 @@ digits_no_comma zero number = rw (hex_digits-none number) (All-nil (λ byte. (by
 digits_no_comma (suc count) number = rw (hex_digits-suc count number)
     (All-append (λ byte. (byte == 44) ≡ false) (hex_digits count (number / 16)) _ (digits_no_comma count (number / 16))
     (All-cons (λ byte. (byte == 44) ≡ false) (digit_char (number % 16)) [] (no_comma (number % 16) (omega arith))
-        (All-nil (λ byte. (byte == 44) ≡ false))))
+    (All-nil (λ byte. (byte == 44) ≡ false))))
 
 digit_of : (number : ℕ) → digit_value (digit_char (number % 16)) ≡ number % 16
 digit_of number = digit_value-digit_char (number % 16) (omega arith)
@@ -70,7 +119,7 @@ all_hex : (count number : ℕ) → AllDigits 16 (hex_digits count number)
 all_hex zero number = rw (hex_digits-none number) tt
 all_hex (suc count) number = rw (hex_digits-suc count number)
     (digits_push 16 (hex_digits count (number / 16)) (digit_char (number % 16)) (all_hex count (number / 16))
-        (let low : digit_value (digit_char (number % 16)) < 16 = rw (digit_of number) (omega arith) in low))
+    (let low : digit_value (digit_char (number % 16)) < 16 = rw (digit_of number) (omega arith) in low))
 
 hex_value : (count number : ℕ) → number < 16 ^ count → digits_value 16 (hex_digits count number) ≡ number
 hex_value zero number low = ap (digits_value 16) (hex_digits-none number) ∙ (let none : 0 ≡ number = omega arith in none)
@@ -84,12 +133,12 @@ hex_value (suc count) number low =
 text_zero_last : (place word : ℕ) → word ≡ 0 → place ≡ 0 → word_text place word ≡ codes "0x0"
 text_zero_last place word none last =
     ap (λ t. cond t (cond (place == 0) (codes "0x0") []) (codes "0x" ++ hex_digits 8 word)) (eq-eqb word 0 none)
-        ∙ ap (λ t. cond t (codes "0x0") []) (eq-eqb place 0 last)
+    ∙ ap (λ t. cond t (codes "0x0") []) (eq-eqb place 0 last)
 
 text_zero : (place word : ℕ) → word ≡ 0 → place ≢ 0 → word_text place word ≡ []
 text_zero place word none other =
     ap (λ t. cond t (cond (place == 0) (codes "0x0") []) (codes "0x" ++ hex_digits 8 word)) (eq-eqb word 0 none)
-        ∙ ap (λ t. cond t (codes "0x0") []) (ne_eqb place 0 other)
+    ∙ ap (λ t. cond t (codes "0x0") []) (ne_eqb place 0 other)
 
 text_some : (place word : ℕ) → word ≢ 0 → word_text place word ≡ codes "0x" ++ hex_digits 8 word
 text_some place word some = ap (λ t. cond t (cond (place == 0) (codes "0x0") []) (codes "0x" ++ hex_digits 8 word)) (ne_eqb word 0 some)
@@ -134,7 +183,7 @@ good_form at place word shown = elim (cases_eq word 0) [
         (ap is_word (text_zero_last place word none last))
     | inr other ↦ or_right (is_word (word_text place word)) (is_gap at place (word_text place word))
         (ap (is_gap at place) (text_zero place word none other)
-            ∙ and_from (nat_lt 0 at) (nat_lt 0 place) (lt-ltb 0 at (begun shown none other)) (lt-ltb 0 place (omega arith)))
+        ∙ and_from (nat_lt 0 at) (nat_lt 0 place) (lt-ltb 0 at (begun shown none other)) (lt-ltb 0 place (omega arith)))
   ]
 ]
   where
@@ -146,7 +195,7 @@ good_form at place word shown = elim (cases_eq word 0) [
 good_word : (at place word : ℕ) → place < 128 → (word ≢ 0) ⊎ ((place ≡ 0) ⊎ (0 < at)) → hex_rule at place (word_text place word) ≡ None
 good_word at place word low shown =
     ap (λ t. cond t (cond (nat_le 128 place && not (word_value (word_text place word) == 0)) (Some (TooLarge at)) None) (Some (Form at)))
-        (good_form at place word shown)
+    (good_form at place word shown)
     ∙ ap (λ t. cond (t && not (word_value (word_text place word) == 0)) (Some (TooLarge at)) None) (lt-leb 128 place low)
 
 -- ---- all words
@@ -192,13 +241,13 @@ module _ (set : List ℕ) where
       ap (leftmost hex_rule at) (words_down-suc count)
       ∙ leftmost-good hex_rule at (word_text count (word_of set count)) (words_down set count)
       (ap (λ behind. hex_rule at behind (word_text count (word_of set count))) (length-words_down count)
-          ∙ good_word at count (word_of set count) low shown)
+      ∙ good_word at count (word_of set count) low shown)
 
   good_down : (at count : ℕ) → 0 < at → count ≤ 128 → leftmost hex_rule at (words_down set count) ≡ None
   good_down at zero later within = ap (leftmost hex_rule at) words_down-none
   good_down at (suc count) later within =
       good_here at count (omega arith) (inr (inr later))
-          ∙ good_down (at + length (word_text count (word_of set count)) + 1) count (omega arith) (omega arith)
+      ∙ good_down (at + length (word_text count (word_of set count)) + 1) count (omega arith) (omega arith)
 
   good_from_top : (count : ℕ) → count < 128 → (word_of set count ≢ 0) ⊎ (count ≡ 0)
       → leftmost hex_rule 0 (words_down set (suc count)) ≡ None
@@ -214,7 +263,7 @@ top_word (first ∷ rest) ok = inl (λ none. false≢true (sym (no_bit none) ∙
     its_bit : (bit_at (word_of (first ∷ rest) (highest (first ∷ rest) / 32)) (highest (first ∷ rest) % 32) == 1) ≡ true
     its_bit = is_bit-word_of (first ∷ rest) (highest (first ∷ rest) / 32) (highest (first ∷ rest) % 32) (omega arith)
         ∙ ap (has (first ∷ rest)) (let same : 32 * (highest (first ∷ rest) / 32) + highest (first ∷ rest) % 32 ≡ highest (first ∷ rest) =
-            omega arith in same) ∙ highest-among first rest
+        omega arith in same) ∙ highest-among first rest
 
     no_bit : word_of (first ∷ rest) (highest (first ∷ rest) / 32) ≡ 0
         → (bit_at (word_of (first ∷ rest) (highest (first ∷ rest) / 32)) (highest (first ∷ rest) % 32) == 1) ≡ false
@@ -283,16 +332,16 @@ module _ (set : List ℕ) (ok : IsSet set) where
   hex_text_parts =
       ap parts_of (hex_text_is ∙ ap (join_with_byte 44) (words_down-suc set (highest set / 32)))
       ∙ parts_of-join (word_text (highest set / 32) (word_of set (highest set / 32))) (words_down set (highest set / 32))
-          (text_no_comma (highest set / 32) (word_of set (highest set / 32))) (no_commas set (highest set / 32))
+      (text_no_comma (highest set / 32) (word_of set (highest set / 32))) (no_commas set (highest set / 32))
       ∙ sym (words_down-suc set (highest set / 32))
 
   not_infinite : starts_with nat_eq (hex_text set) (codes "0xf...f") ≡ false
   not_infinite =
       ap (λ text. starts_with nat_eq text (codes "0xf...f"))
       (hex_text_is ∙ ap (join_with_byte 44) (words_down-suc set (highest set / 32))
-          ∙ join_first (word_text (highest set / 32) (word_of set (highest set / 32))) (words_down set (highest set / 32)))
+      ∙ join_first (word_text (highest set / 32) (word_of set (highest set / 32))) (words_down set (highest set / 32)))
       ∙ not_infinite_first (highest set / 32) (word_of set (highest set / 32))
-          (flat_map (λ part. 44 ∷ part) (words_down set (highest set / 32))) (top_word set ok)
+      (flat_map (λ part. 44 ∷ part) (words_down set (highest set / 32))) (top_word set ok)
 
   no_fault : hex_fault (hex_text set) ≡ None
   no_fault =
@@ -302,7 +351,7 @@ module _ (set : List ℕ) (ok : IsSet set) where
   same_members : (number : ℕ) → number < 4096 → has set number ≡ is_in_hex (hex_text set) number
   same_members number below =
       sym (ap (λ parts. bit_at (word_at parts (number / 32)) (number % 32) == 1) hex_text_parts
-          ∙ elim (cases_lt (number / 32) (suc (highest set / 32))) [
+      ∙ elim (cases_lt (number / 32) (suc (highest set / 32))) [
         | inl written ↦ ap (λ word. bit_at word (number % 32) == 1) (word_at_down set (suc (highest set / 32)) (number / 32) written)
             ∙ is_bit-word_of set (number / 32) (number % 32) (omega arith)
             ∙ ap (has set) (let same : 32 * (number / 32) + number % 32 ≡ number = omega arith in same)
@@ -314,5 +363,8 @@ module _ (set : List ℕ) (ok : IsSet set) where
 
   pub hex_read_back : ReadsHex (hex_text set) set
   hex_read_back =
-      record { good = no_fault; numbers =
-      sym (numbers_where-has set ok) ∙ numbers_below-same 4096 (has set) (is_in_hex (hex_text set)) same_members }
+      record {
+        good = no_fault;
+        numbers =
+            sym (numbers_where-has set ok) ∙ numbers_below-same 4096 (has set) (is_in_hex (hex_text set)) same_members;
+      }

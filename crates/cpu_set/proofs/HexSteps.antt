@@ -1,7 +1,39 @@
 -- Reading a text of hexadecimal words, word by word from the left.
 use Rattle.std.proofs.Common.{
-  ◌≡◌, ℕ, suc, ◌+◌, ◌/◌, ◌%◌, ◌^◌, ◌<◌, ◌≤◌, Bool, true, false, cond, ◌&&◌, ◌||◌, ◌==◌, nat_le, List, [], ◌∷◌, length,
-  Option, Some, None, lit<, refl, sym, ap, ◌∙◌, add_assoc, arith, ◌⊎◌, inl, inr
+  ◌≡◌,
+  ℕ,
+  suc,
+  ◌+◌,
+  ◌/◌,
+  ◌%◌,
+  ◌^◌,
+  ◌<◌,
+  ◌≤◌,
+  Bool,
+  true,
+  false,
+  cond,
+  ◌&&◌,
+  ◌||◌,
+  ◌==◌,
+  nat_le,
+  List,
+  [],
+  ◌∷◌,
+  length,
+  Option,
+  Some,
+  None,
+  lit<,
+  refl,
+  sym,
+  ap,
+  ◌∙◌,
+  add_assoc,
+  arith,
+  ◌⊎◌,
+  inl,
+  inr,
 }
 use Rattle.std.specs.Borrow.{Bor}
 use Rattle.std.specs.Int.{bit_at}
@@ -47,7 +79,7 @@ no_number word digits r is short reads (inl large) good =
 no_number word digits r is short reads (inr other) good =
     let lacks : Reads 16 4294967295 digits NotNumeral = rw other at reads in
     lacks ((Decides-is_numeral 16 digits).0
-        (rw is ((and_parts (is_numeral 16 (without_prefix word)) (nat_le (length (without_prefix word)) 8) good).0)))
+    (rw is ((and_parts (is_numeral 16 (without_prefix word)) (nat_le (length (without_prefix word)) 8) good).0)))
 
 -- ---- the words so far
 
@@ -55,7 +87,7 @@ pub word_at-past : (words : List (List ℕ)) (place : ℕ) → length words ≤ 
 word_at-past [] place past = refl
 word_at-past (word ∷ words) place past =
     ap (λ t. cond t (word_value word) (word_at words place)) (ne_eqb place (length words) (λ same. omega arith))
-        ∙ word_at-past words place (omega arith)
+    ∙ word_at-past words place (omega arith)
 
 word_at-here : (word : List ℕ) (words : List (List ℕ)) → word_at (word ∷ words) (length words) ≡ word_value word
 word_at-here word words = ap (λ t. cond t (word_value word) (word_at words (length words))) (eq-eqb (length words) (length words) refl)
@@ -81,7 +113,7 @@ no_word parts left number count = elim (cases_lt (number / 32) left) [
   | inr past ↦ sym (ap (λ word. nat_le left (number / 32) && (bit_at word (number % 32) == 1))
       (word_at-past parts (number / 32) (omega arith))
       ∙ ap (λ value. nat_le left (number / 32) && (value == 1)) (bit_at-zero (number % 32))
-          ∙ and_right (nat_le left (number / 32)) false refl)
+      ∙ and_right (nat_le left (number / 32)) false refl)
 ]
 
 pub hex_none : (text : Bor (List ℕ)) (left : ℕ) → left ≡ count_by (λ byte. byte == 44) text.now + 1
@@ -109,7 +141,7 @@ module _ (text : List ℕ) (rest : Bor (List ℕ)) (at left : ℕ) (set : List �
   word_here next is =
       sym (so_far.words next (omega arith)) ∙ ap (λ parts. word_at parts next) first
       ∙ ap (word_at (word ∷ parts_left behind)) (let same : next ≡ length (parts_left behind) = omega (arith, hex_left) in same)
-          ∙ word_at-here word (parts_left behind)
+      ∙ word_at-here word (parts_left behind)
 
   members_more : (next value : ℕ) → next + 1 ≡ left → value ≡ word_value word → (number : ℕ) → number < 4096
       → (has set number || (number / 32 == next && bit_at value (number % 32) == 1)) ≡ (nat_le next (number / 32) && is_in_hex text number)
@@ -117,7 +149,7 @@ module _ (text : List ℕ) (rest : Bor (List ℕ)) (at left : ℕ) (set : List �
     | inl here ↦
         ap (λ t. t || (number / 32 == next && bit_at value (number % 32) == 1)) (so_far.members number below)
         ∙ ap (λ t. (t && is_in_hex text number) || (number / 32 == next && bit_at value (number % 32) == 1))
-            (lt-leb left (number / 32) (omega arith))
+        (lt-leb left (number / 32) (omega arith))
         ∙ ap (λ t. t && bit_at value (number % 32) == 1) (eq-eqb (number / 32) next here)
         ∙ ap (λ word. bit_at word (number % 32) == 1) (value_is ∙ sym (word_here next is) ∙ ap (word_at (parts_of text)) (sym here))
         ∙ ap (λ t. t && is_in_hex text number) (sym (le-leb next (number / 32) (omega arith)))
@@ -135,7 +167,7 @@ module _ (text : List ℕ) (rest : Bor (List ℕ)) (at left : ℕ) (set : List �
     place = omega (arith, so_far.place, ap spanned first);
     fault = ap (λ n. leftmost hex_rule n (parts_left behind)) (sym (add_assoc at (length word) 1))
         ∙ sym (leftmost-good hex_rule at word (parts_left behind)
-            (ap (λ n. hex_rule at n word) (let same : length (parts_left behind) ≡ next = omega (arith, hex_left) in same) ∙ good))
+        (ap (λ n. hex_rule at n word) (let same : length (parts_left behind) ≡ next = omega (arith, hex_left) in same) ∙ good))
         ∙ ap (leftmost hex_rule at) (sym first) ∙ so_far.fault;
     words =
         λ place below. sym (word_at-later word (parts_left behind) place (omega (arith, hex_left)))
@@ -149,7 +181,7 @@ module _ (text : List ℕ) (rest : Bor (List ℕ)) (at left : ℕ) (set : List �
       → HexSoFar text behind (at + (length word + 1)) next new
   hex_added next value new is good value_is new_is =
       step next new is good (rw new_is (IsSet-numbers_where
-          (λ number. has set number || (number / 32 == next && bit_at value (number % 32) == 1))))
+      (λ number. has set number || (number / 32 == next && bit_at value (number % 32) == 1))))
       (λ number below. ap (λ s. has s number) new_is
       ∙ has-numbers_below 4096 (λ n. has set n || (n / 32 == next && bit_at value (n % 32) == 1)) number below
       ∙ members_more next value is value_is number below)
@@ -159,15 +191,15 @@ module _ (text : List ℕ) (rest : Bor (List ℕ)) (at left : ℕ) (set : List �
   hex_skipped next value is good value_is zero_is =
       step next set is good so_far.is_set
       (λ number below. nothing_added (has set number) (number / 32 == next) (bit_at value (number % 32) == 1)
-          (ap (λ v. bit_at v (number % 32) == 1) zero_is ∙ ap (λ bit. bit == 1) (bit_at-zero (number % 32)))
+      (ap (λ v. bit_at v (number % 32) == 1) zero_is ∙ ap (λ bit. bit == 1) (bit_at-zero (number % 32)))
       ∙ members_more next value is value_is number below)
 
 pub hex_all : (text : List ℕ) (at left : ℕ) (set : List ℕ) → HexSoFar text None at left set → set ≡ numbers_where (is_in_hex text)
 hex_all text at left set so_far =
     sym (numbers_where-has set so_far.is_set)
     ∙ numbers_below-same 4096 (has set) (is_in_hex text)
-        (λ number below. so_far.members number below
-        ∙ ap (λ t. t && is_in_hex text number) (le-leb left (number / 32) (omega (arith, so_far.count))))
+    (λ number below. so_far.members number below
+    ∙ ap (λ t. t && is_in_hex text number) (le-leb left (number / 32) (omega (arith, so_far.count))))
 
 pub hex_all_good : (text : List ℕ) (at left : ℕ) (set : List ℕ) → HexSoFar text None at left set
     → leftmost hex_rule 0 (parts_of text) ≡ None

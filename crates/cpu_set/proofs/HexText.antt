@@ -1,7 +1,37 @@
 -- Writing the hexadecimal text, word by word from the highest.
 use Rattle.std.proofs.Common.{
-  ◌≡◌, ◌≢◌, ℕ, zero, suc, ◌+◌, ◌-◌, ◌*◌, ◌/◌, ◌%◌, ◌^◌, ◌<◌, ◌≤◌, Bool, true, false, cond, ◌==◌, List, [], ◌∷◌, ◌++◌,
-  length, map, codes, refl, sym, ap, ◌∙◌, append_assoc, arith, bit_and
+  ◌≡◌,
+  ◌≢◌,
+  ℕ,
+  zero,
+  suc,
+  ◌+◌,
+  ◌-◌,
+  ◌*◌,
+  ◌/◌,
+  ◌%◌,
+  ◌^◌,
+  ◌<◌,
+  ◌≤◌,
+  Bool,
+  true,
+  false,
+  cond,
+  ◌==◌,
+  List,
+  [],
+  ◌∷◌,
+  ◌++◌,
+  length,
+  map,
+  codes,
+  refl,
+  sym,
+  ap,
+  ◌∙◌,
+  append_assoc,
+  arith,
+  bit_and,
 }
 use Rattle.std.proofs.Math.Nat.{pow-suc, div-div-eq-div-mul, div-one}
 use Rattle.std.proofs.Math.Numerals.{add-one}
@@ -41,7 +71,7 @@ pub length-hex_digits : (count number : ℕ) → length (hex_digits count number
 length-hex_digits zero number = ap length (hex_digits-none number)
 length-hex_digits (suc count) number =
     ap length (hex_digits-suc count number) ∙ length-append (hex_digits count (number / 16)) _
-        ∙ ap (λ m. m + 1) (length-hex_digits count (number / 16)) ∙ add-one count
+    ∙ ap (λ m. m + 1) (length-hex_digits count (number / 16)) ∙ add-one count
 
 -- the digits of a number above the last so many are written
 pub record DigitsSoFar (old now : List ℕ) (total left number : ℕ) : Type 0 where
@@ -63,7 +93,7 @@ digits_push old now new total left place number digit follows within digit_is ne
       ∙ ap (λ n. old ++ (hex_digits (total - left) n ++ digit_char (number / 16 ^ place % 16) ∷ [])) (shifted number place left follows)
       ∙ ap (λ digits. old ++ digits) (sym (hex_digits-suc (total - left) (number / 16 ^ place)))
       ∙ ap (λ count. old ++ hex_digits count (number / 16 ^ place))
-          (let one_more : suc (total - left) ≡ total - place = omega arith in one_more);
+      (let one_more : suc (total - left) ≡ total - place = omega arith in one_more);
 }
 
 pub digits_end : (old now : List ℕ) (total left number : ℕ) → left ≤ 0 → DigitsSoFar old now total left number → now ≡ old
@@ -72,7 +102,7 @@ digits_end old now total left number none so_far =
     let zero_is : left ≡ 0 = omega arith in
     so_far.is ∙ ap (λ n. old ++ hex_digits (total - n) (number / 16 ^ n)) zero_is
     ∙ ap (λ count. old ++ hex_digits count (number / 1)) (let all : total - 0 ≡ total = omega arith in all)
-        ∙ ap (λ n. old ++ hex_digits total n) (div-one number)
+    ∙ ap (λ n. old ++ hex_digits total n) (div-one number)
 
 -- ---- words
 
@@ -133,19 +163,25 @@ hex_next set count left place text follows less written = record {
       let rest = flat_map (λ p. 44 ∷ word_text p (word_of set p)) (places_down place) in
       append_assoc (text ++ 44 ∷ []) one rest ∙ append_assoc text (44 ∷ []) (one ++ rest)
       ∙ ap (λ n. text ++ flat_map (λ p. 44 ∷ word_text p (word_of set p)) (places_down n)) (sym (follows ∙ add-one place))
-          ∙ written.whole less;
+      ∙ written.whole less;
   bound =
-      omega (arith, length-append (text ++ 44 ∷ []) (word_text place (word_of set place)), length-append text (44 ∷ []), short_word place
-      (word_of set place), written.bound);
+      omega (
+        arith,
+        length-append (text ++ 44 ∷ []) (word_text place (word_of set place)),
+        length-append text (44 ∷ []),
+        short_word place
+            (word_of set place),
+        written.bound,
+      );
 }
 
 pub hex_written : (set : List ℕ) (count left : ℕ) (text : List ℕ) → count ≡ highest set / 32 + 1 → left ≤ 0 → HexWritten set count left text
     → text ≡ hex_text set
 hex_written set count left text top none written =
     sym (append-nil text) ∙ ap (λ n. text ++ flat_map (λ p. 44 ∷ word_text p (word_of set p)) (places_down n))
-        (let zero_is : 0 ≡ left = omega arith in zero_is) ∙ written.whole (omega arith)
+    (let zero_is : 0 ≡ left = omega arith in zero_is) ∙ written.whole (omega arith)
 
 pub word_len : (place word : ℕ) → word ≢ 0 → 10 ≡ length (word_text place word)
 word_len place word some =
     sym (ap (λ t. length (cond t (cond (place == 0) (codes "0x0") []) (codes "0x" ++ hex_digits 8 word))) (ne_eqb word 0 some)
-        ∙ ap (λ n. suc (suc n)) (length-hex_digits 8 word))
+    ∙ ap (λ n. suc (suc n)) (length-hex_digits 8 word))

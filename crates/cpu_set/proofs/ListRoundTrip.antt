@@ -1,7 +1,32 @@
 -- The list text of a set is read as that set.
 use Rattle.std.proofs.Common.{
-  ◌≡◌, ℕ, ◌+◌, ◌<◌, ◌≤◌, Bool, true, false, cond, ◌&&◌, ◌||◌, ◌==◌, nat_le, List, [], ◌∷◌, ◌++◌, length, map, get_or,
-  None, refl, sym, ap, ◌∙◌, arith, decimal
+  ◌≡◌,
+  ℕ,
+  ◌+◌,
+  ◌<◌,
+  ◌≤◌,
+  Bool,
+  true,
+  false,
+  cond,
+  ◌&&◌,
+  ◌||◌,
+  ◌==◌,
+  nat_le,
+  List,
+  [],
+  ◌∷◌,
+  ◌++◌,
+  length,
+  map,
+  get_or,
+  None,
+  refl,
+  sym,
+  ap,
+  ◌∙◌,
+  arith,
+  decimal,
 }
 use Rattle.std.specs.List.{All, AllByRecursion, Contains, flat_map, join_with_byte, list_any}
 use Rattle.std.specs.Str.Parse.{AllDigits, digits_value}
@@ -112,7 +137,7 @@ two_numbers first last order low =
     let first_reads = number_text first (omega arith) in
     let last_reads = number_text last low in
     let cut : IsCutAt 45 (decimal first ++ 45 ∷ decimal last) (decimal first) (decimal last) =
-        record { parts = refl; first = lacks (decimal first) 45 (not_digit (decimal first) 45 first_reads.0.1 (omega arith)) } in
+    record { parts = refl; first = lacks (decimal first) 45 (not_digit (decimal first) 45 first_reads.0.1 (omega arith)) } in
     let ends = cut_ends (decimal first ++ 45 ∷ decimal last) (decimal first) (decimal last) cut in
     record {
       no_comma =
@@ -161,10 +186,15 @@ items_back [] good = refl
 items_back ((first, last) ∷ runs) good =
     let one = run_text (first, last) in
     let long : 0 < length (join_with_byte 44 (one ∷ map run_text runs)) =
-    omega (arith, ap length (join_first one (map run_text runs)), length-append one
-        (flat_map (λ part. 44 ∷ part) (map run_text runs)), run_some first last (omega (arith, good.0.0, good.0.1))) in
+    omega (
+      arith,
+      ap length (join_first one (map run_text runs)),
+      length-append one
+          (flat_map (λ part. 44 ∷ part) (map run_text runs)),
+      run_some first last (omega (arith, good.0.0, good.0.1)),
+    ) in
     sym (items_some (join_with_byte 44 (one ∷ map run_text runs))
-        (ne_eqb (length (join_with_byte 44 (one ∷ map run_text runs))) 0 (λ none. omega arith)))
+    (ne_eqb (length (join_with_byte 44 (one ∷ map run_text runs))) 0 (λ none. omega arith)))
     ∙ parts_of-join one (map run_text runs) (run_reads first last good.0.0 good.0.1).no_comma (no_commas runs good.1)
 
 pub list_read_back : (set : List ℕ) → IsSet set → ReadsList (list_text set) set

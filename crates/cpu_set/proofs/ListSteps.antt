@@ -1,15 +1,56 @@
 -- Reading a list, item by item from the left.
 use Rattle.std.proofs.Common.{
-  ◌≡◌, ℕ, ◌+◌, ◌<◌, ◌≤◌, Bool, true, false, cond, not, ◌&&◌, ◌||◌, ◌==◌, nat_le, List, [], ◌∷◌, ◌++◌, length, take,
-  drop, Option, Some, None, refl, sym, ap, ◌∙◌, add_assoc, arith, ◌⊎◌, inl, inr
+  ◌≡◌,
+  ℕ,
+  ◌+◌,
+  ◌<◌,
+  ◌≤◌,
+  Bool,
+  true,
+  false,
+  cond,
+  not,
+  ◌&&◌,
+  ◌||◌,
+  ◌==◌,
+  nat_le,
+  List,
+  [],
+  ◌∷◌,
+  ◌++◌,
+  length,
+  take,
+  drop,
+  Option,
+  Some,
+  None,
+  refl,
+  sym,
+  ap,
+  ◌∙◌,
+  add_assoc,
+  arith,
+  ◌⊎◌,
+  inl,
+  inr,
 }
 use Rattle.std.specs.Bool.{if◌then◌else◌}
 use Rattle.std.specs.Borrow.{Bor}
 use Rattle.std.specs.List.{All, Contains, list_any, before_first, after_first, position_or_len}
 use Rattle.std.specs.Str.Parse.{IsNumeral, digits_value}
 use Rattle.std.proofs.lemmas.Bool.{
-  cond-true, cond-false, false_from_ne_true, and_from, and_left, and_right, le-leb, lt-leb, or_left, or_right,
-  eqb-true, false≢true
+  cond-true,
+  cond-false,
+  false_from_ne_true,
+  and_from,
+  and_left,
+  and_right,
+  le-leb,
+  lt-leb,
+  or_left,
+  or_right,
+  eqb-true,
+  false≢true,
 }
 use Rattle.std.proofs.lemmas.List.{take_at, drop_at, take_all, length-append, length_push, get_or_append_left, get_or_at, append_assoc}
 use Rattle.std.proofs.lemmas.List.Folds.{list_any_none}
@@ -22,8 +63,22 @@ use Rattle.byte_text.proofs.NumeralLaws.{Decides-is_numeral}
 use Rattle.cpu_set.specs.declared.fault.SetFault.{SetFault}
 use Rattle.cpu_set.specs.declared.fault.SetFault.TheVariants.{Form, TooLarge, Infinite}
 use Rattle.cpu_set.specs.Readings.{
-  is_range, range_fault, has_dash, low_end, high_end, low_value, high_value, is_open, list_rule, parts_of, items_of,
-  leftmost, list_fault, covers, is_in_list, ReadsList
+  is_range,
+  range_fault,
+  has_dash,
+  low_end,
+  high_end,
+  low_value,
+  high_value,
+  is_open,
+  list_rule,
+  parts_of,
+  items_of,
+  leftmost,
+  list_fault,
+  covers,
+  is_in_list,
+  ReadsList,
 }
 use Rattle.cpu_set.specs.Sets.{has, numbers_where, IsSet}
 use Rattle.cpu_set.specs.SetLaws.{has-numbers_below, numbers_below-same, IsSet-numbers_where, numbers_where-has}
@@ -63,17 +118,17 @@ module _ (at : ℕ) (low high : List ℕ) where
   ranges : IsNumeral 10 low → IsNumeral 10 high → digits_value 10 low ≤ digits_value 10 high → is_range low high ≡ true
   ranges low_is high_is order =
       and_from (is_numeral 10 low) (is_numeral 10 high && nat_le (digits_value 10 low) (digits_value 10 high))
-          ((Decides-is_numeral 10 low).1 low_is)
+      ((Decides-is_numeral 10 low).1 low_is)
       (and_from (is_numeral 10 high) (nat_le (digits_value 10 low) (digits_value 10 high)) ((Decides-is_numeral 10 high).1 high_is)
-          (le-leb (digits_value 10 low) (digits_value 10 high) order))
+      (le-leb (digits_value 10 low) (digits_value 10 high) order))
 
   chosen : (first second : Bool) → nat_le 4096 (digits_value 10 low) ≡ first → nat_le 4096 (digits_value 10 high) ≡ second
       → cond (nat_le 4096 (digits_value 10 low)) (Some (TooLarge at))
-          (cond (nat_le 4096 (digits_value 10 high)) (Some (TooLarge (at + length low + 1))) None) ≡ cond first (Some (TooLarge at))
-          (cond second (Some (TooLarge (at + length low + 1))) None)
+      (cond (nat_le 4096 (digits_value 10 high)) (Some (TooLarge (at + length low + 1))) None) ≡ cond first (Some (TooLarge at))
+      (cond second (Some (TooLarge (at + length low + 1))) None)
   chosen first second first_is second_is =
       ap (λ t. cond t (Some (TooLarge at)) (cond (nat_le 4096 (digits_value 10 high)) (Some (TooLarge (at + length low + 1))) None))
-          first_is
+      first_is
       ∙ ap (λ t. cond first (Some (TooLarge at)) (cond t (Some (TooLarge (at + length low + 1))) None)) second_is
 
   pub range_good : (first last : ℕ) → Reads 10 4095 low (Number first) → Reads 10 4095 high (Number last) → first ≤ last
@@ -81,21 +136,21 @@ module _ (at : ℕ) (low high : List ℕ) where
   range_good first last low_reads high_reads order =
       by_range true None (ranges low_reads.0 high_reads.0 (omega (arith, low_reads.1, high_reads.1)))
       (chosen false false (lt-leb 4096 (digits_value 10 low) (omega (arith, low_reads.1, low_reads.2)))
-          (lt-leb 4096 (digits_value 10 high) (omega (arith, high_reads.1, high_reads.2))))
+      (lt-leb 4096 (digits_value 10 high) (omega (arith, high_reads.1, high_reads.2))))
 
   pub range_high : (first : ℕ) → Reads 10 4095 low (Number first) → Reads 10 4095 high Over
       → range_fault at low high ≡ Some (TooLarge (at + length low + 1))
   range_high first low_reads high_reads =
       by_range true _ (ranges low_reads.0 high_reads.0 (omega (arith, low_reads.1, low_reads.2, high_reads.1)))
       (chosen false true (lt-leb 4096 (digits_value 10 low) (omega (arith, low_reads.1, low_reads.2)))
-          (le-leb 4096 (digits_value 10 high) (omega (arith, high_reads.1))))
+      (le-leb 4096 (digits_value 10 high) (omega (arith, high_reads.1))))
 
   pub range_low : Reads 10 4095 low Over → Reads 10 4095 high Over → ¬ (digits_value 10 high < digits_value 10 low)
       → range_fault at low high ≡ Some (TooLarge at)
   range_low low_reads high_reads order =
       by_range true _ (ranges low_reads.0 high_reads.0 (omega (arith, order)))
       (chosen true true (le-leb 4096 (digits_value 10 low) (omega (arith, low_reads.1)))
-          (le-leb 4096 (digits_value 10 high) (omega (arith, high_reads.1))))
+      (le-leb 4096 (digits_value 10 high) (omega (arith, high_reads.1))))
 
   pub range_not_low : ¬ (IsNumeral 10 low) → range_fault at low high ≡ Some (Form at)
   range_not_low lacks =
@@ -136,7 +191,7 @@ module _ (p : ℕ → Bool) (front : List ℕ) (byte : ℕ) (back : List ℕ) (n
 pub before_none : (p : ℕ → Bool) (text : List ℕ) → All (λ byte. p byte ≡ false) text → before_first p text ≡ text
 before_none p text none =
     ap (λ n. take n text) (position_or_len_is p text (length text) 0 (omega arith) (λ k below. none k 0 below)
-        (λ within. absurd (omega arith))) ∙ take_all (length text) text (omega arith)
+    (λ within. absurd (omega arith))) ∙ take_all (length text) text (omega arith)
 
 pub record Ends (item low high : List ℕ) : Type 0 where
   pub low_is : low_end item ≡ low
@@ -173,14 +228,14 @@ pub rule_whole : (at : ℕ) (item : List ℕ) → ¬ (Contains item 45) → list
 rule_whole at item lacks =
     rule_at at item item item (whole_ends item lacks)
     (and_right (is_numeral 10 (low_end item)) (has_dash item && (length (high_end item) == 0))
-        (and_left (has_dash item) (length (high_end item) == 0) (whole_dash item lacks)))
+    (and_left (has_dash item) (length (high_end item) == 0) (whole_dash item lacks)))
 
 pub rule_cut : (at : ℕ) (item low high : List ℕ) → IsCutAt 45 item low high → (length high == 0) ≡ false
     → list_rule at 0 item ≡ range_fault at low high
 rule_cut at item low high cut some =
     rule_at at item low high (cut_ends item low high cut)
     (and_right (is_numeral 10 (low_end item)) (has_dash item && (length (high_end item) == 0))
-        (and_right (has_dash item) (length (high_end item) == 0) (ap (λ end. length end == 0) (cut_ends item low high cut).high_is ∙ some)))
+    (and_right (has_dash item) (length (high_end item) == 0) (ap (λ end. length end == 0) (cut_ends item low high cut).high_is ∙ some)))
 
 pub rule_open : (at : ℕ) (item low high : List ℕ) → IsCutAt 45 item low high → (length high == 0) ≡ true
     → list_rule at 0 item ≡ Some (if is_numeral 10 low then Infinite at else Form at)
@@ -189,7 +244,7 @@ rule_open at item low high cut none =
     ∙ ap (λ end. cond (is_numeral 10 low) (Some (Infinite at)) (range_fault at end (high_end item))) ends.low_is
     ∙ ap (λ end. cond (is_numeral 10 low) (Some (Infinite at)) (range_fault at low end)) ends.high_is
     ∙ ap (λ fault. cond (is_numeral 10 low) (Some (Infinite at)) fault)
-        (range_not_high at low high (λ numeral. absurd (omega (arith, numeral.0, eqb-true (length high) 0 none))))
+    (range_not_high at low high (λ numeral. absurd (omega (arith, numeral.0, eqb-true (length high) 0 none))))
     ∙ inside (is_numeral 10 low)
   where
     ends : Ends item low high
@@ -199,7 +254,7 @@ rule_open at item low high cut none =
     opens = ap (λ t. is_numeral 10 (low_end item) && (t && (length (high_end item) == 0))) (cut_dash item low high cut)
         ∙ ap (λ end. is_numeral 10 (low_end item) && (length end == 0)) ends.high_is
         ∙ ap (λ t. is_numeral 10 (low_end item) && t) none ∙ ap (λ end. is_numeral 10 end && true) ends.low_is
-            ∙ and_true (is_numeral 10 low)
+        ∙ and_true (is_numeral 10 low)
 
     inside : (numeral : Bool) → cond numeral (Some (Infinite at)) (Some (Form at)) ≡ Some (cond numeral (Infinite at) (Form at))
     inside true = refl
@@ -241,7 +296,7 @@ module _ (text : List ℕ) (rest : Bor (List ℕ)) (at : ℕ) (set : List ℕ) (
     (so_far : ListSoFar text (Some rest) at set) (first : parts_of rest.now ≡ item ∷ parts_left behind) where
   pub list_more : (low high : ℕ) (new : List ℕ) → list_rule at 0 item ≡ None → low ≡ low_value item → high ≡ high_value item
       → new ≡ numbers_where (λ number. has set number || (nat_le low number && nat_le number high))
-          → ListSoFar text behind (at + (length item + 1)) new
+      → ListSoFar text behind (at + (length item + 1)) new
   list_more low high new good low_is high_is new_is = record {
     place = omega (arith, so_far.place, ap spanned first);
     fault = ap (λ n. leftmost list_rule n (parts_left behind)) (sym (add_assoc at (length item) 1))
@@ -250,11 +305,11 @@ module _ (text : List ℕ) (rest : Bor (List ℕ)) (at : ℕ) (set : List ℕ) (
     members = λ number below.
         ap (λ s. has s number || list_any (covers number) (parts_left behind)) new_is
         ∙ ap (λ t. t || list_any (covers number) (parts_left behind))
-            (has-numbers_below 4096 (λ n. has set n || (nat_le low n && nat_le n high)) number below)
+        (has-numbers_below 4096 (λ n. has set n || (nat_le low n && nat_le n high)) number below)
         ∙ or_assoc (has set number) (nat_le low number && nat_le number high) (list_any (covers number) (parts_left behind))
         ∙ ap (λ n. has set number || ((nat_le n number && nat_le number high) || list_any (covers number) (parts_left behind))) low_is
         ∙ ap (λ n. has set number || ((nat_le (low_value item) number && nat_le number n) || list_any (covers number) (parts_left behind)))
-            high_is
+        high_is
         ∙ ap (λ parts. has set number || list_any (covers number) parts) (sym first)
         ∙ so_far.members number below;
   }

@@ -1,7 +1,35 @@
 -- Writing the list text, run by run from the lowest.
 use Rattle.std.proofs.Common.{
-  ◌≡◌, ◌≢◌, ℕ, ◌+◌, ◌*◌, ◌/◌, ◌<◌, ◌≤◌, Bool, true, false, cond, ◌==◌, nat_le, List, [], ◌∷◌, ◌++◌, length, map, refl,
-  sym, ap, ◌∙◌, append_assoc, arith, ◌⊎◌, inl, inr, decimal
+  ◌≡◌,
+  ◌≢◌,
+  ℕ,
+  ◌+◌,
+  ◌*◌,
+  ◌/◌,
+  ◌<◌,
+  ◌≤◌,
+  Bool,
+  true,
+  false,
+  cond,
+  ◌==◌,
+  nat_le,
+  List,
+  [],
+  ◌∷◌,
+  ◌++◌,
+  length,
+  map,
+  refl,
+  sym,
+  ap,
+  ◌∙◌,
+  append_assoc,
+  arith,
+  ◌⊎◌,
+  inl,
+  inr,
+  decimal,
 }
 use Rattle.std.specs.Bool.{Decides}
 use Rattle.std.specs.List.{Contains, join_with_byte, flat_map}
@@ -42,7 +70,7 @@ alone number [] apart = refl
 alone number (x ∷ xs) apart =
     let begins = runs_begin x (runs_of xs) in
     ap (onto_runs number) begins.2 ∙ onto_apart number x begins.0 begins.1 (apart x xs refl)
-        ∙ ap (λ runs. (number, number) ∷ runs) (sym begins.2)
+    ∙ ap (λ runs. (number, number) ∷ runs) (sym begins.2)
 
 -- what the loop of `run_from` keeps: the run of the first number goes on as that of the last
 pub record RunSoFar (set : List ℕ) (first last : ℕ) : Type 0 where
@@ -61,14 +89,14 @@ module _ (set : List ℕ) (ok : IsSet set) where
     limit = omega arith;
     goes_on = λ end rest is. so_far.goes_on end rest
         (ap (onto_runs last) (ap runs_of
-            (numbers_from-found (last + 1) (last + 1) set ok found (omega arith) (λ n low high. absurd (omega arith))) ∙ is)
-            ∙ onto_next last end rest);
+        (numbers_from-found (last + 1) (last + 1) set ok found (omega arith) (λ n low high. absurd (omega arith))) ∙ is)
+        ∙ onto_next last end rest);
   }
 
   head_among : (from x : ℕ) (xs : List ℕ) → numbers_from from set ≡ x ∷ xs → (has set x ≡ true) × (from ≤ x)
   head_among from x xs is =
       let kept = and_parts (has set x) (nat_le from x)
-          (sym (has-filter (λ n. nat_le from n) set x) ∙ ap (λ ns. has ns x) is ∙ has_first x x xs refl) in
+      (sym (has-filter (λ n. nat_le from n) set x) ∙ ap (λ ns. has ns x) is ∙ has_first x x xs refl) in
       (kept.0, leb-true from x kept.1)
 
   pub run_end : (from first last : ℕ) → RunSoFar set first last → has set (last + 1) ≡ false
@@ -76,7 +104,7 @@ module _ (set : List ℕ) (ok : IsSet set) where
       → runs_of (numbers_from from set) ≡ (first, last) ∷ runs_of (numbers_from (last + 1) set)
   run_end from first last so_far none is =
       ap runs_of is ∙ so_far.goes_on last (runs_of (numbers_from (last + 1) set))
-          (alone last (numbers_from (last + 1) set) (λ x xs begins same.
+      (alone last (numbers_from (last + 1) set) (λ x xs begins same.
       false≢true (sym none ∙ ap (has set) (sym same) ∙ (head_among (last + 1) x xs begins).0)))
 
   pub run_end_past : (last : ℕ) → 4095 ≤ last → has set (last + 1) ≡ false
@@ -168,22 +196,31 @@ module _ (set : List ℕ) (from first last : ℕ) (text : List ℕ) (written : L
   pub list_next : 0 < length text → ListWritten set (last + 1) ((text ++ 44 ∷ []) ++ run_text (first, last))
   list_next some = record {
     whole =
-        inr (omega (arith, length-append (text ++ 44 ∷ []) (run_text (first, last)), length-append text (44 ∷ [])), next_whole
-        written.whole);
+        inr (
+          omega (arith, length-append (text ++ 44 ∷ []) (run_text (first, last)), length-append text (44 ∷ [])),
+          next_whole
+              written.whole,
+        );
     bound =
-        omega (arith, written.bound, run_short first last (omega arith) low, length-append (text ++ 44 ∷ [])
-        (run_text (first, last)), length-append text (44 ∷ []));
+        omega (
+          arith,
+          written.bound,
+          run_short first last (omega arith) low,
+          length-append (text ++ 44 ∷ [])
+              (run_text (first, last)),
+          length-append text (44 ∷ []),
+        );
     limit = omega arith;
   }
     where
       next_whole : ((text ≡ []) × (runs_of (numbers_from from set) ≡ runs_of set))
           ⊎ ((0 < length text) × (text ++ flat_map (λ run. 44 ∷ run_text run) (runs_of (numbers_from from set)) ≡ list_text set))
           → ((text ++ 44 ∷ []) ++ run_text (first, last))
-              ++ flat_map (λ run. 44 ∷ run_text run) (runs_of (numbers_from (last + 1) set)) ≡ list_text set
+          ++ flat_map (λ run. 44 ∷ run_text run) (runs_of (numbers_from (last + 1) set)) ≡ list_text set
       next_whole (inl begun) = absurd (omega (arith, ap length begun.0))
       next_whole (inr more) =
           append_assoc (text ++ 44 ∷ []) (run_text (first, last))
-              (flat_map (λ run. 44 ∷ run_text run) (runs_of (numbers_from (last + 1) set)))
+          (flat_map (λ run. 44 ∷ run_text run) (runs_of (numbers_from (last + 1) set)))
           ∙ append_assoc text (44 ∷ []) (run_text (first, last)
-              ++ flat_map (λ run. 44 ∷ run_text run) (runs_of (numbers_from (last + 1) set)))
+          ++ flat_map (λ run. 44 ∷ run_text run) (runs_of (numbers_from (last + 1) set)))
           ∙ ap (λ runs. text ++ flat_map (λ run. 44 ∷ run_text run) runs) (sym run_is) ∙ more.1

@@ -26,7 +26,7 @@ HasJust-all test = record { set = IsSet-numbers_where test; members = numbers-Ha
 pub SameByMembers-all : (one other : List ℕ) → SameByMembers one other
 SameByMembers-all one other one_set other_set agree = same_set one other one_set other_set (λ n below.
     same_from_decides (has one n) (has other n) (Decides-has one n)
-        (Decides-like (has other n) (agree n).1 (agree n).0 (Decides-has other n)))
+    (Decides-like (has other n) (agree n).1 (agree n).0 (Decides-has other n)))
 
 -- a set made of two, by a test of what each has
 module _ (one other : List ℕ) (one_set : IsSet one) (other_set : IsSet other) where
@@ -36,7 +36,7 @@ module _ (one other : List ℕ) (one_set : IsSet one) (other_set : IsSet other) 
     | inl below ↦ has-numbers_below 4096 (λ m. test (has one m) (has other m)) n below
     | inr past ↦ has-numbers_below_past 4096 (λ m. test (has one m) (has other m)) n past
         ∙ sym (ap (λ t. test t (has other n)) (has-past one n one_set past) ∙ ap (λ t. test false t) (has-past other n other_set past)
-            ∙ none)
+        ∙ none)
   ]
 
   members : (test : Bool → Bool → Bool) (Kept : Type 0) (n : ℕ) → test false false ≡ false → Decides (test (has one n) (has other n)) Kept

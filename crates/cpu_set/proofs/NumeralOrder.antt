@@ -1,7 +1,31 @@
 -- Decimal numerals of any length, compared.
 use Rattle.std.proofs.Common.{
-  ◌≡◌, ◌≢◌, ℕ, zero, suc, ◌+◌, ◌*◌, ◌^◌, ◌<◌, ◌≤◌, Bool, false, nat_lt, List, [], ◌∷◌, length, map, get_or, lit<, sym,
-  ap, ◌∙◌, arith, inl, inr
+  ◌≡◌,
+  ◌≢◌,
+  ℕ,
+  zero,
+  suc,
+  ◌+◌,
+  ◌*◌,
+  ◌^◌,
+  ◌<◌,
+  ◌≤◌,
+  Bool,
+  false,
+  nat_lt,
+  List,
+  [],
+  ◌∷◌,
+  length,
+  map,
+  get_or,
+  lit<,
+  sym,
+  ap,
+  ◌∙◌,
+  arith,
+  inl,
+  inr,
 }
 use Rattle.std.specs.Bool.{Decides}
 use Rattle.std.specs.Char.{digit_value}
@@ -36,7 +60,7 @@ higher (d ∷ ds) [] i digits long within same less = absurd (omega arith)
 higher (d ∷ ds) (e ∷ es) zero digits long within same less =
     let count : length ds ≡ length es = omega arith in
     rw (number_cons, number_cons) (rw count
-        (higher_first d e (number_from_digits 10 ds) (number_from_digits 10 es) (10 ^ length es) less (number_lt 10 es digits.1)))
+    (higher_first d e (number_from_digits 10 ds) (number_from_digits 10 es) (10 ^ length es) less (number_lt 10 es digits.1)))
 higher (d ∷ ds) (e ∷ es) (suc i) digits long within same less =
     let first : d ≡ e = same 0 (omega arith) in
     let rest = higher ds es i digits.1 (omega arith) (omega arith) (λ k below. same (suc k) (omega arith)) less in
@@ -71,17 +95,20 @@ module _ (one other : List ℕ) (digits : AllDigits 10 one) (other_digits : AllD
       (higher (map digit_value one) (map digit_value other) i (all_below_base_from_digits 10 other other_digits)
       (length-map one digit_value ∙ long ∙ sym (length-map other digit_value)) (omega (arith, length-map one digit_value))
       (λ k below. get_or-map digit_value one k 0 0 (omega arith) ∙ ap digit_value (same k below)
-          ∙ sym (get_or-map digit_value other k 0 0 (omega arith)))
+      ∙ sym (get_or-map digit_value other k 0 0 (omega arith)))
       (rw (get_or-map digit_value other i 0 0 (omega arith), get_or-map digit_value one i 0 0 within)
       (code_order (get_or other i 0) (get_or one i 0) (digit_at 10 other i other_digits (omega arith))
-          (digit_at 10 one i digits within) less)))
+      (digit_at 10 one i digits within) less)))
 
 pub above_at : (one other : List ℕ) (i : ℕ) → AllDigits 10 one → AllDigits 10 other → length one ≡ length other → i < length one
     → ((k : ℕ) → k < i → get_or one k 0 ≡ get_or other k 0) → get_or one i 0 ≢ get_or other i 0
     → Decides (nat_lt (get_or other i 0) (get_or one i 0)) (digits_value 10 other < digits_value 10 one)
 above_at one other i digits other_digits long within same differs = elim (cases_lt (get_or other i 0) (get_or one i 0)) [
-  | inl less ↦ (λ yes_less. decided one other digits other_digits long i within same less, λ more. lt-ltb (get_or other i 0)
-      (get_or one i 0) less)
+  | inl less ↦ (
+    λ yes_less. decided one other digits other_digits long i within same less,
+    λ more. lt-ltb (get_or other i 0)
+        (get_or one i 0) less,
+  )
   | inr at_most ↦
       let under = decided other one other_digits digits (sym long) i (omega arith) (λ k below. sym (same k below)) (omega arith) in
       (λ yes_less. absurd (omega (arith, ltb-true (get_or other i 0) (get_or one i 0) yes_less)), λ more. absurd (omega arith))

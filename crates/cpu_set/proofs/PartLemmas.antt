@@ -1,7 +1,28 @@
 -- The parts of a text between commas, one after another.
 use Rattle.std.proofs.Common.{
-  ◌≡◌, ℕ, suc, ◌+◌, ◌<◌, Bool, true, false, cond, ◌==◌, List, [], ◌∷◌, length, get_or, Option, Some, None, refl, sym,
-  ap, ◌∙◌, arith
+  ◌≡◌,
+  ℕ,
+  suc,
+  ◌+◌,
+  ◌<◌,
+  Bool,
+  true,
+  false,
+  cond,
+  ◌==◌,
+  List,
+  [],
+  ◌∷◌,
+  length,
+  get_or,
+  Option,
+  Some,
+  None,
+  refl,
+  sym,
+  ap,
+  ◌∙◌,
+  arith,
 }
 use Rattle.std.specs.Borrow.{Bor}
 use Rattle.std.specs.List.{All, Contains, onto_first, count_by}

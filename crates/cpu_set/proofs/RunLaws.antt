@@ -1,7 +1,30 @@
 -- The runs of an ascending list are its maximal ones.
 use Rattle.std.proofs.Common.{
-  ◌≡◌, ℕ, zero, suc, ◌+◌, ◌-◌, ◌<◌, ◌≤◌, Bool, true, false, cond, ◌==◌, List, [], ◌∷◌, ◌++◌, length, get_or, refl, sym,
-  ap, ◌∙◌, subst, arith
+  ◌≡◌,
+  ℕ,
+  zero,
+  suc,
+  ◌+◌,
+  ◌-◌,
+  ◌<◌,
+  ◌≤◌,
+  Bool,
+  true,
+  false,
+  cond,
+  ◌==◌,
+  List,
+  [],
+  ◌∷◌,
+  ◌++◌,
+  length,
+  get_or,
+  refl,
+  sym,
+  ap,
+  ◌∙◌,
+  subst,
+  arith,
 }
 use Rattle.std.specs.List.{AllByRecursion, AllAdjacentBelow, flat_map, range_with_len}
 use Rattle.std.proofs.lemmas.Bool.{eqb-true, eqb-false}
@@ -34,7 +57,7 @@ runs_apart : (low : ℕ) (numbers : List ℕ) → Rises low numbers → Apart lo
 runs_apart low [] rises = tt
 runs_apart low (number ∷ numbers) rises =
     Apart-lower number low (onto_runs number (runs_of numbers)) rises.0
-        (onto_apart number (runs_of numbers) (runs_apart (number + 1) numbers rises.1))
+    (onto_apart number (runs_of numbers) (runs_apart (number + 1) numbers rises.1))
 
 abbrev numbers_of : List (ℕ × ℕ) → List ℕ
 numbers_of runs = flat_map (λ run. range_with_len run.0 (run.1 + 1 - run.0)) runs
@@ -64,7 +87,7 @@ numbers_back : (low : ℕ) (numbers : List ℕ) → Rises low numbers → number
 numbers_back low [] rises = refl
 numbers_back low (number ∷ numbers) rises =
     numbers_of-onto number (runs_of numbers) (runs_apart (number + 1) numbers rises.1)
-        ∙ ap (λ rest. number ∷ rest) (numbers_back (number + 1) numbers rises.1)
+    ∙ ap (λ rest. number ∷ rest) (numbers_back (number + 1) numbers rises.1)
 
 some_numbers : (low : ℕ) (runs : List (ℕ × ℕ)) → Apart low runs → AllByRecursion (λ run. run.0 ≤ run.1) runs
 some_numbers low [] apart = tt
@@ -82,7 +105,7 @@ gaps low runs apart = λ k d within. gap_at low runs k d apart within
         let all = (first, last) ∷ (second, end) ∷ runs in
         let next : suc (k + 1) ≡ suc k + 1 = omega arith in
         subst (λ i. (get_or all (suc k) d).1 + 1 < (get_or all i d).0) next
-            (gap_at (last + 2) ((second, end) ∷ runs) k d apart.2 (omega arith))
+        (gap_at (last + 2) ((second, end) ∷ runs) k d apart.2 (omega arith))
 
 pub maximal_runs : (set : List ℕ) → IsSet set → AreMaximalRuns set (runs_of set)
 maximal_runs set ok = record {

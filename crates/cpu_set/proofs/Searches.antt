@@ -1,7 +1,36 @@
 -- The lowest number from a start on, and the highest number, found word by word.
 use Rattle.std.proofs.Common.{
-  ◌≡◌, ◌≢◌, ℕ, ◌+◌, ◌-◌, ◌*◌, ◌/◌, ◌%◌, ◌^◌, ◌<◌, ◌≤◌, Bool, true, false, not, ◌&&◌, ◌==◌, nat_le, List, [], ◌∷◌,
-  get_or, refl, sym, ap, ◌∙◌, arith, inl, inr, bit_and, w32
+  ◌≡◌,
+  ◌≢◌,
+  ℕ,
+  ◌+◌,
+  ◌-◌,
+  ◌*◌,
+  ◌/◌,
+  ◌%◌,
+  ◌^◌,
+  ◌<◌,
+  ◌≤◌,
+  Bool,
+  true,
+  false,
+  not,
+  ◌&&◌,
+  ◌==◌,
+  nat_le,
+  List,
+  [],
+  ◌∷◌,
+  get_or,
+  refl,
+  sym,
+  ap,
+  ◌∙◌,
+  arith,
+  inl,
+  inr,
+  bit_and,
+  w32,
 }
 use Rattle.std.specs.Int.{bit_at, trailing_zeros, leading_zeros}
 use Rattle.std.specs.Bool.{Decides}
@@ -10,7 +39,13 @@ use Rattle.std.proofs.lemmas.Bool.Decides.{Decides-and}
 use Rattle.std.specs.Int.{bit_not}
 use Rattle.std.specs.List.{All, AllByRecursion as ByRecursion, Contains, list_any, list_all}
 use Rattle.std.proofs.lemmas.List.Elements.{
-  All-get_or, All-from_get_or, All-contains, All-from_recursion, recursion_from_All, Contains-get_or, at_from_Contains
+  All-get_or,
+  All-from_get_or,
+  All-contains,
+  All-from_recursion,
+  recursion_from_All,
+  Contains-get_or,
+  at_from_Contains,
 }
 use Rattle.std.proofs.lemmas.List.Folds.{list_any_none, list_any_at}
 use Rattle.std.proofs.lemmas.Nat.{and_le_l}
@@ -22,8 +57,12 @@ use Rattle.cpu_set.specs.Bits.{is_bit_of, AreWords, set_of_words}
 use Rattle.cpu_set.specs.WordLaws.{is_bit_of-at, test_from_bit}
 use Rattle.cpu_set.specs.Texts.{numbers_from, highest}
 use Rattle.cpu_set.proofs.Ends.{
-  LowestBit-trailing_zeros, HighestBit-leading_zeros, numbers_from-found, numbers_from-none, highest-found,
-  highest-none
+  LowestBit-trailing_zeros,
+  HighestBit-leading_zeros,
+  numbers_from-found,
+  numbers_from-none,
+  highest-found,
+  highest-none,
 }
 use Rattle.cpu_set.proofs.SetSteps.{IsSet-view, has-view, narrow_word, test-and, test-and_not, and_not, bit_from}
 
@@ -61,19 +100,22 @@ module _ (words members : List ℕ) (view : set_of_words words ≡ members) (ok 
   masked_none masked is n at same none =
       ap (λ q. bit_at (get_or words q 0) (n % 32) == 1) same
       ∙ dropped (bit_at (get_or words (from / 32) 0) (n % 32) == 1) (nat_le (from % 32) (n % 32))
-          (sym (masked_bit masked (n % 32) is (omega arith)) ∙ none) (le-leb (from % 32) (n % 32) (omega arith))
+      (sym (masked_bit masked (n % 32) is (omega arith)) ∙ none) (le-leb (from % 32) (n % 32) (omega arith))
 
   pub found_first : (masked : ℕ) → masked ≡ bit_and (get_or words (from / 32) 0) (4294967295 * 2 ^ (from % 32) % 4294967296) → masked ≢ 0
       → Found members from (32 * (from / 32) + trailing_zeros w32 masked)
   found_first masked is some =
-      let narrow : masked < 2 ^ 32 = omega
-          (arith, and_le_l (get_or words (from / 32) 0) (4294967295 * 2 ^ (from % 32) % 4294967296), narrow_word words (from / 32) ok
-          (omega arith)) in
+      let narrow : masked < 2 ^ 32 = omega (
+        arith,
+        and_le_l (get_or words (from / 32) 0) (4294967295 * 2 ^ (from % 32) % 4294967296),
+        narrow_word words (from / 32) ok
+            (omega arith),
+      ) in
       let lowest = LowestBit-trailing_zeros masked some narrow in
       let place = from / 32 in
       let bit = trailing_zeros w32 masked in
       let parts = and_parts (bit_at (get_or words place 0) bit == 1) (nat_le (from % 32) bit)
-          (sym (masked_bit masked bit is lowest.within) ∙ lowest.is_set) in
+      (sym (masked_bit masked bit is lowest.within) ∙ lowest.is_set) in
       let at : from % 32 ≤ bit = leb-true (from % 32) bit parts.1 in
       record {
         has_it =
@@ -203,28 +245,28 @@ module _ (ones others one_set other_set : List ℕ) (one_view : set_of_words one
       let limit : n < 4096 = All-get_or (λ m. m < 4096) one_set i 0 within ok.below in
       let here : has one_set n ≡ true = (Decides-has one_set n).1 (Contains-get_or one_set i 0 within) in
       let bits = sym (test-and_not (get_or ones (n / 32) 0) (get_or others (n / 32) 0) (n % 32)
-          (narrow_word others (n / 32) are_others (omega arith)) (omega arith))
+      (narrow_word others (n / 32) are_others (omega arith)) (omega arith))
       ∙ ap (λ word. bit_at word (n % 32) == 1) (inside.none (n / 32) (omega arith)) ∙ ap (λ value. value == 1) (bit_at-zero (n % 32)) in
       (Decides-has other_set n).0 (has-view others other_set other_view n limit
-          ∙ kept_out (is_bit_of ones n) (is_bit_of others n) bits (sym (has-view ones one_set one_view n limit) ∙ here)))
+      ∙ kept_out (is_bit_of ones n) (is_bit_of others n) bits (sym (has-view ones one_set one_view n limit) ∙ here)))
 
   pub not_inside : (place : ℕ) → place < 128 → and_not (get_or ones place 0) (get_or others place 0) ≢ 0
       → ¬ (All (Contains other_set) one_set)
   not_inside place below some all =
       let lowest = LowestBit-trailing_zeros (and_not (get_or ones place 0) (get_or others place 0)) some
-          (omega (arith, and_le_l (get_or ones place 0) (bit_not w32 (get_or others place 0)), narrow_word ones place are_ones below)) in
+      (omega (arith, and_le_l (get_or ones place 0) (bit_not w32 (get_or others place 0)), narrow_word ones place are_ones below)) in
       let bit = trailing_zeros w32 (and_not (get_or ones place 0) (get_or others place 0)) in
       let n = 32 * place + bit in
       let limit : n < 4096 = omega (arith, lowest.within) in
       let parts = and_parts (bit_at (get_or ones place 0) bit == 1) (not (bit_at (get_or others place 0) bit == 1))
       (sym (test-and_not (get_or ones place 0) (get_or others place 0) bit (narrow_word others place are_others below) lowest.within)
-          ∙ lowest.is_set) in
+      ∙ lowest.is_set) in
       let here : has one_set n ≡ true = has-view ones one_set one_view n limit ∙ is_bit_of-at ones place bit lowest.within ∙ parts.0 in
       let there : has other_set n ≡ false =
-          has-view others other_set other_view n limit ∙ is_bit_of-at others place bit lowest.within
-          ∙ not-true (bit_at (get_or others place 0) bit == 1) parts.1 in
+      has-view others other_set other_view n limit ∙ is_bit_of-at others place bit lowest.within
+      ∙ not-true (bit_at (get_or others place 0) bit == 1) parts.1 in
       false≢true (sym there ∙ (Decides-has other_set n).1
-          (All-contains (Contains other_set) one_set n all ((Decides-has one_set n).0 here)))
+      (All-contains (Contains other_set) one_set n all ((Decides-has one_set n).0 here)))
 
 -- ---- a number in common
 
@@ -260,13 +302,13 @@ module _ (ones others one_set other_set : List ℕ) (one_view : set_of_words one
       let bits = sym (test-and (get_or ones (n / 32) 0) (get_or others (n / 32) 0) (n % 32))
       ∙ ap (λ word. bit_at word (n % 32) == 1) (apart.none (n / 32) (omega arith)) ∙ ap (λ value. value == 1) (bit_at-zero (n % 32)) in
       has-view others other_set other_view n limit
-          ∙ left_out (is_bit_of ones n) (is_bit_of others n) bits (sym (has-view ones one_set one_view n limit) ∙ here)))
+      ∙ left_out (is_bit_of ones n) (is_bit_of others n) bits (sym (has-view ones one_set one_view n limit) ∙ here)))
 
   pub not_apart : (place : ℕ) → place < 128 → bit_and (get_or ones place 0) (get_or others place 0) ≢ 0 → meets one_set other_set ≡ true
   unfolding meets
   not_apart place below some =
       let lowest = LowestBit-trailing_zeros (bit_and (get_or ones place 0) (get_or others place 0)) some
-          (omega (arith, and_le_l (get_or ones place 0) (get_or others place 0), narrow_word ones place are_ones below)) in
+      (omega (arith, and_le_l (get_or ones place 0) (get_or others place 0), narrow_word ones place are_ones below)) in
       let bit = trailing_zeros w32 (bit_and (get_or ones place 0) (get_or others place 0)) in
       let n = 32 * place + bit in
       let limit : n < 4096 = omega (arith, lowest.within) in
@@ -274,7 +316,7 @@ module _ (ones others one_set other_set : List ℕ) (one_view : set_of_words one
       (sym (test-and (get_or ones place 0) (get_or others place 0) bit) ∙ lowest.is_set) in
       let here : has one_set n ≡ true = has-view ones one_set one_view n limit ∙ is_bit_of-at ones place bit lowest.within ∙ parts.0 in
       let there : has other_set n ≡ true =
-          has-view others other_set other_view n limit ∙ is_bit_of-at others place bit lowest.within ∙ parts.1 in
+      has-view others other_set other_view n limit ∙ is_bit_of-at others place bit lowest.within ∙ parts.1 in
       let at = at_from_Contains one_set n ((Decides-has one_set n).0 here) in
       list_any_at (has other_set) one_set at.0 n at.1 (ap (has other_set) (at.2 n) ∙ there)
 

@@ -1,8 +1,49 @@
 -- What the operations on words do to the set that they stand for.
 use Rattle.std.proofs.Common.{
-  ◌≡◌, ◌≢◌, ℕ, zero, suc, ◌+◌, ◌-◌, ◌*◌, ◌/◌, ◌%◌, ◌^◌, ◌<◌, ◌≤◌, min, max, Bool, true, false, cond, not, ◌&&◌, ◌||◌,
-  ◌==◌, nat_lt, nat_le, List, [], ◌∷◌, length, replicate, get_or, set, lit<, refl, sym, ap, ◌∙◌, arith, ◌⊎◌, inl, inr,
-  bit_and, bit_or, w32
+  ◌≡◌,
+  ◌≢◌,
+  ℕ,
+  zero,
+  suc,
+  ◌+◌,
+  ◌-◌,
+  ◌*◌,
+  ◌/◌,
+  ◌%◌,
+  ◌^◌,
+  ◌<◌,
+  ◌≤◌,
+  min,
+  max,
+  Bool,
+  true,
+  false,
+  cond,
+  not,
+  ◌&&◌,
+  ◌||◌,
+  ◌==◌,
+  nat_lt,
+  nat_le,
+  List,
+  [],
+  ◌∷◌,
+  length,
+  replicate,
+  get_or,
+  set,
+  lit<,
+  refl,
+  sym,
+  ap,
+  ◌∙◌,
+  arith,
+  ◌⊎◌,
+  inl,
+  inr,
+  bit_and,
+  bit_or,
+  w32,
 }
 use Rattle.std.specs.Int.{bit_not}
 use Rattle.std.specs.Prelude.{bit_xor}
@@ -13,15 +54,33 @@ use Rattle.std.proofs.lemmas.Bool.Decides.{nat_tests, Decides-at}
 use Rattle.std.proofs.lemmas.List.{length-replicate, get_or-set_same, get_or-set_other, length-set}
 use Rattle.std.proofs.lemmas.List.Elements.{All-replicate, All-get_or, All-from_get_or}
 use Rattle.std.proofs.lemmas.Nat.Bits.{
-  bit_at-zero, bit_at_or, ones_shr, ones_shl, bit_at_ones, bit_at_ones_above, bit_at_mask_inside, bit_at_mask_below,
-  bit_at_and, bit_at_xor, bit_at_not, bit_at-lt, bit_at-pow_same, bit_at-pow_other, shr_and_one
+  bit_at-zero,
+  bit_at_or,
+  ones_shr,
+  ones_shl,
+  bit_at_ones,
+  bit_at_ones_above,
+  bit_at_mask_inside,
+  bit_at_mask_below,
+  bit_at_and,
+  bit_at_xor,
+  bit_at_not,
+  bit_at-lt,
+  bit_at-pow_same,
+  bit_at-pow_other,
+  shr_and_one,
 }
 use Rattle.std.specs.Bool.{Decides}
 use Rattle.std.proofs.lemmas.Nat.{shl_whole, or_lt, xor_lt, and_le_l}
 use Rattle.cpu_set.specs.Sets.{has, numbers_below, numbers_where, IsSet, union, minus, meet, xor}
 use Rattle.cpu_set.specs.SetLaws.{
-  has-numbers_below, numbers_below-same, IsSet-numbers_where, numbers_where-has, numbers_below-has, Decides-has,
-  has-past
+  has-numbers_below,
+  numbers_below-same,
+  IsSet-numbers_where,
+  numbers_where-has,
+  numbers_below-has,
+  Decides-has,
+  has-past,
 }
 use Rattle.cpu_set.specs.Bits.{is_bit_of, AreWords, set_of_words, word_of}
 use Rattle.cpu_set.specs.WordLaws.{word_of-set_of_words}
@@ -90,7 +149,7 @@ test-or one other bit =
 
 test-set_or : (words : List ℕ) (place word at bit : ℕ) → place < length words
     → (bit_at (get_or (set words place (bit_or (get_or words place 0) word)) at 0) bit == 1)
-        ≡ (bit_at (get_or words at 0) bit == 1 || (at == place && bit_at word bit == 1))
+    ≡ (bit_at (get_or words at 0) bit == 1 || (at == place && bit_at word bit == 1))
 test-set_or words place word at bit within = elim (cases_eq at place) [
   | inl same ↦ ap (λ p. bit_at (get_or (set words place (bit_or (get_or words place 0) word)) p 0) bit == 1) same
       ∙ ap (λ w. bit_at w bit == 1) (get_or-set_same words place (bit_or (get_or words place 0) word) 0 within)
@@ -104,7 +163,7 @@ test-set_or words place word at bit within = elim (cases_eq at place) [
 
 pub set_of_words-or : (words members : List ℕ) (place word : ℕ) → set_of_words words ≡ members → AreWords words → place < 128
     → set_of_words (set words place (bit_or (get_or words place 0) word)) ≡ numbers_where
-        (λ number. has members number || (number / 32 == place && bit_at word (number % 32) == 1))
+    (λ number. has members number || (number / 32 == place && bit_at word (number % 32) == 1))
 set_of_words-or words members place word view ok below = numbers_below-same 4096 _ _ (λ number low.
     test-set_or words place word (number / 32) (number % 32) (omega (arith, ok.count))
     ∙ ap (λ t. t || (number / 32 == place && bit_at word (number % 32) == 1)) (sym (has-view words members view number low)))
@@ -166,7 +225,7 @@ bit_from first bit below = elim (cases_lt bit first) [
 
 pub test-ones_between : (first last bit : ℕ) → first ≤ last → last < 32 → bit < 32
     → (bit_at (bit_and (4294967295 / 2 ^ (31 - last)) (4294967295 * 2 ^ first % 4294967296)) bit == 1)
-        ≡ (nat_le first bit && nat_le bit last)
+    ≡ (nat_le first bit && nat_le bit last)
 test-ones_between first last bit ends within below =
     let high : 4294967295 / 2 ^ (31 - last) ≡ 2 ^ (32 - (31 - last)) - 1 = ones_shr 32 (31 - last) (omega arith) in
     let low : 4294967295 * 2 ^ first % 4294967296 ≡ 2 ^ 32 - 2 ^ first = ones_shl 32 first (omega arith) in
@@ -174,7 +233,7 @@ test-ones_between first last bit ends within below =
     ∙ ap (λ n. min (bit_at n bit) (bit_at (4294967295 * 2 ^ first % 4294967296) bit) == 1) high
     ∙ ap (λ n. min (bit_at (2 ^ (32 - (31 - last)) - 1) bit) (bit_at n bit) == 1) low
     ∙ min_of_tests (bit_at (2 ^ (32 - (31 - last)) - 1) bit) (bit_at (2 ^ 32 - 2 ^ first) bit) (nat_le first bit) (nat_le bit last)
-        (bit_up_to last bit within) (bit_from first bit below)
+    (bit_up_to last bit within) (bit_from first bit below)
 
 -- ---- a run of numbers added
 
@@ -233,26 +292,26 @@ has_below_place members low high place number = has members number || (in_range 
 run_step : (members : List ℕ) (low high place first last number : ℕ) → low / 32 ≤ place → place ≤ high / 32 → FirstBit low place first
     → LastBit high place last
     → (has_below_place members low high place number || (number / 32 == place && (nat_le first (number % 32) && nat_le (number % 32) last)))
-        ≡ has_below_place members low high (place + 1) number
+    ≡ has_below_place members low high (place + 1) number
 run_step members low high place first last number from to first_is last_is = elim (cases_eq (number / 32) place) [
   | inl here ↦
       let not_done = le-ltb (number / 32) place (omega arith) in
       let done = lt-ltb (number / 32) (place + 1) (omega arith) in
       ap (λ t. (has members number || (in_range low high number && t))
-          || (number / 32 == place && (nat_le first (number % 32) && nat_le (number % 32) last))) not_done
+      || (number / 32 == place && (nat_le first (number % 32) && nat_le (number % 32) last))) not_done
       ∙ ap (λ t. (has members number || (in_range low high number && false))
-          || (t && (nat_le first (number % 32) && nat_le (number % 32) last))) (eq-eqb (number / 32) place here)
+      || (t && (nat_le first (number % 32) && nat_le (number % 32) last))) (eq-eqb (number / 32) place here)
       ∙ join_here (has members number) (in_range low high number) (nat_le first (number % 32)) (nat_le (number % 32) last)
       (ap (λ t. t && nat_le (number % 32) last) (first_bit low place first number from here first_is)
-          ∙ ap (λ t. nat_le low number && t) (last_bit high place last number to here last_is))
+      ∙ ap (λ t. nat_le low number && t) (last_bit high place last number to here last_is))
       ∙ ap (λ t. has members number || (in_range low high number && t)) (sym done)
   | inr other ↦
       let same : nat_lt (number / 32) place ≡ nat_lt (number / 32) (place + 1) =
-          same_le (suc (number / 32)) place (suc (number / 32)) (place + 1) (λ h. omega arith) (λ h. omega arith) in
+      same_le (suc (number / 32)) place (suc (number / 32)) (place + 1) (λ h. omega arith) (λ h. omega arith) in
       ap (λ t. has_below_place members low high place number || (t && (nat_le first (number % 32) && nat_le (number % 32) last)))
-          (ne_eqb (number / 32) place other)
+      (ne_eqb (number / 32) place other)
       ∙ join_other (has members number) (in_range low high number) (nat_lt (number / 32) place)
-          (nat_le first (number % 32) && nat_le (number % 32) last)
+      (nat_le first (number % 32) && nat_le (number % 32) last)
       ∙ ap (λ t. has members number || (in_range low high number && t)) same
 ]
 
@@ -336,24 +395,24 @@ pub combined_all : (combine : ℕ → ℕ → ℕ) (test : Bool → Bool → Boo
     → ((one other bit : ℕ) → one < 2 ^ 32 → other < 2 ^ 32 → bit < 32
     → (bit_at (combine one other) bit == 1) ≡ test (bit_at one bit == 1) (bit_at other bit == 1))
     → (ones others now one_set other_set : List ℕ) (place : ℕ) → AreWords ones → AreWords others → set_of_words ones ≡ one_set
-        → set_of_words others ≡ other_set → 128 ≤ place → CombinedBelow combine ones others now place
+    → set_of_words others ≡ other_set → 128 ≤ place → CombinedBelow combine ones others now place
     → set_of_words now ≡ numbers_where (λ number. test (has one_set number) (has other_set number))
 combined_all combine test bits ones others now one_set other_set place are_ones are_others one_view other_view all combined =
     numbers_below-same 4096 _ _ (λ number below.
     ap (λ word. bit_at word (number % 32) == 1) (combined.done (number / 32) (omega arith))
     ∙ bits (get_or ones (number / 32) 0) (get_or others (number / 32) 0) (number % 32)
-        (narrow_word ones (number / 32) are_ones (omega arith)) (narrow_word others (number / 32) are_others (omega arith)) (omega arith)
+    (narrow_word ones (number / 32) are_ones (omega arith)) (narrow_word others (number / 32) are_others (omega arith)) (omega arith)
     ∙ ap (λ t. test t (is_bit_of others number)) (sym (has-view ones one_set one_view number below))
     ∙ ap (λ t. test (has one_set number) t) (sym (has-view others other_set other_view number below)))
 
 pub combined_words : (combine : ℕ → ℕ → ℕ) → ((one other : ℕ) → one < 2 ^ 32 → other < 2 ^ 32 → combine one other < 2 ^ 32)
     → (ones others now : List ℕ) (place : ℕ) → AreWords ones → AreWords others → 128 ≤ place → CombinedBelow combine ones others now place
-        → AreWords now
+    → AreWords now
 combined_words combine narrow ones others now place are_ones are_others all combined = record {
   count = combined.count;
   narrow = All-from_get_or (λ word. word < 2 ^ 32) now 0 (λ k h. rw (combined.done k (omega (arith, combined.count)))
       (narrow (get_or ones k 0) (get_or others k 0) (narrow_word ones k are_ones (omega (arith, combined.count)))
-          (narrow_word others k are_others (omega (arith, combined.count)))));
+      (narrow_word others k are_others (omega (arith, combined.count)))));
 }
 
 -- the four ways

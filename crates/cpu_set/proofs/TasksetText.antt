@@ -1,7 +1,36 @@
 -- Writing the taskset text, digit by digit from the highest.
 use Rattle.std.proofs.Common.{
-  ◌≡◌, ℕ, zero, suc, ◌+◌, ◌*◌, ◌/◌, ◌%◌, ◌^◌, ◌<◌, ◌≤◌, true, false, cond, ◌==◌, List, [], ◌∷◌, ◌++◌, map, codes, lit<,
-  sym, ap, ◌∙◌, arith, inl, inr, bit_and, div-add-mod', mod-lt
+  ◌≡◌,
+  ℕ,
+  zero,
+  suc,
+  ◌+◌,
+  ◌*◌,
+  ◌/◌,
+  ◌%◌,
+  ◌^◌,
+  ◌<◌,
+  ◌≤◌,
+  true,
+  false,
+  cond,
+  ◌==◌,
+  List,
+  [],
+  ◌∷◌,
+  ◌++◌,
+  map,
+  codes,
+  lit<,
+  sym,
+  ap,
+  ◌∙◌,
+  arith,
+  inl,
+  inr,
+  bit_and,
+  div-add-mod',
+  mod-lt,
 }
 use Rattle.std.proofs.Math.Nat.{pow-suc, div-div-eq-div-mul, pow-le-pow_right}
 use Rattle.std.proofs.Math.Numerals.{add-one}
@@ -25,17 +54,17 @@ use Rattle.cpu_set.proofs.HexText.{hex_digits-none, hex_digits-suc, pow_of_16, n
 low_part : (number places bit : ℕ) → bit < places → bit_at (number % 2 ^ places) bit ≡ bit_at number bit
 low_part number places bit below =
     sym (bit_at_cat_low (number / 2 ^ places) places (number % 2 ^ places) bit below)
-        ∙ ap (λ n. bit_at n bit) (div-add-mod' number (2 ^ places))
+    ∙ ap (λ n. bit_at n bit) (div-add-mod' number (2 ^ places))
 
 low_bits : (number bit : ℕ) → bit < 4 → bit_at (number % 16) bit ≡ bit_at number bit
 low_bits number bit below =
     sym (bit_at_cat_low (number / 16) 4 (number % 16) bit below)
-        ∙ ap (λ n. bit_at n bit) (let whole : number / 16 * 16 + number % 16 ≡ number = omega arith in whole)
+    ∙ ap (λ n. bit_at n bit) (let whole : number / 16 * 16 + number % 16 ≡ number = omega arith in whole)
 
 high_bits : (number place bit : ℕ) → bit_at (number / 16 ^ place) bit ≡ bit_at number (4 * place + bit)
 high_bits number place bit =
     ap (λ p. bit_at (number / p) bit) (sym (pow_of_16 place))
-        ∙ ap (λ n. n % 2) (div-div-eq-div-mul number (2 ^ (4 * place)) (2 ^ bit) ∙ ap (λ p. number / p) (sym (pow-add 2 (4 * place) bit)))
+    ∙ ap (λ n. n % 2) (div-div-eq-div-mul number (2 ^ (4 * place)) (2 ^ bit) ∙ ap (λ p. number / p) (sym (pow-add 2 (4 * place) bit)))
 
 digit_bit : (number place bit : ℕ) → bit < 4 → (bit_at (number / 16 ^ place % 16) bit == 1) ≡ (bit_at number (4 * place + bit) == 1)
 digit_bit number place bit below = ap (λ value. value == 1) (low_bits (number / 16 ^ place) bit below ∙ high_bits number place bit)
@@ -45,7 +74,7 @@ pub hex_place : (set : List ℕ) (place word : ℕ) → place < 1024 → word �
 hex_place set place word below is =
     nibble word (place % 8) ∙ ap (λ w. w / 16 ^ (place % 8) % 16) is
     ∙ same_from_tests 4 (word_of set (place / 8) / 16 ^ (place % 8) % 16) (mask_of set / 16 ^ place % 16) (omega arith) (omega arith)
-        (λ bit low.
+    (λ bit low.
     digit_bit (word_of set (place / 8)) (place % 8) bit low
     ∙ is_bit-word_of set (place / 8) (4 * (place % 8) + bit) (omega arith)
     ∙ ap (has set) (let same : 32 * (place / 8) + (4 * (place % 8) + bit) ≡ 4 * place + bit = omega arith in same)
@@ -60,7 +89,7 @@ sixteens count = pow-le-pow_right {n = 16} (lit< tt) {i = 0} {j = count} (omega 
 digits_of_short : (number : ℕ) → 0 < number → number < 16 → digits_of 16 number ≡ number ∷ []
 digits_of_short number some short =
     digits_of_step 16 number (omega arith) some
-        ∙ ap (λ n. digits_of 16 n ++ number % 16 ∷ []) (let none : number / 16 ≡ 0 = omega arith in none)
+    ∙ ap (λ n. digits_of 16 n ++ number % 16 ∷ []) (let none : number / 16 ≡ 0 = omega arith in none)
     ∙ ap (λ n. n ∷ []) (let same : number % 16 ≡ number = omega arith in same)
 
 digits_are : (count number : ℕ) → 16 ^ count ≤ number → number < 16 ^ suc count
@@ -83,10 +112,10 @@ below_power : (total places number : ℕ) → number < 2 ^ total → places ≤ 
     → ((bit : ℕ) → places ≤ bit → bit < total → (bit_at number bit == 1) ≡ false) → number < 2 ^ places
 below_power total places number narrow within none =
     let kept : number % 2 ^ places < 2 ^ places =
-        mod-lt number (omega (arith, pow-le-pow_right {n = 2} (lit< tt) {i = 0} {j = places} (omega arith))) in
+    mod-lt number (omega (arith, pow-le-pow_right {n = 2} (lit< tt) {i = 0} {j = places} (omega arith))) in
     let fits : 2 ^ places ≤ 2 ^ total = pow-le-pow_right {n = 2} (lit< tt) within in
     let same : number ≡ number % 2 ^ places =
-        same_from_tests total number (number % 2 ^ places) narrow (omega arith) (λ bit below. elim (cases_lt bit places) [
+    same_from_tests total number (number % 2 ^ places) narrow (omega arith) (λ bit below. elim (cases_lt bit places) [
       | inl low ↦ ap (λ value. value == 1) (sym (low_part number places bit low))
       | inr high ↦ none bit high below ∙ sym (ap (λ value. value == 1) (bit_at_above (number % 2 ^ places) places bit kept high))
     ]) in
@@ -96,7 +125,7 @@ mask_below : (set : List ℕ) → IsSet set → highest set < 4096 → mask_of s
 mask_below set ok low =
     let power : 2 ^ (4 * suc (highest set / 4)) ≡ 16 ^ suc (highest set / 4) = pow_of_16 (suc (highest set / 4)) in
     rw (← power) (below_power 4096 (4 * suc (highest set / 4)) (mask_of set) (number_with_bits-below (has set) 4096) (omega arith)
-        (λ bit above limit.
+    (λ bit above limit.
     is_bit-number_with_bits (has set) 4096 bit limit ∙ highest-above set ok bit (omega arith)))
 
 -- a number with a bit set is at least its power
@@ -121,14 +150,14 @@ mask_empty =
 digits_of_mask : (set : List ℕ) → IsSet set → highest set < 4096 → hex_digits (highest set / 4 + 1) (mask_of set) ≡ hex_number (mask_of set)
 digits_of_mask [] ok low =
     ap (hex_digits 1) mask_empty ∙ hex_digits-suc 0 0 ∙ ap (λ digits. digits ++ 48 ∷ []) (hex_digits-none 0)
-        ∙ sym (ap hex_number mask_empty)
+    ∙ sym (ap hex_number mask_empty)
 digits_of_mask (first ∷ rest) ok low =
     let set = first ∷ rest in
     let above = mask_above set (highest-among first rest) low in
     ap (λ count. hex_digits count (mask_of set)) (add-one (highest set / 4))
-        ∙ digits_are (highest set / 4) (mask_of set) above (mask_below set ok low)
+    ∙ digits_are (highest set / 4) (mask_of set) above (mask_below set ok low)
     ∙ sym (ap (λ t. cond t (codes "0") (map digit_char (digits_of 16 (mask_of set))))
-        (ne_eqb (mask_of set) 0 (λ none. omega (arith, sixteens (highest set / 4)))))
+    (ne_eqb (mask_of set) 0 (λ none. omega (arith, sixteens (highest set / 4)))))
 
 pub taskset_written : (set now : List ℕ) (count left : ℕ) → IsSet set → highest set < 4096 → count ≡ highest set / 4 + 1 → left ≤ 0
     → DigitsSoFar (codes "0x") now count left (mask_of set) → now ≡ taskset_text set

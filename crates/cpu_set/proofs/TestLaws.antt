@@ -2,8 +2,17 @@
 use Rattle.std.proofs.Common.{◌≡◌, ℕ, ◌<◌, Bool, true, false, ◌&&◌, ◌||◌, ◌==◌, List, [], ◌∷◌, refl, sym, ap, ◌∙◌, inl, inr}
 use Rattle.std.specs.List.{list_all}
 use Rattle.std.proofs.lemmas.Bool.{
-  cases_Bool, cases_lt, eqb-true, eq-eqb, false≢true, and_parts, and_from, or_left, or_right, or_cases,
-  false_from_ne_true
+  cases_Bool,
+  cases_lt,
+  eqb-true,
+  eq-eqb,
+  false≢true,
+  and_parts,
+  and_from,
+  or_left,
+  or_right,
+  or_cases,
+  false_from_ne_true,
 }
 use Rattle.cpu_set.specs.Sets.{has, numbers_where}
 use Rattle.cpu_set.specs.Tests.{meets, is_inside}
@@ -42,7 +51,7 @@ unfolding is_inside
 inside-by [] other each = refl
 inside-by (x ∷ xs) other each =
     and_from (has other x) (list_all (has other) xs) (each x (has_here x x xs (eq-eqb x x refl)))
-        (inside-by xs other (λ n later. each n (or_right (x == n) (has xs n) later)))
+    (inside-by xs other (λ n later. each n (or_right (x == n) (has xs n) later)))
 
 -- two sets meet where a number is in both
 pub meets-by : (one other : List ℕ) (n : ℕ) → has one n ≡ true → has other n ≡ true → meets one other ≡ true
@@ -59,4 +68,4 @@ unfolding meets
 meets-none [] other each = refl
 meets-none (x ∷ xs) other each =
     ap (λ b. b || meets xs other) (each x (has_here x x xs (eq-eqb x x refl)))
-        ∙ meets-none xs other (λ n later. each n (or_right (x == n) (has xs n) later))
+    ∙ meets-none xs other (λ n later. each n (or_right (x == n) (has xs n) later))

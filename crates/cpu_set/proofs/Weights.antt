@@ -1,7 +1,32 @@
 -- How many numbers the words of a set have.
 use Rattle.std.proofs.Common.{
-  ◌≡◌, ℕ, zero, suc, ◌+◌, ◌*◌, ◌/◌, ◌%◌, ◌^◌, ◌<◌, ◌≤◌, Bool, true, false, cond, ◌==◌, List, [], ◌∷◌, ◌++◌, length,
-  get_or, refl, sym, ap, ◌∙◌, arith
+  ◌≡◌,
+  ℕ,
+  zero,
+  suc,
+  ◌+◌,
+  ◌*◌,
+  ◌/◌,
+  ◌%◌,
+  ◌^◌,
+  ◌<◌,
+  ◌≤◌,
+  Bool,
+  true,
+  false,
+  cond,
+  ◌==◌,
+  List,
+  [],
+  ◌∷◌,
+  ◌++◌,
+  length,
+  get_or,
+  refl,
+  sym,
+  ap,
+  ◌∙◌,
+  arith,
 }
 use Rattle.std.proofs.Math.Nat.{pow-suc}
 use Rattle.std.specs.Int.{bit_at}
@@ -52,11 +77,11 @@ unfolding ones
 count_bits zero start word test narrow agree = let none : word ≡ 0 = omega arith in ap ones (sym none)
 count_bits (suc places) start word test narrow agree =
     let here : test start ≡ (word % 2 == 1) =
-        ap test (let same : start ≡ start + 0 = omega arith in same) ∙ agree 0 (omega arith) ∙ ap (λ value. value == 1) (bit_at_lowest word)
-        in
+    ap test (let same : start ≡ start + 0 = omega arith in same) ∙ agree 0 (omega arith) ∙ ap (λ value. value == 1) (bit_at_lowest word)
+    in
     let later = count_bits places (start + 1) (word / 2) test (omega (arith, pow-suc 2 places)) (λ bit below.
     ap test (let same : (start + 1) + bit ≡ start + suc bit = omega arith in same) ∙ agree (suc bit) (omega arith)
-        ∙ ap (λ value. value == 1) (bit_at-suc word bit)) in
+    ∙ ap (λ value. value == 1) (bit_at-suc word bit)) in
     length-kept test start (range_with_len (start + 1) places)
     ∙ ap (λ t. cond t 1 0 + length (filter test (range_with_len (start + 1) places))) here
     ∙ ap (λ n. cond (word % 2 == 1) 1 0 + n) later
@@ -78,7 +103,7 @@ count_below-more words place ok below =
     ∙ length-append (numbers_below (32 * place) (is_bit_of words)) _
     ∙ ap (λ n. length (numbers_below (32 * place) (is_bit_of words)) + n)
     (count_bits 32 (32 * place) (get_or words place 0) (is_bit_of words) (narrow_word words place ok below)
-        (λ bit low. is_bit_of-at words place bit low))
+    (λ bit low. is_bit_of-at words place bit low))
 
 pub count_below-all : (words members : List ℕ) (place : ℕ) → set_of_words words ≡ members → place ≡ 128
     → count_below words place ≡ length members

@@ -1,8 +1,29 @@
 -- What the hexadecimal and the list text of a set mean, and which fault a text has. The forms are those of hwloc 2's manual, "The
 -- bitmap API"; the limit of 4,096, the digits of a word, the faults and their order are this project's profile. 44 is a comma, 45 a dash.
 use Rattle.std.specs.Prelude.{
-  ℕ, ◌≡◌, ◌+◌, ◌/◌, ◌%◌, Bool, not, ◌&&◌, ◌||◌, ◌==◌, nat_eq, nat_lt, nat_le, if◌then◌else◌, List, [], ◌∷◌, length,
-  drop, codes, Option, Some, None
+  ℕ,
+  ◌≡◌,
+  ◌+◌,
+  ◌/◌,
+  ◌%◌,
+  Bool,
+  not,
+  ◌&&◌,
+  ◌||◌,
+  ◌==◌,
+  nat_eq,
+  nat_lt,
+  nat_le,
+  if◌then◌else◌,
+  List,
+  [],
+  ◌∷◌,
+  length,
+  drop,
+  codes,
+  Option,
+  Some,
+  None,
 }
 use Rattle.std.specs.Int.{bit_at}
 use Rattle.std.specs.List.{list_any, starts_with, slice_split, before_first, after_first}

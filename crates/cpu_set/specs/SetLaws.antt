@@ -1,7 +1,31 @@
 -- Laws of sets: which numbers a set has, and that its numbers fix it.
 use Rattle.std.proofs.Common.{
-  ◌≡◌, ◌≢◌, ℕ, zero, suc, ◌+◌, ◌<◌, ◌≤◌, Bool, true, false, ◌&&◌, ◌==◌, List, [], ◌∷◌, length, get_or, refl, sym, ap,
-  ◌∙◌, arith, ◌⊎◌, inl, inr
+  ◌≡◌,
+  ◌≢◌,
+  ℕ,
+  zero,
+  suc,
+  ◌+◌,
+  ◌<◌,
+  ◌≤◌,
+  Bool,
+  true,
+  false,
+  ◌&&◌,
+  ◌==◌,
+  List,
+  [],
+  ◌∷◌,
+  length,
+  get_or,
+  refl,
+  sym,
+  ap,
+  ◌∙◌,
+  arith,
+  ◌⊎◌,
+  inl,
+  inr,
 }
 use Rattle.std.proofs.Math.Numerals.{add-one}
 use Rattle.std.specs.Bool.{Decides}
@@ -110,9 +134,11 @@ increasing_tail x xs up = λ k within. omega (arith, up (k + 1) (omega arith), g
 
 pub Rises-from_increasing : (low : ℕ) (xs : List ℕ) → IsStrictlyIncreasing xs → (0 < length xs → low ≤ get_or xs 0 0) → Rises low xs
 Rises-from_increasing low [] up least = tt
-Rises-from_increasing low (x ∷ xs) up least =
-    (least (omega arith), Rises-from_increasing (x + 1) xs (increasing_tail x xs up)
-        (λ some. omega (arith, up 0 (omega arith), get_or_next x xs 0)))
+Rises-from_increasing low (x ∷ xs) up least = (
+  least (omega arith),
+  Rises-from_increasing (x + 1) xs (increasing_tail x xs up)
+      (λ some. omega (arith, up 0 (omega arith), get_or_next x xs 0)),
+)
 
 Rises-lower : (low lower : ℕ) (xs : List ℕ) → lower ≤ low → Rises low xs → Rises lower xs
 Rises-lower low lower [] less rises = tt
@@ -151,7 +177,7 @@ pub numbers_below-has : (limit : ℕ) (set : List ℕ) → IsStrictlyIncreasing 
 unfolding numbers_below
 numbers_below-has limit set up below =
     filter-has 0 limit limit set (omega arith) (Rises-from_increasing 0 set up (λ some. omega arith))
-        (recursion_from_All (λ n. n < limit) set below)
+    (recursion_from_All (λ n. n < limit) set below)
 
 pub numbers_where-has : (set : List ℕ) → IsSet set → numbers_where (has set) ≡ set
 numbers_where-has set ok = numbers_below-has 4096 set ok.ascending ok.below
@@ -161,7 +187,7 @@ numbers_where-has set ok = numbers_below-has 4096 set ok.ascending ok.below
 pub Decides-has : (set : List ℕ) (n : ℕ) → Decides (has set n) (Contains set n)
 Decides-has set n =
     Decides-contains set n (has set n) (Decides-by_or (λ member. member == n) (λ member. member ≡ n) (λ members. has members n)
-        (λ member. Decides-eqb member n) refl (λ _ _. refl) set)
+    (λ member. Decides-eqb member n) refl (λ _ _. refl) set)
 
 pub same_set : (one other : List ℕ) → IsSet one → IsSet other → ((n : ℕ) → n < 4096 → has one n ≡ has other n) → one ≡ other
 same_set one other is_one is_other agree =

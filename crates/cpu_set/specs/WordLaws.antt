@@ -1,7 +1,32 @@
 -- Laws of numbers by their bits, and of the words of a set.
 use Rattle.std.proofs.Common.{
-  ◌≡◌, ℕ, zero, suc, ◌+◌, ◌-◌, ◌*◌, ◌/◌, ◌%◌, ◌^◌, ◌<◌, Bool, true, false, cond, ◌==◌, List, length, slice_index, lit<,
-  refl, sym, ap, ◌∙◌, arith, inl, inr
+  ◌≡◌,
+  ℕ,
+  zero,
+  suc,
+  ◌+◌,
+  ◌-◌,
+  ◌*◌,
+  ◌/◌,
+  ◌%◌,
+  ◌^◌,
+  ◌<◌,
+  Bool,
+  true,
+  false,
+  cond,
+  ◌==◌,
+  List,
+  length,
+  slice_index,
+  lit<,
+  refl,
+  sym,
+  ap,
+  ◌∙◌,
+  arith,
+  inl,
+  inr,
 }
 use Rattle.std.proofs.Math.Numerals.{add-one}
 use Rattle.std.proofs.Math.Nat.{pow-suc}
@@ -45,7 +70,7 @@ module _ (test : ℕ → Bool) where
       let weight = λ (place : ℕ). cond (test place) (2 ^ place) 0 in
       let step = sum_by-map-range_with_len_more weight (λ place. place) 0 places places (omega arith) in
       let plain : sum_by weight (range_with_len 0 (places + 1)) ≡ sum_by weight (range_with_len 0 places) + weight places =
-          (simp (map-id {A = ℕ}) at step) in
+      (simp (map-id {A = ℕ}) at step) in
       omega (arith, weight_of (test places) (2 ^ places))
 
   number_with_bits-suc : (places : ℕ) → number_with_bits test (suc places) ≡ cond
@@ -83,8 +108,8 @@ pub same_from_tests : (places a b : ℕ) → a < 2 ^ places → b < 2 ^ places �
     → a ≡ b
 same_from_tests places a b a_below b_below agree =
     same_from_bits_below places a b a_below b_below
-        (λ i below. sym (bit_from_test (bit_at a i) (bit_at-lt a i)) ∙ ap (λ t. cond t 1 0) (agree i below)
-        ∙ bit_from_test (bit_at b i) (bit_at-lt b i))
+    (λ i below. sym (bit_from_test (bit_at a i) (bit_at-lt a i)) ∙ ap (λ t. cond t 1 0) (agree i below)
+    ∙ bit_from_test (bit_at b i) (bit_at-lt b i))
 
 -- ---- the words of a set
 
@@ -101,15 +126,15 @@ is_bit_of-at words place bit below =
     let quotient : (32 * place + bit) / 32 ≡ place = omega arith in
     let remainder : (32 * place + bit) % 32 ≡ bit = omega arith in
     ap (λ q. bit_at (slice_index words q) ((32 * place + bit) % 32) == 1) quotient
-        ∙ ap (λ r. bit_at (slice_index words place) r == 1) remainder
+    ∙ ap (λ r. bit_at (slice_index words place) r == 1) remainder
 
 pub word_of-set_of_words : (words : List ℕ) (place : ℕ) → AreWords words → place < 128
     → word_of (set_of_words words) place ≡ slice_index words place
 word_of-set_of_words words place ok below =
     same_from_tests 32 _ _ (word_of-below (set_of_words words) place)
-        (All-get_or (λ word. word < 2 ^ 32) words place 0 (omega (arith, ok.count)) ok.narrow)
+    (All-get_or (λ word. word < 2 ^ 32) words place 0 (omega (arith, ok.count)) ok.narrow)
     (λ bit low. is_bit-word_of (set_of_words words) place bit low
-        ∙ has-numbers_below 4096 (is_bit_of words) (32 * place + bit) (omega arith) ∙ is_bit_of-at words place bit low)
+    ∙ has-numbers_below 4096 (is_bit_of words) (32 * place + bit) (omega arith) ∙ is_bit_of-at words place bit low)
 
 first_words-of_words : (count : ℕ) (words : List ℕ) → length words ≡ count
     → ((place : ℕ) → place < count → word_of (set_of_words words) place ≡ slice_index words place)

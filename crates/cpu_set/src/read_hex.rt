@@ -3,7 +3,15 @@
 ghost use Rattle.std.specs.Prelude.{◌≡◌, ℕ, ◌<◌, ◌&&◌, ◌==◌, count_by, IfOk, IfErr, OnOk, Some, None, true};
 ghost use Rattle.std.specs.Option.{SomeIff};
 ghost use Rattle.cpu_set.specs.Readings.{
-  ReadsHex, HexRefused, without_prefix, is_word, word_value, hex_rule, leftmost, parts_of, is_in_hex
+  ReadsHex,
+  HexRefused,
+  without_prefix,
+  is_word,
+  word_value,
+  hex_rule,
+  leftmost,
+  parts_of,
+  is_in_hex,
 };
 ghost use Rattle.cpu_set.specs.Sets.{numbers_where};
 

@@ -1,7 +1,23 @@
 //! The list text, read.
 
 ghost use Rattle.std.specs.Prelude.{
-  ◌≡◌, ℕ, ◌+◌, ◌^◌, ◌<◌, ◌≤◌, ◌≢◌, ◌↔◌, length, slice_index, IfOk, IfErr, OnOk, Some, None, IsTrue, if◌then◌else◌
+  ◌≡◌,
+  ℕ,
+  ◌+◌,
+  ◌^◌,
+  ◌<◌,
+  ◌≤◌,
+  ◌≢◌,
+  ◌↔◌,
+  length,
+  slice_index,
+  IfOk,
+  IfErr,
+  OnOk,
+  Some,
+  None,
+  IsTrue,
+  if◌then◌else◌,
 };
 ghost use Rattle.std.specs.Str.Parse.{AllDigits, digits_value};
 ghost use Rattle.byte_text.specs.Numerals.{is_numeral};

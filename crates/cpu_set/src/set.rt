@@ -1,8 +1,29 @@
 //! The set of numbers: 128 words of 32 bits, which are the words of its hexadecimal text.
 
 ghost use Rattle.std.specs.Prelude.{
-  ◌≡◌, ℕ, ◌+◌, ◌*◌, ◌/◌, ◌%◌, ◌<◌, ◌≤◌, ◌↔◌, ◌||◌, ◌&&◌, ◌==◌, nat_le, [], ◌∷◌, length, All, Contains, IsTrue, IsNone,
-  IfNone, IfSome, slice_get
+  ◌≡◌,
+  ℕ,
+  ◌+◌,
+  ◌*◌,
+  ◌/◌,
+  ◌%◌,
+  ◌<◌,
+  ◌≤◌,
+  ◌↔◌,
+  ◌||◌,
+  ◌&&◌,
+  ◌==◌,
+  nat_le,
+  [],
+  ◌∷◌,
+  length,
+  All,
+  Contains,
+  IsTrue,
+  IsNone,
+  IfNone,
+  IfSome,
+  slice_get,
 };
 ghost use Rattle.std.specs.Int.{bit_at};
 ghost use Rattle.cpu_set.specs.Sets.{IsSet, has, numbers_where, union, minus, meet, xor};

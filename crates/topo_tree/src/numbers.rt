@@ -4,7 +4,16 @@ ghost use Rattle.std.specs.List.{AllByRecursion};
 ghost use Rattle.out_of_memory.specs.Memory.{UnlessMemory};
 ghost use Rattle.synth_text.specs.Limits.{pu_limit};
 ghost use Rattle.synth_text.specs.Sound.{AreSoundIndexes, IsSoundLoop};
-ghost use Rattle.topo_tree.specs.Numbers.{number_of, numbers_of, loops_number, loop_product, counting_loops, counting_loops_in, index_count, indexes_fault};
+ghost use Rattle.topo_tree.specs.Numbers.{
+  number_of,
+  numbers_of,
+  loops_number,
+  loop_product,
+  counting_loops,
+  counting_loops_in,
+  index_count,
+  indexes_fault,
+};
 
 use crate::fault::BuildFault;
 use cpu_set::{CpuSet, LIMIT};

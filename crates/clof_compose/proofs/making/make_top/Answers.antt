@@ -1,4 +1,4 @@
-use Rattle.std.proofs.Common.{List, length, ap, sym, ◌∙◌, subst, arith}
+use Rattle.std.proofs.Common.{List, length, ap, refl, sym, ◌∙◌, subst, arith}
 use Rattle.std.proofs.lemmas.List.{length-map}
 use Rattle.std.proofs.lemmas.Grind.{common_steps}
 use Rattle.keep_local.specs.Shapes.{top_of}
@@ -18,7 +18,7 @@ returns-clause-sound g c =
 
 pub returns-clause-passes : goal.returns-clause-passes
 returns-clause-passes g c =
-    fresh_passes g.B.Pass.Placed.place _ _ _ _ _ _ _ c.in_ok-low.ensures.count c.in_ok-low.ensures.passes c.top_passes-passes.ensures (ap
+    fresh_passes g.B.Pass.Placed.place _ _ _ _ _ _ _ refl c.in_ok-low.ensures.passes c.top_passes-passes.ensures (ap
     length c.top_passes-passes.ensures ∙ length-map _ _)
 
 pub returns-clause-fresh : goal.returns-clause-fresh

@@ -7,7 +7,7 @@ returns-then-not-may_keep-clause-stands g c =
     c.args.level c.args.keep c.args.own.now.node c.args.own.now.kept c.args.yes c.args.own.now.high c.kept_root.result.now
     c.note_waiter.new.root c.kept_root.ensures.value c.kept_root.ensures.others c.kept_root.ensures.stays c.requires.above
     c.requires.node c.requires.kept c.requires.root c.note_waiter.ensures.payload c.note_waiter.ensures.noted
-    c.note_waiter.ensures.lawful
+    c.note_waiter.ensures.lawful c.note_waiter.ensures.lawful_before
 
 pub returns-then-not-may_keep-clause-not_kept : goal.returns-then-not-may_keep-clause-not_kept
 returns-then-not-may_keep-clause-not_kept g c =
@@ -15,7 +15,7 @@ returns-then-not-may_keep-clause-not_kept g c =
     c.args.level c.args.keep c.args.own.now.node c.args.own.now.kept c.args.yes c.args.own.now.high c.kept_root.result.now
     c.note_waiter.new.root c.kept_root.ensures.value c.kept_root.ensures.others c.kept_root.ensures.stays c.requires.above
     c.requires.node c.requires.kept c.requires.root c.note_waiter.ensures.payload c.note_waiter.ensures.noted
-    c.note_waiter.ensures.lawful
+    c.note_waiter.ensures.lawful c.note_waiter.ensures.lawful_before
     (c.may_keep.ensures.not c.if-not-may_keep.true)
 
 pub returns-then-not-may_keep-clause-noted : goal.returns-then-not-may_keep-clause-noted
@@ -24,7 +24,7 @@ returns-then-not-may_keep-clause-noted g c =
     c.args.level c.args.keep c.args.own.now.node c.args.own.now.kept c.args.yes c.args.own.now.high c.kept_root.result.now
     c.note_waiter.new.root c.kept_root.ensures.value c.kept_root.ensures.others c.kept_root.ensures.stays c.requires.above
     c.requires.node c.requires.kept c.requires.root c.note_waiter.ensures.payload c.note_waiter.ensures.noted
-    c.note_waiter.ensures.lawful
+    c.note_waiter.ensures.lawful c.note_waiter.ensures.lawful_before
 
 pub returns-then-not-may_keep-clause-same : goal.returns-then-not-may_keep-clause-same
 returns-then-not-may_keep-clause-same g c =
@@ -32,7 +32,7 @@ returns-then-not-may_keep-clause-same g c =
     c.args.level c.args.keep c.args.own.now.node c.args.own.now.kept c.args.yes c.args.own.now.high c.kept_root.result.now
     c.note_waiter.new.root c.kept_root.ensures.value c.kept_root.ensures.others c.kept_root.ensures.stays c.requires.above
     c.requires.node c.requires.kept c.requires.root c.note_waiter.ensures.payload c.note_waiter.ensures.noted
-    c.note_waiter.ensures.lawful
+    c.note_waiter.ensures.lawful c.note_waiter.ensures.lawful_before
 
 pub kept_root-requires-2 : goal.kept_root-requires-2
 kept_root-requires-2 g c =
@@ -42,7 +42,7 @@ kept_root-requires-2 g c =
           c.args.level c.args.keep c.args.own.now.node c.args.own.now.kept c.args.yes c.args.own.now.high c.kept_root.result.now
           c.note_waiter.new.root c.kept_root.ensures.value c.kept_root.ensures.others c.kept_root.ensures.stays c.requires.above
           c.requires.node c.requires.kept c.requires.root c.note_waiter.ensures.payload c.note_waiter.ensures.noted
-          c.note_waiter.ensures.lawful;
+          c.note_waiter.ensures.lawful c.note_waiter.ensures.lawful_before;
     }
 
 pub close_turn-requires-clause-may : goal.close_turn-requires-clause-may
@@ -51,7 +51,7 @@ close_turn-requires-clause-may g c =
     c.args.level c.args.keep c.args.own.now.node c.args.own.now.kept c.args.yes c.args.own.now.high c.kept_root.result.now
     c.note_waiter.new.root c.kept_root.ensures.value c.kept_root.ensures.others c.kept_root.ensures.stays c.requires.above
     c.requires.node c.requires.kept c.requires.root c.note_waiter.ensures.payload c.note_waiter.ensures.noted
-    c.note_waiter.ensures.lawful
+    c.note_waiter.ensures.lawful c.note_waiter.ensures.lawful_before
     c.kept_root-2.result.now c.kept_root-2.ensures.value (c.may_keep.ensures.yes c.if-not-may_keep.false) (c.may_keep.ensures.below
     c.if-not-may_keep.false)
 
@@ -61,7 +61,7 @@ returns-clause-stands g c =
     c.args.level c.args.keep c.args.own.now.node c.args.own.now.kept c.args.yes c.args.own.now.high c.kept_root.result.now
     c.note_waiter.new.root c.kept_root.ensures.value c.kept_root.ensures.others c.kept_root.ensures.stays c.requires.above
     c.requires.node c.requires.kept c.requires.root c.note_waiter.ensures.payload c.note_waiter.ensures.noted
-    c.note_waiter.ensures.lawful
+    c.note_waiter.ensures.lawful c.note_waiter.ensures.lawful_before
     c.kept_root-2.result.now c.kept_root-2.ensures.value (c.may_keep.ensures.yes c.if-not-may_keep.false) (c.may_keep.ensures.below
     c.if-not-may_keep.false) c.kept_root-2.ensures.others c.kept_root-2.ensures.stays c.close_turn.new.root
     c.close_turn.ensures.payload c.close_turn.ensures.closed c.close_turn.ensures.lawful
@@ -73,7 +73,7 @@ returns-clause-kept g c = (
       c.args.level c.args.keep c.args.own.now.node c.args.own.now.kept c.args.yes c.args.own.now.high c.kept_root.result.now
       c.note_waiter.new.root c.kept_root.ensures.value c.kept_root.ensures.others c.kept_root.ensures.stays c.requires.above
       c.requires.node c.requires.kept c.requires.root c.note_waiter.ensures.payload c.note_waiter.ensures.noted
-      c.note_waiter.ensures.lawful
+      c.note_waiter.ensures.lawful c.note_waiter.ensures.lawful_before
       c.kept_root-2.result.now c.kept_root-2.ensures.value (c.may_keep.ensures.yes c.if-not-may_keep.false) (c.may_keep.ensures.below
       c.if-not-may_keep.false) c.kept_root-2.ensures.others c.kept_root-2.ensures.stays c.close_turn.new.root
       c.close_turn.ensures.payload c.close_turn.ensures.closed c.close_turn.ensures.lawful,
@@ -85,5 +85,5 @@ returns-clause-tests g c =
     c.args.level c.args.keep c.args.own.now.node c.args.own.now.kept c.args.yes c.args.own.now.high c.kept_root.result.now
     c.note_waiter.new.root c.kept_root.ensures.value c.kept_root.ensures.others c.kept_root.ensures.stays c.requires.above
     c.requires.node c.requires.kept c.requires.root c.note_waiter.ensures.payload c.note_waiter.ensures.noted
-    c.note_waiter.ensures.lawful
+    c.note_waiter.ensures.lawful c.note_waiter.ensures.lawful_before
     c.kept_root-2.result.now c.kept_root-2.ensures.value c.close_turn.result c.close_turn.ensures.tests

@@ -1,7 +1,7 @@
-use Rattle.std.proofs.Common.{◌≡◌, ap, sym, ◌∙◌, subst, refl, Option, Some}
+use Rattle.std.proofs.Common.{ap, sym, ◌∙◌, subst, refl}
 use Rattle.std.specs.Prelude.{IsSomeAnd}
 use Rattle.lock_rules.specs.Tag.{leaf}
-use Rattle.clof_compose.specs.Calls.{HasOpened, MayTurn}
+use Rattle.clof_compose.specs.Calls.{HasOpened}
 use Rattle.clof_compose.specs.Contexts.{IsContextOf}
 use Rattle.clof_compose.specs.Courses.{course_of}
 use Rattle.clof_compose.proofs.Owned.{some_with}

@@ -1,11 +1,12 @@
 use Rattle.std.proofs.Common.{◌≡◌, ◌≤◌, ◌∙◌, List, ℕ, length, sym, subst}
 use Rattle.std.proofs.lemmas.Result.{IfErr-weaker}
 use Rattle.std.specs.Prelude.{IfErr, IfOk, IfSome}
-use Rattle.clof_tool.specs.Run.{Prints, input_limit}
-use Rattle.clof_tool.specs.Outcome.{EndsEarly, InputRefused, IsAnswer, IsInput}
 use Rattle.command_words.specs.Plain.{plain}
+use Rattle.command_texts.specs.Ends.{EndsEarly}
+use Rattle.command_texts.proofs.OnTopologies.{early_silent}
+use Rattle.clof_tool.specs.Run.{Prints, input_limit}
+use Rattle.clof_tool.specs.Outcome.{InputRefused, IsAnswer, IsInput}
 use Rattle.clof_tool.proofs.RunAnswers.{Fails, complete, refused}
-use Rattle.clof_tool.proofs.OnTopologies.{early_silent}
 use Rattle.clof_tool.proofs.answer.answer.Goals as goal
 
 pub returns-in-Distrib-clause-silent : goal.returns-in-Distrib-clause-silent

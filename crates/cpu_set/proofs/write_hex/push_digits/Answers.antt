@@ -9,7 +9,7 @@ loop-place-init c = digits_begin c.args.text.now.items 8 c.args.word
 pub loop-place-preserved : goal.loop-place-preserved
 loop-place-preserved c =
     digits_push c.args.text.now.items c.loop-place.text.items c.push.new.self.items 8 c.loop-place.place
-        (c.loop-place.place - 1) c.args.word c.hex_digit.result (omega arith) c.loop-place.auto.place
+    (c.loop-place.place - 1) c.args.word c.hex_digit.result (omega arith) c.loop-place.auto.place
     (c.hex_digit.ensures ∙ ap digit_char (nibble c.args.word (c.loop-place.place - 1))) c.in_ok-push.ensures.items c.loop-place.invariant
 
 pub overflow_mul-place : goal.overflow_mul-place

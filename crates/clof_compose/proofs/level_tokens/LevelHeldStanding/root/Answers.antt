@@ -14,7 +14,7 @@ returns g c =
         writes_back = tt;
         value = found;
         others = λ r. ap (λ x. record {
-          context = level_context c.args.self.now.level c.args.self.now.node c.args.self.now.number
+          context = level_context c.args.self.now.id.level c.args.self.now.id.node c.args.self.now.id.number
               (holder_of c.args.self.now.low).place;
           root = x;
         })

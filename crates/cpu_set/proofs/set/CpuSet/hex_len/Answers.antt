@@ -15,7 +15,7 @@ loop-place-preserved c =
     let place = c.loop-place.place - 1 in
     let one = word_text place (word_of c.args.self.now place) in
     let added : c.word_len-length.result ≡ length one =
-        c.word_len-length.ensures.length ∙ ap (λ w. length (word_text place w)) c.word.ensures in
+    c.word_len-length.ensures.length ∙ ap (λ w. length (word_text place w)) c.word.ensures in
     elim c.if-place-count.branch [
       | then-place-count w ↦ (
         (text ++ 44 ∷ []) ++ one,
@@ -40,8 +40,11 @@ overflow_add-length c = omega (arith, c.loop-place.invariant.1, c.loop-place.inv
 pub overflow_add-length-in-loop-place : goal.overflow_add-length-in-loop-place
 overflow_add-length-in-loop-place c =
     let so_far : c.loop-place.length ≤ 1408 = omega (arith, c.loop-place.invariant.1, c.loop-place.invariant.2.bound) in
-    elim c.if-place-count.branch [ then-place-count w ↦ omega (arith, w.length-is, c.word_len-length.ensures.limit) | else-place-count w
-        ↦ omega (arith, w.length-is, c.word_len-length.ensures.limit) ]
+    elim c.if-place-count.branch [
+      | then-place-count w ↦ omega (arith, w.length-is, c.word_len-length.ensures.limit)
+      | else-place-count w
+          ↦ omega (arith, w.length-is, c.word_len-length.ensures.limit)
+    ]
 
 pub returns : goal.returns
 returns c =

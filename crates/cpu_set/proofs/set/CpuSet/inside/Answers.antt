@@ -12,11 +12,11 @@ words-preserved c = inside_more c.self.inside.words c.other.inside.words c.words
 pub returns : goal.returns
 returns c =
     let all = inside_all c.self.inside.words c.other.inside.words c.args.self.now c.args.other.now c.self.view_is c.other.view_is
-        c.self.invariant c.other.invariant c.words.place c.words-test.false c.words.invariant in
+    c.self.invariant c.other.invariant c.words.place c.words-test.false c.words.invariant in
     record { all = (λ _. all, λ _. refl); test = sym (is_inside-yes c.args.self.now c.args.other.now all) }
 
 pub returns-then-self-place-ne0 : goal.returns-then-self-place-ne0
 returns-then-self-place-ne0 c =
     let out = not_inside c.self.inside.words c.other.inside.words c.args.self.now c.args.other.now c.self.view_is c.other.view_is
-        c.self.invariant c.other.invariant c.words.place c.words-test.true c.if-self-place-ne0.true in
+    c.self.invariant c.other.invariant c.words.place c.words-test.true c.if-self-place-ne0.true in
     record { all = (λ h. absurd (false≢true h), λ all. absurd (out all)); test = sym (is_inside-no c.args.self.now c.args.other.now out) }

@@ -15,8 +15,15 @@ loop-run-preserved c =
     elim c.if-length-gt0.branch [
       | then-length-gt0 w ↦ (
         (text ++ 44 ∷ []) ++ one,
-        omega (arith, w.length-is, c.run_len-length.ensures.length, c.loop-run.invariant.1, length-append
-            (text ++ 44 ∷ []) one, length-append text (44 ∷ [])),
+        omega (
+          arith,
+          w.length-is,
+          c.run_len-length.ensures.length,
+          c.loop-run.invariant.1,
+          length-append
+              (text ++ 44 ∷ []) one,
+          length-append text (44 ∷ []),
+        ),
         list_next c.args.self.now c.loop-run.from c.in-Some.run'.first c.in-Some.run'.last text c.loop-run.invariant.2 c.in-Some.ensures.run
             c.in-Some.ensures.order c.in-Some.ensures.from c.in-Some.ensures.limit
             (omega (arith, c.loop-run.invariant.1, w.if-length-gt0.true)),

@@ -19,12 +19,12 @@ pub returns-then-word-ne0-clause-found : goal.returns-then-word-ne0-clause-found
 returns-then-word-ne0-clause-found c =
     numbers_from-Found c.args.self.now c.args.from _ (IsSet-view c.self.inside.words c.args.self.now c.self.view_is)
     (found_first c.self.inside.words c.args.self.now c.self.view_is c.self.invariant c.args.from c.if-from-ge-LIMIT.false _ refl
-        c.if-word-ne0.true)
+    c.if-word-ne0.true)
 
 pub returns-then-word-ne0-clause-from : goal.returns-then-word-ne0-clause-from
 returns-then-word-ne0-clause-from c =
     (found_first c.self.inside.words c.args.self.now c.self.view_is c.self.invariant c.args.from c.if-from-ge-LIMIT.false _ refl
-        c.if-word-ne0.true).from_on
+    c.if-word-ne0.true).from_on
 
 pub returns-then-word-ne0-clause-set : goal.returns-then-word-ne0-clause-set
 returns-then-word-ne0-clause-set c = IsSet-view c.self.inside.words c.args.self.now c.self.view_is

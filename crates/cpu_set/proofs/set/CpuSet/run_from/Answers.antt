@@ -13,10 +13,10 @@ loop-last-preserved c =
 pub returns-else-has-clause-run : goal.returns-else-has-clause-run
 returns-else-has-clause-run c =
     run_end c.args.self.now c.has.ensures.set c.args.from c.in_ok-first.first c.loop-last.last c.loop-last.invariant
-        (has_unless c.has.result c.args.self.now (c.loop-last.last + 1) c.has.ensures.found c.if-has.false) c.in_ok-first.ensures.found
+    (has_unless c.has.result c.args.self.now (c.loop-last.last + 1) c.has.ensures.found c.if-has.false) c.in_ok-first.ensures.found
 
 pub returns-after-loop-last-clause-run : goal.returns-after-loop-last-clause-run
 returns-after-loop-last-clause-run c =
     run_end c.args.self.now c.in_ok-first.ensures.set c.args.from c.in_ok-first.first c.loop-last.last c.loop-last.invariant
     (run_end_past c.args.self.now c.in_ok-first.ensures.set c.loop-last.last (omega (arith, c.loop-last-test.false)))
-        c.in_ok-first.ensures.found
+    c.in_ok-first.ensures.found

@@ -12,8 +12,11 @@ loop-word-preserved c =
 
 pub overflow_add-count : goal.overflow_add-count
 overflow_add-count c =
-    omega (arith, count_up_to c.self.inside.words c.loop-word.word-index c.loop-word.count c.self.invariant c.loop-word-test.true
-    c.loop-word.invariant)
+    omega (
+      arith,
+      count_up_to c.self.inside.words c.loop-word.word-index c.loop-word.count c.self.invariant c.loop-word-test.true
+          c.loop-word.invariant,
+    )
 
 pub returns-clause-count : goal.returns-clause-count
 returns-clause-count c =

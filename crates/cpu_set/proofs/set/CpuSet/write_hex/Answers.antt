@@ -20,10 +20,10 @@ loop-place-preserved c =
     rw grown (elim c.if-place-count.branch [
       | then-place-count+in_ok-push w ↦ rw (w.text-is, w.in_ok-push.ensures.items)
           (hex_next c.args.self.now count c.loop-place.place place c.loop-place.text.items (omega arith)
-              (omega (arith, w.if-place-count.true)) c.loop-place.invariant)
+          (omega (arith, w.if-place-count.true)) c.loop-place.invariant)
       | else-place-count w ↦ rw w.text-is
           (hex_first c.args.self.now count c.loop-place.place place c.loop-place.text.items (ap (λ n. n / 32 + 1) c.highest.ensures.number)
-              (omega arith) (omega (arith, w.if-place-count.false)) c.loop-place.auto.place c.loop-place.invariant)
+          (omega arith) (omega (arith, w.if-place-count.false)) c.loop-place.auto.place c.loop-place.invariant)
     ])
 
 pub returns : goal.returns

@@ -1,0 +1,174 @@
+//! A level of a composition.
+ghost use Rattle.std.specs.Prelude.{◌≡◌, vec_capacity, length};
+ghost use Rattle.clof_compose.specs.Nodes.{IsLevel, IsOfLevel, locks_of};
+ghost use Rattle.clof_compose.specs.Levels.{level_context};
+ghost use Rattle.clof_compose.specs.Passes.{AreAll};
+ghost use Rattle.clof_compose.specs.Roots.{root_tag, IsFit};
+
+use crate::climb::keep_high;
+use crate::closing::{close_nodes, take_passes};
+use crate::composed::Composed;
+use crate::level_tokens::{LevelHeld, LevelLeave, LevelPass, LevelQueue};
+use crate::node::{Node, lock_of};
+use crate::own::Own;
+use crate::passing::go_up;
+use crate::payload::Payload;
+use crate::release::{let_go, put_back};
+use crate::root::Root;
+use crate::stage::{LeaveStage, QueueStage};
+use keep_local::Share;
+use lock_rules::{Basic, Held as Holds, Step};
+
+/// A basic lock for each node of a level, over a high lock of which each node has one context.
+#[derive(Drop)]
+pub struct Level<B, H, L, HL> {
+    pub(crate) high: H,
+    pub(crate) nodes: Vec<Node<B, L>>,
+    // The node above each context.
+    pub(crate) parents: Vec<u32>,
+    // An empty list with room for the passes of the high lock.
+    pub(crate) list: Vec<HL>,
+    pub(crate) level: u32,
+    pub(crate) keep: u32,
+}
+
+impl<
+    P: Payload,
+    H: Composed<P>,
+    B: Basic<Own<P, H::Pass, H::Held>, Held = Holds<Own<P, H::Pass, H::Held>>> + Drop,
+> Composed<P> for Level<B, H, B::Pass, H::Pass> {
+    type Pass = LevelPass<B::Pass>;
+
+    type Queue = LevelQueue<P, B::Queue, H::Pass, H::Held, H::Queue>;
+
+    type Held = LevelHeld<P, H::Pass, H::Held>;
+
+    type Leave = LevelLeave<P, B::Leave, H::Pass, H::Held, H::Leave>;
+
+    ghost level = { λ l. l.level };
+
+    ghost tag = { λ l. H.tag l.high };
+
+    ghost count = { λ l. length l.parents.items };
+
+    ghost sound = { λ l. IsLevel B.name B.tag B.count B.Pass.place (H.has l.high) (H.sound l.high) (H.level l.high) (H.count l.high)
+        (H.tag l.high) l.level l.keep l.parents.items l.nodes.items l.list.items (vec_capacity l.list) };
+
+    ghost has = { λ l. IsOfLevel B.name B.tag l.level l.parents.items (locks_of l.nodes.items) };
+
+    fn begin(
+        &self,
+        pass: LevelPass<B::Pass>,
+        share: &mut Share,
+    ) -> Step<LevelQueue<P, B::Queue, H::Pass, H::Held, H::Queue>, LevelHeld<P, H::Pass, H::Held>> {
+        let id = pass.id;
+        match lock_of(&self.nodes, id.node).begin(pass.low) {
+            Step::Not(low) => Step::Not(LevelQueue {
+                stage: QueueStage::Low(low),
+                id,
+            }),
+            Step::Got(low) => go_up(&self.high, low, id, share),
+        }
+    }
+
+    fn poll(
+        &self,
+        queue: LevelQueue<P, B::Queue, H::Pass, H::Held, H::Queue>,
+        share: &mut Share,
+    ) -> Step<LevelQueue<P, B::Queue, H::Pass, H::Held, H::Queue>, LevelHeld<P, H::Pass, H::Held>> {
+        let LevelQueue { stage, id } = queue;
+        match stage {
+            QueueStage::Low(low) => match lock_of(&self.nodes, id.node).poll(low) {
+                Step::Not(low) => Step::Not(LevelQueue {
+                    stage: QueueStage::Low(low),
+                    id,
+                }),
+                Step::Got(low) => go_up(&self.high, low, id, share),
+            },
+            QueueStage::High(low, queue) => match self.high.poll(queue, share) {
+                Step::Not(queue) => Step::Not(LevelQueue {
+                    stage: QueueStage::High(low, queue),
+                    id,
+                }),
+                Step::Got(held) => Step::Got(LevelHeld {
+                    low: keep_high(low, held),
+                    id,
+                }),
+            },
+        }
+    }
+
+    fn begin_release(
+        &self,
+        held: LevelHeld<P, H::Pass, H::Held>,
+    ) -> Step<LevelLeave<P, B::Leave, H::Pass, H::Held, H::Leave>, LevelPass<B::Pass>> {
+        let LevelHeld { mut low, id } = held;
+        let lock = lock_of(&self.nodes, id.node);
+        let yes = lock.waiter(&mut low);
+        match let_go(&self.high, low, id.level, self.keep, yes) {
+            Step::Not((low, leave)) => Step::Not(LevelLeave {
+                stage: LeaveStage::High(low, leave),
+                id,
+            }),
+            Step::Got((low, tests)) => match lock.begin_release(low) {
+                Step::Not(low) => Step::Not(LevelLeave {
+                    stage: LeaveStage::Low(low, tests),
+                    id,
+                }),
+                Step::Got(low) => Step::Got(LevelPass { low, id, tests }),
+            },
+        }
+    }
+
+    fn poll_release(
+        &self,
+        leave: LevelLeave<P, B::Leave, H::Pass, H::Held, H::Leave>,
+    ) -> Step<LevelLeave<P, B::Leave, H::Pass, H::Held, H::Leave>, LevelPass<B::Pass>> {
+        let LevelLeave { stage, id } = leave;
+        let lock = lock_of(&self.nodes, id.node);
+        let (left, tests) = match stage {
+            LeaveStage::Low(low, tests) => (lock.poll_release(low), tests),
+            LeaveStage::High(low, leave) => match self.high.poll_release(leave) {
+                Step::Not(leave) => {
+                    return Step::Not(LevelLeave {
+                        stage: LeaveStage::High(low, leave),
+                        id,
+                    });
+                }
+                Step::Got(pass) => {
+                    let (low, tests) = put_back(low, pass);
+                    (lock.begin_release(low), tests)
+                }
+            },
+        };
+        match left {
+            Step::Not(low) => Step::Not(LevelLeave {
+                stage: LeaveStage::Low(low, tests),
+                id,
+            }),
+            Step::Got(low) => Step::Got(LevelPass { low, id, tests }),
+        }
+    }
+
+    fn close(self, passes: Vec<LevelPass<B::Pass>>) -> Root<P>
+        requires sound { IsLevel B.name B.tag B.count B.Pass.place (H.has self.high) (H.sound self.high) (H.level self.high)
+            (H.count self.high) (H.tag self.high) self.level self.keep self.parents.items self.nodes.items self.list.items
+            (vec_capacity self.list) }
+        requires all { AreAll (λ p. level_context p.id.level p.id.node p.id.number (B.Pass.place p.low))
+            (IsOfLevel B.name B.tag self.level self.parents.items (locks_of self.nodes.items)) self.level (H.tag self.high)
+            (length self.parents.items) passes.items }
+        ensures fit { IsFit P.calls result }
+        ensures tagged { root_tag P.tag result ≡ H.tag self.high }
+    {
+        let Level {
+            high,
+            nodes,
+            parents,
+            list,
+            ..
+        } = self;
+        let nodes = take_passes::<Own<P, H::Pass, H::Held>, B>(nodes, passes, &parents);
+        let passes = close_nodes::<P, H, B>(&high, nodes, list);
+        high.close(passes)
+    }
+}

@@ -1,0 +1,220 @@
+//! How a level is made over a high lock.
+ghost use Rattle.std.specs.Prelude.{◌≡◌, ◌+◌, ◌<◌, ◌≤◌, ◌^◌, ℕ, [], All, length, slice_get, Some, vec_capacity, IfOk, IfErr};
+ghost use Rattle.lock_rules.specs.Passes.{AreAll as AreAllLow};
+ghost use Rattle.clof_compose.specs.Contexts.{AreContexts, own_tag};
+ghost use Rattle.clof_compose.specs.Courses.{course_of};
+ghost use Rattle.clof_compose.specs.Levels.{level_context};
+ghost use Rattle.clof_compose.specs.Nodes.{AreFilled, AreLocks, IsGiven, IsInShape, IsLevel, IsOfLevel, locks_of, under};
+ghost use Rattle.clof_compose.specs.Passes.{AreAll};
+
+use crate::closing::close_nodes;
+use crate::composed::Composed;
+use crate::context_id::ContextId;
+use crate::level::Level;
+use crate::level_tokens::LevelPass;
+use crate::node::Node;
+use crate::own::{High, Own};
+use crate::payload::Payload;
+use crate::token::{Resting, Standing};
+use lock_rules::{Basic, Cargo, Held as Holds};
+use std::alloc::Global;
+use std::marker::PhantomData;
+
+/// There was no memory. The high lock and its passes come back, in order.
+#[derive(Drop)]
+pub struct Returned<H, HL> {
+    pub high: H,
+    pub passes: Vec<HL>,
+}
+
+/// A level over a high lock, with its passes in the order of their numbers. `parents` has for each context the node above it, and the
+/// node i has the high lock's context i. There is a basic lock for each node. It is refused for want of memory alone.
+pub fn make_level<
+    P: Payload,
+    H: Composed<P>,
+    B: Basic<Own<P, H::Pass, H::Held>, Held = Holds<Own<P, H::Pass, H::Held>>> + Drop,
+>(
+    alloc: Global,
+    recipe: B::Recipe,
+    level: u32,
+    keep: u32,
+    parents: &[u32],
+    high: H,
+    passes: Vec<H::Pass>,
+) -> Result<(Level<B, H, B::Pass, H::Pass>, Vec<LevelPass<B::Pass>>), Returned<H, H::Pass>>
+    requires sound { H.sound high }
+    requires above { H.level high ≡ level + 1 }
+    requires all { AreAll (λ p. (H.Pass.rest p).context) (H.has high) (H.level high) (H.tag high) (H.count high) passes.items }
+    requires fresh { All (λ p. (H.Pass.rest p).tests ≡ 0) passes.items }
+    requires shape { IsInShape (course_of (H.tag high)).shape level keep parents.now }
+    requires contexts { AreContexts (course_of (H.tag high)).shape level (length parents.now) }
+    requires nodes { AreContexts (course_of (H.tag high)).shape (level + 1) (H.count high) }
+    requires few { length parents.now < 2 ^ 32 }
+    ensures level { IfOk result (λ m. m.0.level ≡ level) }
+    ensures tag { IfOk result (λ m. H.tag m.0.high ≡ H.tag high) }
+    ensures count { IfOk result (λ m. m.0.parents.items ≡ parents.now) }
+    ensures sound { IfOk result (λ m. IsLevel B.name B.tag B.count B.Pass.place (H.has m.0.high) (H.sound m.0.high) (H.level m.0.high)
+        (H.count m.0.high) (H.tag m.0.high) m.0.level m.0.keep m.0.parents.items m.0.nodes.items m.0.list.items
+        (vec_capacity m.0.list)) }
+    ensures passes { IfOk result (λ m. AreAll (λ p. level_context p.id.level p.id.node p.id.number (B.Pass.place p.low))
+        (IsOfLevel B.name B.tag m.0.level m.0.parents.items (locks_of m.0.nodes.items)) m.0.level (H.tag m.0.high)
+        (length m.0.parents.items) m.1.items) }
+    ensures fresh { IfOk result (λ m. All (λ p. p.tests ≡ 0) m.1.items) }
+    ensures high { IfErr result (λ r. r.high ≡ high) }
+    ensures returned { IfErr result (λ r. AreAll (λ p. (H.Pass.rest p).context) (H.has high) (H.level high) (H.tag high) (H.count high)
+        r.passes.items) }
+{
+    let (Ok(nodes), Ok(room), Ok(copy)) = (
+        Vec::with_capacity(alloc, passes.len()),
+        Vec::with_capacity(alloc, parents.len()),
+        Vec::from_slice(alloc, parents),
+    ) else {
+        return Err(Returned { high, passes });
+    };
+    match make_nodes::<P, H, B>(alloc, recipe, parents, &high, nodes, passes) {
+        Ok((nodes, list)) => {
+            let (nodes, passes) = give_passes::<Own<P, H::Pass, H::Held>, B>(
+                nodes, parents, level, room,
+            );
+            let made = Level {
+                high,
+                nodes,
+                parents: copy,
+                list,
+                level,
+                keep,
+            };
+            Ok((made, passes))
+        }
+        Err(passes) => Err(Returned { high, passes }),
+    }
+}
+
+// A node for each pass of the high lock, whose list has all passes of its basic lock, and the emptied list of these passes. For want of
+// memory they come back, in order.
+fn make_nodes<
+    P: Payload,
+    H: Composed<P>,
+    B: Basic<Own<P, H::Pass, H::Held>, Held = Holds<Own<P, H::Pass, H::Held>>> + Drop,
+>(
+    alloc: Global,
+    recipe: B::Recipe,
+    parents: &[u32],
+    high: &H,
+    mut nodes: Vec<Node<B, B::Pass>>,
+    mut passes: Vec<H::Pass>,
+) -> Result<(Vec<Node<B, B::Pass>>, Vec<H::Pass>), Vec<H::Pass>>
+    requires all { AreAll (λ p. (H.Pass.rest p).context) (H.has high.now) (H.level high.now) (H.tag high.now) (length passes.items)
+        passes.items }
+    requires above { 0 < H.level high.now }
+    requires fresh { All (λ p. (H.Pass.rest p).tests ≡ 0) passes.items }
+    requires parents { (n : ℕ) → n < length passes.items → 0 < under parents.now n (length parents.now) }
+    requires few { length parents.now < 2 ^ 32 }
+    requires few_nodes { length passes.items ≤ 2 ^ 32 }
+    requires empty { nodes.items ≡ [] }
+    requires room { length passes.items ≤ vec_capacity nodes }
+    ensures locks { IfOk result (λ m. AreLocks B.tag (H.has high.now) (H.level high.now) (H.tag high.now) (locks_of m.0.items)) }
+    ensures filled { IfOk result (λ m. AreFilled B.name B.tag B.count B.Pass.place parents.now (length parents.now) m.0.items) }
+    ensures many { IfOk result (λ m. length m.0.items ≡ length passes.items) }
+    ensures emptied { IfOk result (λ m. m.1.items ≡ []) }
+    ensures list { IfOk result (λ m. length passes.items ≤ vec_capacity m.1) }
+    ensures returned { IfErr result (λ l. AreAll (λ p. (H.Pass.rest p).context) (H.has high.now) (H.level high.now) (H.tag high.now)
+        (length passes.items) l.items) }
+{
+    passes.reverse();
+    while let Some(pass) = passes.pop() {
+        let number = nodes.len() as u32;
+        let contexts = contexts_under(parents, number);
+        match make_node::<P, H::Pass, H::Held, B>(alloc, recipe, number, contexts, pass) {
+            Ok(node) => nodes.push_reserved(node),
+            Err(pass) => {
+                passes.push_reserved(pass);
+                return Err(close_nodes::<P, H, B>(high, nodes, passes));
+            }
+        }
+    }
+    Ok((nodes, passes))
+}
+
+// How many contexts there are under a node.
+fn contexts_under(parents: &[u32], node: u32) -> u32
+    requires { length parents.now < 2 ^ 32 }
+    ensures { result ≡ under parents.now node (length parents.now) }
+{
+    parents.iter().filter(|parent| **parent == node).count() as u32
+}
+
+// A basic lock whose value has this pass of the high lock. For want of memory it comes back.
+fn make_node<
+    P: Payload,
+    Pass: Resting,
+    Held: Standing<P>,
+    B: Basic<Own<P, Pass, Held>, Held = Holds<Own<P, Pass, Held>>> + Drop,
+>(
+    alloc: Global,
+    recipe: B::Recipe,
+    number: u32,
+    contexts: u32,
+    pass: Pass,
+) -> Result<Node<B, B::Pass>, Pass>
+    requires some { 0 < contexts }
+    requires number { (Pass.rest pass).context.number ≡ number }
+    requires above { 0 < (Pass.rest pass).context.level }
+    requires fresh { (Pass.rest pass).tests ≡ 0 }
+    ensures tag { IfOk result (λ n. B.tag n.lock ≡ own_tag number (Pass.rest pass).context) }
+    ensures count { IfOk result (λ n. B.count n.lock ≡ contexts) }
+    ensures lows { IfOk result (λ n. AreAllLow B.Pass.place (B.name n.lock) (B.tag n.lock) (B.count n.lock) n.list.items) }
+    ensures refused { IfErr result (λ p. p ≡ pass) }
+{
+    let own = Own {
+        node: number,
+        kept: 0,
+        said: false,
+        high: High::Idle(pass),
+        payload: PhantomData,
+    };
+    match B::make(alloc, recipe, contexts, own) {
+        Ok((lock, list)) => Ok(Node { lock, list }),
+        Err(refused) => {
+            let Own { high, .. } = refused.value;
+            let High::Idle(pass) = high else {
+                unreachable!()
+            };
+            Err(pass)
+        }
+    }
+}
+
+// A pass for each context, in order, which takes the basic pass that falls to it out of its node's list.
+fn give_passes<V: Cargo, B: Basic<V>>(
+    mut nodes: Vec<Node<B, B::Pass>>,
+    parents: &[u32],
+    level: u32,
+    mut passes: Vec<LevelPass<B::Pass>>,
+) -> (Vec<Node<B, B::Pass>>, Vec<LevelPass<B::Pass>>)
+    requires within { (k n : ℕ) → slice_get parents.now k ≡ Some n → n < length nodes.items }
+    requires few { length parents.now < 2 ^ 32 }
+    requires filled { AreFilled B.name B.tag B.count B.Pass.place parents.now (length parents.now) nodes.items }
+    requires empty { passes.items ≡ [] }
+    requires room { length parents.now ≤ vec_capacity passes }
+    ensures locks { locks_of result.0.items ≡ locks_of nodes.items }
+    ensures filled { AreFilled B.name B.tag B.count B.Pass.place parents.now 0 result.0.items }
+    ensures all { length result.1.items ≡ length parents.now }
+    ensures each { (k : ℕ) (p : _) → slice_get result.1.items k ≡ Some p → IsGiven B.name B.tag B.Pass.place level parents.now
+        (locks_of nodes.items) k p }
+{
+    for number in (0..parents.len()).rev() {
+        let node = parents[number];
+        let Some(low) = nodes[node as usize].list.pop() else {
+            unreachable!()
+        };
+        let id = ContextId {
+            level,
+            node,
+            number: number as u32,
+        };
+        passes.push_reserved(LevelPass { low, id, tests: 0 });
+    }
+    passes.reverse();
+    (nodes, passes)
+}
