@@ -107,7 +107,6 @@ put-keyed key old new item here keeps =
     same_map nat_list_cmp_total distinct _ _
     (λ q. get_after key q old new (Some item) here keeps ∙ sym (get-insert nat_list_cmp_total (kept_items old) key (plain_item item) q))
 
-
 -- an item that is like the one that is there makes no difference
 pub same-keyed : (key : List ℕ) (old new : Entries) (before after : Item) → lookup (names key) old ≡ Some before
     → plain_item after ≡ plain_item before → lookup (names key) new ≡ Some after → KeepsOthers same_key (names key) old new

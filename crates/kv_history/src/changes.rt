@@ -57,8 +57,7 @@ impl Store {
         if storing.exptime < 0 {
             self.items.remove(storing.key);
         } else {
-            self.items
-                .put(storing.key, storing.flags, storing.block, self.next_unique)?;
+            self.items.put(storing.key, storing.flags, storing.block, self.next_unique)?;
         }
         self.next_unique = self.next_unique.wrapping_add(1);
         Ok(FixedLine::Stored)
@@ -114,7 +113,12 @@ impl Store {
     }
 
     /// Counts a key's number up or down. Without memory the store stays.
-    pub(crate) fn count(&mut self, up: bool, key: &[u8], delta: u64) -> Result<ReplyLine, OutOfMemory>
+    pub(crate) fn count(
+        &mut self,
+        up: bool,
+        key: &[u8],
+        delta: u64,
+    ) -> Result<ReplyLine, OutOfMemory>
         ensures line { IfOk result (λ line. written_line line
             ≡ (counting self.old up key.now delta (map.get self.old.items key.now)).reply) }
         ensures store { OnOk result (self.new ≡ (counting self.old up key.now delta (map.get self.old.items key.now)).store) }

@@ -7,8 +7,8 @@ ghost use Rattle.kv_history.specs.Views.{plain_item};
 ghost use Rattle.kv_history.specs.Edits.{edited};
 
 use crate::item::{Edit, Item};
-use out_of_memory::OutOfMemory;
 use indexmap::IndexMap;
+use out_of_memory::OutOfMemory;
 use std::alloc::Global;
 use std::marker::Model;
 
@@ -67,7 +67,13 @@ impl Items {
     }
 
     /// Puts an item under a key, in the place of the one that is there. Without memory the items stay.
-    pub fn put(&mut self, key: &[u8], flags: u32, block: &[u8], unique: u64) -> Result<(), OutOfMemory>
+    pub fn put(
+        &mut self,
+        key: &[u8],
+        flags: u32,
+        block: &[u8],
+        unique: u64,
+    ) -> Result<(), OutOfMemory>
         ensures ok { OnOk result (self.new
             ≡ map.insert self.old key.now (record { flags = flags; block = block.now; unique = unique })) }
         ensures err { OnErr result (self.new ≡ self.old) }

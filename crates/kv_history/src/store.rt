@@ -92,7 +92,11 @@ impl Store {
 
     // Appends the reply to a command whose reply is one line at most, and changes the store as the command asks. The reply
     // has room for a line.
-    fn answer_in_line(&mut self, command: &Command<'_>, reply: &mut Vec<u8>) -> Result<(), OutOfMemory>
+    fn answer_in_line(
+        &mut self,
+        command: &Command<'_>,
+        reply: &mut Vec<u8>,
+    ) -> Result<(), OutOfMemory>
         requires line { HasLine (request_of command.now) }
         requires room { vec_len reply.old + 64 ≤ vec_capacity reply.old }
         ensures reply { OnOk result (reply.new.items ≡ reply.old.items ++ reply_of self.old (request_of command.now)) }

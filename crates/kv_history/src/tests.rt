@@ -204,7 +204,8 @@ fn leaves_out_the_replies_of_quiet_commands_alone(rt: HostRuntime) -> Result<(),
 
 #[test]
 fn keeps_a_journal(rt: HostRuntime) -> Result<(), Fail> {
-    let section = b"set n 0 0 20\r\n18446744073709551615\r\nincr n 1\r\ndecr n 5\r\ncas n 0 0 1 1\r\n7\r\n\
+    let section =
+        b"set n 0 0 20\r\n18446744073709551615\r\nincr n 1\r\ndecr n 5\r\ncas n 0 0 1 1\r\n7\r\n\
         cas n 0 0 1 3\r\n7\r\ngets n\r\nset n 0 0 1 noreply\r\n8\r\nget n";
     let journal = applied(rt.alloc(), section)?;
     assert_eq!(rt; journal.entries(), 7);
@@ -218,7 +219,10 @@ fn keeps_a_journal(rt: HostRuntime) -> Result<(), Fail> {
     assert_eq!(rt; entry.spelling, b"cas n 0 0 1 1\r\n7\r\n".as_slice());
     assert!(rt; !entry.void);
     assert_eq!(rt; journal.reply(0), b"STORED\r\n".as_slice());
-    assert_eq!(rt; journal.reply(5), b"VALUE n 0 1 4\r\n7\r\nEND\r\n".as_slice());
+    assert_eq!(rt;
+        journal.reply(5),
+        b"VALUE n 0 1 4\r\n7\r\nEND\r\n".as_slice()
+    );
     assert_eq!(rt; journal.reply(6), b"".as_slice());
     assert!(rt; journal.store().block(b"n") == Some(b"8".as_slice()));
     assert!(rt; journal.store().block(b"b").is_none());
@@ -231,9 +235,7 @@ fn long_section(alloc: Global, size: &[u8], bytes: usize) -> Result<Vec<u8>, Out
     section.extend_from_slice(size)?;
     section.extend_from_slice(b"\r\n")?;
     section.extend_from_slice(&vec![in alloc; b'x'; bytes]?)?;
-    section.extend_from_slice(
-        b"\r\nappend k 0 0 1\r\ny\r\nprepend k 0 0 1\r\nz\r\ngets k\r\n",
-    )?;
+    section.extend_from_slice(b"\r\nappend k 0 0 1\r\ny\r\nprepend k 0 0 1\r\nz\r\ngets k\r\n")?;
     Ok(section)
 }
 
