@@ -145,7 +145,7 @@ fn limits_the_sections(rt: HostRuntime) -> Result<(), Fail> {
 #[test]
 fn serves_sections_one_after_another(rt: HostRuntime) -> Result<(), Fail> {
     let alloc = rt.alloc();
-    let input = b"worker * 17\nset a 5 0 1\r\nx\r\n\nworker pu:1 7\nget a\r\n\n";
+    let input = b"worker * 16\nset a 5 0 1\r\nx\r\n\nworker pu:1 7\nget a\r\n\n";
     let ended = call(&rt, alloc, &["run", "Core:2 PU:2"], input.to_vec(alloc)?)?;
     let text =
         b"turn 0 caller 0 pu 0 climb 0 tests 0 left 0 \"set a 5 0 1\\r\\nx\\r\\n\" \"STORED\\r\\n\"\n\
