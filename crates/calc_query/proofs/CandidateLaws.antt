@@ -1,6 +1,6 @@
 -- The objects of a layer inside an object stand side by side.
-use Rattle.std.proofs.Common.{◌≡◌, ◌≢◌, ℕ, ◌+◌, ◌-◌, ◌*◌, ◌/◌, ◌<◌, ◌≤◌, max, Bool, ◌&&◌, nat_lt, nat_le, List, [], length, take, Option}
-use Rattle.std.proofs.Common.{Some, None, ◌⊎◌, refl, sym, ap, ◌∙◌, inl, inr, arith}
+use Rattle.std.proofs.Common.{◌≡◌, ◌≢◌, ℕ, ◌+◌, ◌-◌, ◌*◌, ◌/◌, ◌<◌, ◌≤◌, max, ◌&&◌, nat_lt, nat_le, List, [], length, take, Option}
+use Rattle.std.proofs.Common.{Some, None, ◌⊎◌, refl, ap, ◌∙◌, inl, inr, arith}
 use Rattle.std.proofs.Math.Nat.{mul-le-mul_right}
 use Rattle.std.specs.List.{range_with_len, filter}
 use Rattle.std.specs.Option.{option_map}
@@ -18,7 +18,7 @@ use Rattle.topo_tree.specs.declared.layer.Layer.TheVariants as layers
 use Rattle.topo_tree.specs.Objects.{count_at, count_of}
 use Rattle.topo_tree.specs.Building.{IsBuilt}
 use Rattle.topo_tree.specs.Beginnings.{width_at}
-use Rattle.topo_tree.specs.Coverage.{layer_depth, set_of, set_at}
+use Rattle.topo_tree.specs.Coverage.{layer_depth, set_of}
 use Rattle.topo_tree.proofs.CountLaws.{have_arities, last_count}
 use Rattle.topo_tree.proofs.Shown.{found_width}
 use Rattle.topo_tree.proofs.PlaceLaws.{widths, some_width, set_at-inside, last_within}

@@ -1,5 +1,5 @@
 -- The answers name objects of the topology alone.
-use Rattle.std.proofs.Common.{◌≡◌, ℕ, ◌+◌, ◌<◌, ◌≤◌, Bool, List, [], ◌∷◌, ◌++◌, length, map, slice_index, arith}
+use Rattle.std.proofs.Common.{ℕ, ◌<◌, Bool, List, [], ◌∷◌, length, slice_index, arith}
 use Rattle.std.specs.List.{All, AllByRecursion, filter, fold, flat_map, range_with_len}
 use Rattle.std.proofs.lemmas.List.Elements.{All-from_recursion, All-get_or, All-nil, All-push}
 use Rattle.cpu_set.specs.Tests.{meets, is_inside}

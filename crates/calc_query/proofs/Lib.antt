@@ -9,3 +9,4 @@ pub mod ChainLaws
 pub mod PathLaws
 pub mod Kept
 pub mod FitLaws
+pub mod LargestLaws

@@ -1,16 +1,11 @@
 -- Candidates that stand side by side, picked one after another.
-use Rattle.std.proofs.Common.{◌≡◌, ℕ, ◌+◌, ◌<◌, Bool, true, false, ◌&&◌, ◌||◌, ◌==◌, List, [], ◌∷◌, length, slice_index, refl, sym, ap, ◌∙◌}
-use Rattle.std.proofs.Common.{arith}
-use Rattle.std.specs.List.{range_with_len, list_any}
+use Rattle.std.proofs.Common.{◌≡◌, ℕ, ◌+◌, ◌<◌, Bool, true, false, ◌&&◌, ◌==◌, List, [], ◌∷◌, length, slice_index, refl, sym, ap, ◌∙◌}
+use Rattle.std.specs.List.{range_with_len}
 use Rattle.std.proofs.lemmas.Bool.{and_right}
 use Rattle.std.proofs.lemmas.List.FromFn.{length-range_with_len, get_or-range_with_len}
-use Rattle.cpu_set.specs.Sets.{has, numbers_where, union}
-use Rattle.cpu_set.specs.SetLaws.{numbers_below-same}
+use Rattle.cpu_set.specs.Sets.{numbers_where, union}
 use Rattle.synth_text.specs.declared.description.Description.{Description}
-use Rattle.topo_tree.specs.declared.layer.Layer.{Layer}
-use Rattle.topo_tree.specs.Coverage.{physical_of}
 use Rattle.calc_query.specs.declared.query.Numbering.{Numbering}
-use Rattle.calc_query.specs.declared.query.Numbering.TheVariants as numberings
 use Rattle.calc_query.specs.declared.query.Part.{Part}
 use Rattle.calc_query.specs.Picks.{is_picked}
 use Rattle.calc_query.specs.Candidates.{number_of, number_at}

@@ -14,7 +14,7 @@ mod selecting;
 
 pub use answers::{hierarchical, intersecting, largest};
 pub use fault::CalcFault;
-pub use laws::{no_terms_select_nothing, paths_are_chains};
+pub use laws::{largest_make_up_whole_objects, no_terms_select_nothing, paths_are_chains};
 pub use query::{Location, Numbering, Op, Part, Path, Pick, Step2, Term};
 pub use reading::{read_location, read_term};
 pub use selecting::select;

@@ -1,8 +1,8 @@
 -- The codes of statuses.
 use Rattle.std.proofs.Common.{◌≡◌, ◌⊎◌, ℕ, refl, sym, ap, ◌∙◌, inl, inr}
-use Rattle.clof_tool.specs.Status.{code_of}
-use Rattle.clof_tool.specs.declared.status.Status.{Status}
-use Rattle.clof_tool.specs.declared.status.Status.TheVariants.{Ok, Usage, Malformed, Limit, ReadFault, WriteFault, OutOfMemory}
+use Rattle.command_texts.specs.Status.{code_of}
+use Rattle.command_texts.specs.declared.status.Status.{Status}
+use Rattle.command_texts.specs.declared.status.Status.TheVariants.{Ok, Usage, Malformed, Limit, ReadFault, WriteFault, OutOfMemory}
 
 -- only Usage has its code
 pub usage_alone : (status : Status) → code_of status ≡ 2 → status ≡ Usage

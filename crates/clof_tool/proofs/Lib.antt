@@ -1,5 +1,3 @@
 pub mod Codes
-pub mod OnTopologies
-pub mod Masks
+pub mod SectionRuns
 pub mod Stops
-pub mod Topologies

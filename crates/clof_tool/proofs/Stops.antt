@@ -1,9 +1,9 @@
 -- What was made before the first write.
 use Rattle.std.proofs.Common.{◌≡◌, ℕ, Ok, Err, sym, subst}
 use Rattle.std.specs.Prelude.{IsOk, IfOk, IfErr, Result}
-use Rattle.clof_tool.specs.declared.status.Status.{Status}
-use Rattle.clof_tool.specs.declared.status.Status.TheVariants as statuses
-use Rattle.clof_tool.specs.Outcome.{HasWritten}
+use Rattle.command_texts.specs.declared.status.Status.{Status}
+use Rattle.command_texts.specs.declared.status.Status.TheVariants as statuses
+use Rattle.command_texts.specs.Ends.{HasWritten}
 
 -- where a write stopped, there was a text
 pub stopped_text : {T : Type 0} (made : Result T Status) (result : Status) (written : ℕ) (P Q : T → Type 0)

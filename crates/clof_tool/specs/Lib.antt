@@ -1,11 +1,3 @@
-pub mod CalcText
-pub mod Chosen
-pub mod DistribText
-pub mod Line
-pub mod OnTopology
 pub mod Outcome
 pub mod Process
 pub mod Run
-pub mod SetText
-pub mod Status
-pub mod TopoText

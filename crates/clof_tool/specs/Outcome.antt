@@ -2,21 +2,21 @@
 use Rattle.std.specs.Prelude.{◌≡◌, ◌≤◌, ◌<◌, ◌+◌, ◌⊎◌, ℕ, Bool, List, length, Some, IfSome}
 use Rattle.std.specs.declared.option.Option.{Option}
 use Rattle.edge_io.specs.Counts.{RisesBy}
-use Rattle.placed_runner.specs.declared.fault.SectionFault.TheVariants.{NotYet}
-use Rattle.clof_tool.specs.declared.status.Fault.TheVariants.{Set as SetOf, Section, Input}
-use Rattle.clof_tool.specs.declared.status.Status.{Status}
-use Rattle.clof_tool.specs.declared.status.Status.TheVariants as statuses
+use Rattle.command_texts.specs.declared.status.Fault.TheVariants.{Set as SetOf, Input}
+use Rattle.command_texts.specs.declared.status.Status.{Status}
+use Rattle.command_texts.specs.declared.status.Status.TheVariants as statuses
 use Rattle.command_words.specs.Asked.{Asked, Run, Set, Topo, Calc, Distrib}
 use Rattle.cpu_set.specs.declared.fault.SetFault.{SetFault}
-use Rattle.clof_tool.specs.Run.{input_limit, Prints, IsNotYet}
-use Rattle.clof_tool.specs.SetText.{PrintsSet, IsRefused}
-use Rattle.clof_tool.specs.CalcText.{PrintsCalc, CalcRefuses}
-use Rattle.clof_tool.specs.DistribText.{PrintsDistrib, DistribRefuses}
-use Rattle.clof_tool.specs.TopoText.{PrintsTopo, TopoRefuses}
+use Rattle.clof_tool.specs.Run.{input_limit, PrintsSections, RefusesSections, Refuses, OnDescribed}
+use Rattle.command_texts.specs.SetText.{PrintsSet, IsRefused}
+use Rattle.command_texts.specs.CalcText.{PrintsCalc, CalcRefuses}
+use Rattle.command_texts.specs.DistribText.{PrintsDistrib, DistribRefuses}
+use Rattle.synth_text.specs.declared.description.Description.{Description}
+use Rattle.command_texts.specs.TopoText.{PrintsTopo, TopoRefuses}
 
 -- what is asked for depends on the input
 abbrev pub ReadsInput : Asked → Type 0
-ReadsInput Run = Unit {0}
+ReadsInput (Run text) = Unit {0}
 ReadsInput (Set list text) = ⊥
 ReadsInput (Topo export text) = ⊥
 ReadsInput (Calc asked) = ⊥
@@ -24,7 +24,7 @@ ReadsInput (Distrib asked) = ⊥
 
 -- the input of what is asked for: all that the source had left, or any text where it doesn't depend on one
 abbrev pub IsInput : Asked → Option (List ℕ) → List ℕ → Type 0
-IsInput Run left input = left ≡ Some input
+IsInput (Run text) left input = left ≡ Some input
 IsInput (Set list text) left input = Unit {0}
 IsInput (Topo export text) left input = Unit {0}
 IsInput (Calc asked) left input = Unit {0}
@@ -38,7 +38,7 @@ pub record WasRead (left : Option (List ℕ)) (given given_now : ℕ) (input : L
 
 -- the input that was read for what is asked for, or any text where it doesn't depend on one
 abbrev pub HasRead : Asked → Option (List ℕ) → ℕ → ℕ → List ℕ → Type 0
-HasRead Run left given given_now input = WasRead left given given_now input
+HasRead (Run text) left given given_now input = WasRead left given given_now input
 HasRead (Set list text) left given given_now input = Unit {0}
 HasRead (Topo export text) left given given_now input = Unit {0}
 HasRead (Calc asked) left given given_now input = Unit {0}
@@ -46,7 +46,8 @@ HasRead (Distrib asked) left given given_now input = Unit {0}
 
 -- the text that is printed
 abbrev pub IsAnswer : Asked → List ℕ → List ℕ → Type 0
-IsAnswer Run input printed = (length input ≤ input_limit) × Prints input printed
+IsAnswer (Run text) input printed =
+    (length input ≤ input_limit) × OnDescribed text (λ described. PrintsSections described input printed)
 IsAnswer (Set list text) input printed = PrintsSet list text printed
 IsAnswer (Topo export text) input printed = PrintsTopo export text printed
 IsAnswer (Calc asked) input printed = PrintsCalc asked printed
@@ -64,25 +65,15 @@ SetRefuses list text statuses.OutOfMemory = ⊥
 
 -- the status with which what is asked for is refused by its words, whatever the input is
 abbrev pub WordsRefused : Asked → Status → Type 0
-WordsRefused Run status = ⊥
+WordsRefused (Run text) status = TopoRefuses text status
 WordsRefused (Set list text) status = SetRefuses list text status
 WordsRefused (Topo export text) status = TopoRefuses text status
 WordsRefused (Calc asked) status = CalcRefuses asked status
 WordsRefused (Distrib asked) status = DistribRefuses asked status
 
--- why `run` refuses an input: it is too long, or it is no section that can be served yet
-abbrev pub RunRefuses : List ℕ → Status → Type 0
-RunRefuses input statuses.Ok = ⊥
-RunRefuses input statuses.Usage = ⊥
-RunRefuses input (statuses.Malformed fault) = (fault ≡ Section NotYet) × (length input ≤ input_limit) × IsNotYet input
-RunRefuses input (statuses.Limit fault) = (fault ≡ Input) × (input_limit < length input)
-RunRefuses input statuses.ReadFault = ⊥
-RunRefuses input (statuses.WriteFault written) = ⊥
-RunRefuses input statuses.OutOfMemory = ⊥
-
 -- the status with which what is asked for is refused by its input
 abbrev pub InputRefused : Asked → List ℕ → Status → Type 0
-InputRefused Run input status = RunRefuses input status
+InputRefused (Run text) input status = OnDescribed text (λ described. Refuses described input status)
 InputRefused (Set list text) input status = ⊥
 InputRefused (Topo export text) input status = ⊥
 InputRefused (Calc asked) input status = ⊥
@@ -93,20 +84,15 @@ pub record WasTooLong (left : Option (List ℕ)) (given given_now : ℕ) : Type 
   pub longer : IfSome left (λ all. input_limit < length all)
   pub size : RisesBy (input_limit + 1) given given_now
 
--- what was read tells that `run` refuses it with this status
-abbrev pub RunFound : Option (List ℕ) → ℕ → ℕ → Status → Type 0
-RunFound left given given_now statuses.Ok = ⊥
-RunFound left given given_now statuses.Usage = ⊥
-RunFound left given given_now (statuses.Malformed fault) = (input : List ℕ) × WasRead left given given_now input
-    × RunRefuses input (statuses.Malformed fault)
-RunFound left given given_now (statuses.Limit fault) = (fault ≡ Input) × WasTooLong left given given_now
-RunFound left given given_now statuses.ReadFault = ⊥
-RunFound left given given_now (statuses.WriteFault written) = ⊥
-RunFound left given given_now statuses.OutOfMemory = ⊥
+-- what was read tells that `run` refuses it with this status: too much of it, or an input whose sections break a rule
+abbrev pub Found : Option (List ℕ) → ℕ → ℕ → Status → Description → Type 0
+Found left given given_now status described =
+    ((status ≡ statuses.Limit Input) × WasTooLong left given given_now)
+    ⊎ ((input : List ℕ) × WasRead left given given_now input × (length input ≤ input_limit) × RefusesSections described input status)
 
 -- what was read tells that what is asked for is refused with this status
 abbrev pub WasFound : Asked → Option (List ℕ) → ℕ → ℕ → Status → Type 0
-WasFound Run left given given_now status = RunFound left given given_now status
+WasFound (Run text) left given given_now status = OnDescribed text (Found left given given_now status)
 WasFound (Set list text) left given given_now status = ⊥
 WasFound (Topo export text) left given given_now status = ⊥
 WasFound (Calc asked) left given given_now status = ⊥
@@ -115,33 +101,3 @@ WasFound (Distrib asked) left given given_now status = ⊥
 -- the cause of a refusal: the words, or what was read
 abbrev pub HasCause : Asked → Option (List ℕ) → ℕ → ℕ → Status → Type 0
 HasCause asked left given given_now status = WordsRefused asked status ⊎ WasFound asked left given given_now status
-
--- the status is a refusal: something is malformed or over its limit
-abbrev pub IsRefusal : Status → Type 0
-IsRefusal statuses.Ok = ⊥
-IsRefusal statuses.Usage = ⊥
-IsRefusal (statuses.Malformed fault) = Unit {0}
-IsRefusal (statuses.Limit fault) = Unit {0}
-IsRefusal statuses.ReadFault = ⊥
-IsRefusal (statuses.WriteFault written) = ⊥
-IsRefusal statuses.OutOfMemory = ⊥
-
--- the statuses with which a command ends before it reads or writes: something is refused, or memory ran out
-abbrev pub EndsEarly : Status → Type 0
-EndsEarly statuses.Ok = ⊥
-EndsEarly statuses.Usage = ⊥
-EndsEarly (statuses.Malformed fault) = Unit {0}
-EndsEarly (statuses.Limit fault) = Unit {0}
-EndsEarly statuses.ReadFault = ⊥
-EndsEarly (statuses.WriteFault written) = ⊥
-EndsEarly statuses.OutOfMemory = Unit {0}
-
--- the statuses after which something may have been written
-abbrev pub HasWritten : Status → Type 0
-HasWritten statuses.Ok = Unit {0}
-HasWritten statuses.Usage = ⊥
-HasWritten (statuses.Malformed fault) = ⊥
-HasWritten (statuses.Limit fault) = ⊥
-HasWritten statuses.ReadFault = ⊥
-HasWritten (statuses.WriteFault written) = Unit {0}
-HasWritten statuses.OutOfMemory = ⊥

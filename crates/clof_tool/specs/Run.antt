@@ -1,29 +1,52 @@
 -- What `run` prints.
-use Rattle.std.specs.Prelude.{◌≡◌, ◌≢◌, ℕ, List, [], ◌⊎◌}
-use Rattle.placed_runner.specs.Input.{IsServed}
-use Rattle.mc_text.specs.Request.{WholeCommand}
-use Rattle.mc_text.specs.Section.{Spelled}
-use Rattle.placed_runner.specs.Text.{section_text}
+use Rattle.std.specs.Prelude.{◌≡◌, ◌<◌, ◌≤◌, ◌⊎◌, ℕ, List, length, map}
+use Rattle.synth_text.specs.declared.description.Description.{Description}
+use Rattle.placed_runner.specs.declared.fault.SectionFault.{SectionFault}
+use Rattle.placed_runner.specs.declared.fault.SectionFault.TheVariants as section
+use Rattle.placed_runner.specs.Sections.{Placed, Sections, IsRefused}
+use Rattle.placed_runner.specs.Running.{calls_in_order}
+use Rattle.placed_runner.specs.Text.{run_text, one_lock, holds_of}
+use Rattle.command_texts.specs.declared.status.Fault.TheVariants.{Section, Input}
+use Rattle.command_texts.specs.declared.status.Status.{Status}
+use Rattle.command_texts.specs.declared.status.Status.TheVariants as statuses
+use Rattle.command_texts.specs.TopoText.{IsBuilt}
 
 -- the greatest length of an input
 abbrev pub input_limit : ℕ
 input_limit = 16777216
 
--- the input is one section that can be served, spelled by some commands and a rest, and the text is that of these, with
--- the replies of the replay on the empty store; its caller stands on PU 0
-pub record IsTextOfSection (input text : List ℕ) : Type 0 where
-  pub bytes : List ℕ
-  pub commands : List WholeCommand
-  pub rest : List ℕ
-  pub served : IsServed input bytes
-  pub spelled : Spelled bytes commands rest
-  pub printed : text ≡ section_text 0 commands rest
+-- the text of a run that serves its sections one after another under one lock
+abbrev pub text_in_order : List Placed → List ℕ
+text_in_order sections = run_text sections (one_lock (length sections)) (holds_of (map (λ call. call.caller) (calls_in_order sections)))
 
--- what `run` prints for an input: nothing for the empty one, and else the text of its section
-abbrev pub Prints : List ℕ → List ℕ → Type 0
-Prints input text = ((input ≡ []) × (text ≡ [])) ⊎ IsTextOfSection input text
+-- the status of a fault of the sections: one of them is a limit
+abbrev pub section_status : SectionFault → Status
+section_status (section.BadHead at) = statuses.Malformed (Section (section.BadHead at))
+section_status (section.BadPlace at) = statuses.Malformed (Section (section.BadPlace at))
+section_status (section.Short at) = statuses.Malformed (Section (section.Short at))
+section_status section.TooManyCallers = statuses.Limit (Section section.TooManyCallers)
+section_status section.OutOfMemory = statuses.OutOfMemory
 
--- an input that isn't empty and isn't one section that can be served
-pub record IsNotYet (input : List ℕ) : Type 0 where
-  pub some : input ≢ []
-  pub none_served : (bytes : List ℕ) → IsServed input bytes → ⊥
+-- the input is some sections on a topology, and what is printed is the text of these
+pub record PrintsSections (described : Description) (input printed : List ℕ) : Type 0 where
+  pub sections : List Placed
+  pub are : Sections described input sections
+  pub printed_is : printed ≡ text_in_order sections
+
+-- the input is refused as sections on a topology
+pub record RefusesSections (described : Description) (input : List ℕ) (status : Status) : Type 0 where
+  pub fault : SectionFault
+  pub refused : IsRefused described input fault
+  pub status_is : status ≡ section_status fault
+
+-- on a topology an input is refused: it is too long, or its sections break a rule
+abbrev pub Refuses : Description → List ℕ → Status → Type 0
+Refuses described input status =
+    ((input_limit < length input) × (status ≡ statuses.Limit Input))
+    ⊎ ((length input ≤ input_limit) × RefusesSections described input status)
+
+-- a text describes a topology of which this holds
+pub record OnDescribed (text : List ℕ) (P : Description → Type 0) : Type 0 where
+  pub described : Description
+  pub built : IsBuilt text described
+  pub holds : P described

@@ -3,22 +3,23 @@ ghost use Rattle.std.specs.Prelude.{◌≡◌, ◌≢◌, ◌≤◌, ◌⊎◌, 
 ghost use Rattle.edge_io.specs.Counts.{Rose};
 ghost use Rattle.edge_io.specs.Contents.{IsDrained};
 ghost use Rattle.edge_io.specs.Reading.{HasGiven};
-ghost use Rattle.clof_tool.specs.declared.status.Status.{Status as AnyStatus};
-ghost use Rattle.clof_tool.specs.declared.status.Fault.TheVariants.{Input as InputOf};
+ghost use Rattle.command_texts.specs.declared.status.Status.{Status as AnyStatus};
+ghost use Rattle.command_texts.specs.declared.status.Fault.TheVariants.{Input as InputOf};
 ghost use Rattle.command_words.specs.Plain.{plain};
-ghost use Rattle.clof_tool.specs.Run.{input_limit};
+ghost use Rattle.clof_tool.specs.Run.{input_limit, PrintsSections, Refuses, OnDescribed};
+ghost use Rattle.command_texts.specs.TopoText.{TopoRefuses};
 ghost use Rattle.clof_tool.specs.Outcome.{ReadsInput, IsInput, WasRead, WasTooLong, HasRead, IsAnswer, WordsRefused, InputRefused};
-ghost use Rattle.clof_tool.specs.Outcome.{HasCause, IsRefusal, HasWritten};
+ghost use Rattle.command_texts.specs.Ends.{IsRefusal, HasWritten};
+ghost use Rattle.clof_tool.specs.Outcome.{HasCause, Found};
 
-use crate::calculation::calc_text;
-use crate::distrib_text::distrib_text;
 use crate::running::run_text;
-use crate::set_text::set_text;
-use crate::topo_text::topo_text;
 use crate::{Fault, Status};
+use command_texts::topology::topology;
+use command_texts::{calc_text, distrib_text, set_text, topo_text};
 use command_words::Asked;
 use edge_io::{ReadAllFault, Source, read_all};
 use std::alloc::Global;
+use topo_tree::Topology;
 
 // The greatest length of an input.
 const INPUT_LIMIT: usize = 16_777_216;
@@ -43,6 +44,7 @@ pub(crate) fn answer<S: Source>(
     ensures read_in_part { result ≡ Err Status.ReadFault →
         HasGiven input_limit (S.left source.old) (S.left source.new) (S.given source.old) (S.given source.new) }
     ensures read_calm { result ≢ Err Status.ReadFault → S.faults source.new ≡ S.faults source.old }
+    ensures words_unread { (status : AnyStatus) → WordsRefused (plain asked.entry) status → source.new ≡ source.old }
     ensures words_refused { (status : AnyStatus) → WordsRefused (plain asked.entry) status →
         (result ≡ Err status) ⊎ (result ≡ Err Status.OutOfMemory) }
     ensures input_refused { (input : List ℕ) (status : AnyStatus) →
@@ -54,11 +56,68 @@ pub(crate) fn answer<S: Source>(
         IsOk result ⊎ (result ≡ Err Status.OutOfMemory) }
 {
     match asked {
-        Asked::Run => run_text(alloc, &read_input(alloc, source)?),
+        Asked::Run { description } => run_on(alloc, description, source),
         Asked::Set { list, text } => set_text(alloc, list, text),
         Asked::Topo { export, text } => topo_text(alloc, export, text),
         Asked::Calc(asked) => calc_text(alloc, &asked),
         Asked::Distrib(asked) => distrib_text(alloc, &asked),
+    }
+}
+
+// The text of a run on the topology that a text describes, of all that the source has left.
+fn run_on<S: Source>(alloc: Global, text: &[u8], source: &mut S) -> Result<Vec<u8>, Status>
+    ensures answer { IfOk result (λ printed. (input : List ℕ)
+        × WasRead (S.left source.old) (S.given source.old) (S.given source.new) input
+        × (length input ≤ input_limit) × OnDescribed text.now (λ described. PrintsSections described input printed.items)) }
+    ensures at_end { OnOk result (IsDrained (S.left source.old) (S.left source.new)) }
+    ensures cause { IfErr result (λ status. IsRefusal status → TopoRefuses text.now status
+        ⊎ OnDescribed text.now (Found (S.left source.old) (S.given source.old) (S.given source.new) status)) }
+    ensures silent { IfErr result (λ status. HasWritten status → ⊥) }
+    ensures not_usage { result ≢ Err Status.Usage }
+    ensures read_fault { result ≡ Err Status.ReadFault → Rose (S.faults source.old) (S.faults source.new) }
+    ensures read_in_part { result ≡ Err Status.ReadFault →
+        HasGiven input_limit (S.left source.old) (S.left source.new) (S.given source.old) (S.given source.new) }
+    ensures read_calm { result ≢ Err Status.ReadFault → S.faults source.new ≡ S.faults source.old }
+    ensures words_unread { (status : AnyStatus) → TopoRefuses text.now status → source.new ≡ source.old }
+    ensures words_refused { (status : AnyStatus) → TopoRefuses text.now status → (result ≡ Err status) ⊎ (result ≡ Err Status.OutOfMemory) }
+    ensures input_refused { (input : List ℕ) (status : AnyStatus) →
+        S.left source.old ≡ Some input → OnDescribed text.now (λ described. Refuses described input status) →
+        (Rose (S.faults source.old) (S.faults source.new) → ⊥) → (result ≡ Err status) ⊎ (result ≡ Err Status.OutOfMemory) }
+    ensures complete { (input printed : List ℕ) →
+        S.left source.old ≡ Some input → length input ≤ input_limit →
+        OnDescribed text.now (λ described. PrintsSections described input printed) →
+        (Rose (S.faults source.old) (S.faults source.new) → ⊥) → IsOk result ⊎ (result ≡ Err Status.OutOfMemory) }
+{
+    match topology(alloc, text) {
+        Ok(topology) => served(alloc, &topology, source),
+        Err(status) => Err(status),
+    }
+}
+
+// The text of a run on a topology, of all that the source has left.
+fn served<S: Source>(alloc: Global, topology: &Topology, source: &mut S) -> Result<Vec<u8>, Status>
+    ensures answer { IfOk result (λ printed. (input : List ℕ)
+        × WasRead (S.left source.old) (S.given source.old) (S.given source.new) input
+        × (length input ≤ input_limit) × PrintsSections topology.now input printed.items) }
+    ensures at_end { OnOk result (IsDrained (S.left source.old) (S.left source.new)) }
+    ensures cause { IfErr result (λ status. IsRefusal status →
+        Found (S.left source.old) (S.given source.old) (S.given source.new) status topology.now) }
+    ensures silent { IfErr result (λ status. HasWritten status → ⊥) }
+    ensures not_usage { result ≢ Err Status.Usage }
+    ensures read_fault { result ≡ Err Status.ReadFault → Rose (S.faults source.old) (S.faults source.new) }
+    ensures read_in_part { result ≡ Err Status.ReadFault →
+        HasGiven input_limit (S.left source.old) (S.left source.new) (S.given source.old) (S.given source.new) }
+    ensures read_calm { result ≢ Err Status.ReadFault → S.faults source.new ≡ S.faults source.old }
+    ensures input_refused { (input : List ℕ) (status : AnyStatus) →
+        S.left source.old ≡ Some input → Refuses topology.now input status →
+        (Rose (S.faults source.old) (S.faults source.new) → ⊥) → (result ≡ Err status) ⊎ (result ≡ Err Status.OutOfMemory) }
+    ensures complete { (input printed : List ℕ) →
+        S.left source.old ≡ Some input → length input ≤ input_limit → PrintsSections topology.now input printed →
+        (Rose (S.faults source.old) (S.faults source.new) → ⊥) → IsOk result ⊎ (result ≡ Err Status.OutOfMemory) }
+{
+    match read_input(alloc, source) {
+        Ok(input) => run_text(alloc, topology, &input),
+        Err(status) => Err(status),
     }
 }
 

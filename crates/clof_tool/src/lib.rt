@@ -2,21 +2,13 @@
 #![tactic(auto)]
 
 mod answer;
-mod calculation;
-mod chosen;
-mod distrib_text;
-mod line;
 mod process;
 mod report;
 mod running;
-mod set_text;
-mod status;
 mod top_call;
-mod topo_text;
-mod topology;
 
+pub use command_texts::{Fault, OptionName, Status};
 pub use process::Process;
-pub use status::{Fault, OptionName, Status};
 pub use top_call::top;
 
 #[cfg(test)]

@@ -2,9 +2,9 @@
 ghost use Rattle.std.specs.Prelude.{◌≡◌, ◌≢◌, ◌⊎◌, IfErr, IfOk};
 ghost use Rattle.std.specs.IoError.{error_kind};
 ghost use Rattle.std.specs.Process.{exit_status};
-ghost use Rattle.clof_tool.specs.declared.status.Status.{Status as AnyStatus};
+ghost use Rattle.command_texts.specs.declared.status.Status.{Status as AnyStatus};
 ghost use Rattle.clof_tool.specs.Process.{words_of_process, IsUnused};
-ghost use Rattle.clof_tool.specs.Status.{code_of};
+ghost use Rattle.command_texts.specs.Status.{code_of};
 ghost use Rattle.command_words.specs.Words.{IsTabled, IsUsage};
 
 use crate::report::report;

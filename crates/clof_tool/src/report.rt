@@ -2,10 +2,10 @@
 ghost use Rattle.std.specs.Prelude.{◌≡◌, ◌≢◌, ℕ, take};
 ghost use Rattle.edge_io.specs.Counts.{Rose};
 ghost use Rattle.edge_io.specs.Contents.{Gains};
-ghost use Rattle.clof_tool.specs.Line.{line_of};
+ghost use Rattle.command_texts.specs.Line.{line_of};
 
 use crate::Status;
-use crate::line::line;
+use command_texts::line;
 use edge_io::{Sink, write_all};
 
 /// Writes the line that tells of a status, all of it at once, and nothing where the status is Ok. A failure to write it

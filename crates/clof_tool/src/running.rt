@@ -1,40 +1,70 @@
 // What `run` prints.
-ghost use Rattle.std.specs.Prelude.{◌≡◌, ◌⊎◌, ◌≤◌, length, IfOk, IfErr};
-ghost use Rattle.placed_runner.specs.declared.fault.SectionFault.TheVariants.{NotYet};
-ghost use Rattle.mc_text.specs.Reading.{commands_of, rest_of};
-ghost use Rattle.placed_runner.specs.Text.{section_text};
-ghost use Rattle.clof_tool.specs.declared.status.Fault.TheVariants.{Section as SectionOf};
-ghost use Rattle.clof_tool.specs.Run.{input_limit, Prints, IsNotYet};
+ghost use Rattle.std.specs.Prelude.{◌≡◌, ◌⊎◌, ◌≤◌, ℕ, List, length, map, IfOk, IfErr, IsOk, sum_by};
+ghost use Rattle.command_texts.specs.declared.status.Status.{Status as AnyStatus};
+ghost use Rattle.placed_runner.specs.Sections.{caller_limit};
+ghost use Rattle.placed_runner.specs.Views.{section_view};
+ghost use Rattle.clof_tool.specs.Run.{input_limit, section_status, text_in_order, PrintsSections, RefusesSections};
+ghost use Rattle.command_texts.specs.Ends.{EndsEarly};
 
 use crate::{Fault, Status};
 use kv_history::Journal;
-use placed_runner::{Section, read_first, run_in_order, text};
-use std::alloc::Global;
+use out_of_memory::OutOfMemory;
+use placed_runner::{Section, SectionFault, read_sections, run_in_order, text};
+use std::alloc::{AllocError, Global};
+use topo_tree::Topology;
 
-/// The text that `run` prints for an input, or the status with which it is refused.
-pub(crate) fn run_text(alloc: Global, input: &[u8]) -> Result<Vec<u8>, Status>
+/// The text that `run` prints for an input on a topology, or the status with which its sections are refused.
+pub(crate) fn run_text(alloc: Global, topology: &Topology, input: &[u8]) -> Result<Vec<u8>, Status>
     requires { length input.now ≤ input_limit }
-    ensures ok { IfOk result (λ text. Prints input.now text.items) }
-    ensures err { IfErr result (λ status.
-        (status ≡ Status.OutOfMemory) ⊎ ((status ≡ Status.Malformed (SectionOf NotYet)) × IsNotYet input.now)) }
+    ensures ok { IfOk result (λ printed. PrintsSections topology.now input.now printed.items) }
+    ensures err { IfErr result (λ status. (status ≡ Status.OutOfMemory) ⊎ RefusesSections topology.now input.now status) }
+    ensures early { IfErr result EndsEarly }
+    ensures refused { (status : AnyStatus) → RefusesSections topology.now input.now status →
+        (result ≡ Err status) ⊎ (result ≡ Err Status.OutOfMemory) }
+    ensures complete { (printed : List ℕ) → PrintsSections topology.now input.now printed → IsOk result ⊎ (result ≡ Err Status.OutOfMemory) }
 {
-    match read_first(input) {
-        Ok(Some(section)) => section_text(alloc, &section),
-        Ok(None) => Ok(Vec::new(alloc)),
-        Err(fault) => Err(Status::Malformed(Fault::Section(fault))),
+    match read_sections(alloc, topology, input) {
+        Ok(sections) => match text_in_order(alloc, &sections) {
+            Ok(printed) => Ok(printed),
+            Err(OutOfMemory) => Err(Status::OutOfMemory),
+        },
+        Err(fault) => Err(section_status(fault)),
     }
 }
 
-// The text of the run of a section.
-fn section_text(alloc: Global, section: &Section<'_>) -> Result<Vec<u8>, Status>
-    requires { length section.now.bytes.now ≤ input_limit }
-    ensures ok { IfOk result (λ text.
-        text.items ≡ section_text section.now.pu (commands_of section.now.bytes.now) (rest_of section.now.bytes.now)) }
-    ensures err { IfErr result (λ status. status ≡ Status.OutOfMemory) }
+// The status of a fault of the sections: one of them is a limit.
+fn section_status(fault: SectionFault) -> Status
+    ensures status { result ≡ section_status fault }
+    ensures early { EndsEarly result }
 {
-    let mut journal = Journal::reserve(alloc, &[section.bytes]).map_err(|_| Status::OutOfMemory)?;
-    if run_in_order(section, &mut journal) {
-        return Err(Status::OutOfMemory);
+    match fault {
+        SectionFault::TooManyCallers => Status::Limit(Fault::Section(fault)),
+        SectionFault::OutOfMemory => Status::OutOfMemory,
+        _ => Status::Malformed(Fault::Section(fault)),
     }
-    text(alloc, section, &journal).map_err(|_| Status::OutOfMemory)
+}
+
+// The text of a run of sections, one after another.
+fn text_in_order(alloc: Global, sections: &[Section<'_>]) -> Result<Vec<u8>, OutOfMemory>
+    requires few { length sections.now ≤ caller_limit }
+    requires small { sum_by (λ section. length section.bytes.now) sections.now ≤ input_limit }
+    ensures { IfOk result (λ printed. printed.items ≡ text_in_order (map section_view sections.now)) }
+{
+    let bytes = bytes_of(alloc, sections)?;
+    let mut journal = Journal::reserve(alloc, &bytes)?;
+    if run_in_order(sections, &mut journal) {
+        return Err(OutOfMemory);
+    }
+    text(alloc, sections, &journal)
+}
+
+// The bytes of sections.
+fn bytes_of<'a>(alloc: Global, sections: &[Section<'a>]) -> Result<Vec<&'a [u8]>, AllocError>
+    ensures { IfOk result (λ bytes. map (λ one. one.now) bytes.items ≡ map (λ section. section.bytes.now) sections.now) }
+{
+    let mut bytes = Vec::with_capacity(alloc, sections.len())?;
+    for section in sections {
+        bytes.push(section.bytes)?;
+    }
+    Ok(bytes)
 }

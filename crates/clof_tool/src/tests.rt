@@ -1,10 +1,6 @@
 // The top call over sources and sinks in memory.
-mod calc;
-mod distrib;
-
 use crate::report::report;
-use crate::{Fault, Status, top};
-use cpu_set::SetFault;
+use crate::{Fault, OptionName, Status, top};
 use edge_io::{Failed, MemSink, MemSource, Source, SureSink, SureSource};
 use placed_runner::SectionFault;
 use std::alloc::Global;
@@ -13,7 +9,6 @@ use std::sync::Wait;
 use std::test::Fail;
 use std::thread::Threads;
 use synth_text::SynthFault;
-use topo_tree::BuildFault;
 
 // How a call ended, what it wrote to the output, and what to standard error.
 #[derive(Drop)]
@@ -60,8 +55,6 @@ fn ends<R: Threads + Wait + Sync + Abort>(
     Ok(())
 }
 
-const NOT_YET: Status = Status::Malformed(Fault::Section(SectionFault::NotYet));
-
 #[test]
 fn serves_one_section(rt: HostRuntime) -> Result<(), Fail> {
     let cases: [(&[u8], &[u8]); 4] = [
@@ -82,81 +75,108 @@ fn serves_one_section(rt: HostRuntime) -> Result<(), Fail> {
 }
 
 #[test]
-fn refuses_inputs_that_are_not_one_section(rt: HostRuntime) -> Result<(), Fail> {
-    let good = b"worker * 7\nget a\r\n\n";
-    assert_eq!(rt;
-        call(&rt, rt.alloc(), &["run"], good.to_vec(rt.alloc())?)?.status,
-        Status::Ok
-    );
-    let cases: [&[u8]; 11] = [
-        b"worker pu:0 7\nget a\r\n\n",
-        b"worker * 7\nget a\r\n\nworker * 0\n\n",
-        b"worker * 8\nget a\r\n\n",
-        b"worker * 7\nget a\r\n",
-        b"worker * 7\nget a\r\n\nx",
-        b"worker *  7\nget a\r\n\n",
-        b"worker * 00000000007\nget a\r\n\n",
-        b"worker * \nget a\r\n\n",
-        b"walker * 7\nget a\r\n\n",
-        b"worker * 0",
-        b"\n",
+fn refuses_the_first_broken_rule_of_the_sections(rt: HostRuntime) -> Result<(), Fail> {
+    use SectionFault::{BadHead, BadPlace, Short};
+    let cases: [(&str, &[u8], SectionFault, &[u8]); 6] = [
+        (
+            "PU:1",
+            b"worker * 9\nget a\r\n\n",
+            Short { at: 0 },
+            b"clof: section Short 0\n",
+        ),
+        (
+            "Core:1 PU:2",
+            b"worker core:0 0\n\n",
+            BadPlace { at: 0 },
+            b"clof: section BadPlace 0\n",
+        ),
+        (
+            "PU:1",
+            b"walker * 0\n\n",
+            BadHead { at: 0 },
+            b"clof: section BadHead 0\n",
+        ),
+        (
+            "PU:1",
+            b"worker * 7\nget a\r\n\nx",
+            BadHead { at: 19 },
+            b"clof: section BadHead 19\n",
+        ),
+        (
+            "PU:1",
+            b"worker * 7\nget a\r\n\nworker pu:1 9\n",
+            BadPlace { at: 19 },
+            b"clof: section BadPlace 19\n",
+        ),
+        (
+            "PU:1",
+            b"\n",
+            BadHead { at: 0 },
+            b"clof: section BadHead 0\n",
+        ),
     ];
-    for input in cases {
-        ends(
-            &rt,
-            rt.alloc(),
-            input,
-            NOT_YET,
-            b"",
-            b"clof: section NotYet\n",
-        )?;
+    for (description, input, fault, line) in cases {
+        let alloc = rt.alloc();
+        let ended = call(&rt, alloc, &["run", description], input.to_vec(alloc)?)?;
+        assert_eq!(rt; ended.status, Status::Malformed(Fault::Section(fault)));
+        assert_eq!(rt; ended.out.len(), 0);
+        assert_eq!(rt; ended.err.as_slice(), line);
     }
     Ok(())
 }
 
-// Pairs of sections that differ in what is refused alone, the first of them served; each has the head of its length.
 #[test]
-fn refuses_commands_that_are_not_built(rt: HostRuntime) -> Result<(), Fail> {
-    let cases: [(&[u8], &[u8]); 10] = [
-        (b"get a\r\n", b"gets a\r\n"),
-        (b"get a\r\n", b"delete a\r\n"),
-        (b"get ab\n", b"get a\tb\n"),
-        (b"set ab 0 0 1\r\nx\r\n", b"set a\tb 0 0 1\r\nx\r\n"),
-        (b"set a 0 0 2\r\nxy\r\n", b"set a 0 0 1\r\nxy\r\n"),
-        (
-            b"set a 0 2147483647 1\r\nx\r\n",
-            b"set a 0 2147483648 1\r\nx\r\n",
-        ),
-        (
-            b"set a 0 -2147483648 1\r\nx\r\n",
-            b"set a 0 -2147483649 1\r\nx\r\n",
-        ),
-        (
-            b"set a 4294967295 0 1\r\nx\r\n",
-            b"set a 4294967296 0 1\r\nx\r\n",
-        ),
-        (
-            b"set a 0 0 4294967295\r\nx\r\n",
-            b"set a 0 0 4294967296\r\nx\r\n",
-        ),
-        (b"set a 0 0 1 noreply\r\nx\r\n", b"set a 0 0 1 no\r\nx\r\n"),
-    ];
-    for (served, refused) in cases {
-        let mut input = Vec::new(rt.alloc());
-        push_input(&mut input, served)?;
-        assert_eq!(rt; call(&rt, rt.alloc(), &["run"], input)?.status, Status::Ok);
-        let mut input = Vec::new(rt.alloc());
-        push_input(&mut input, refused)?;
-        ends(
-            &rt,
-            rt.alloc(),
-            &input,
-            NOT_YET,
-            b"",
-            b"clof: section NotYet\n",
-        )?;
+fn limits_the_sections(rt: HostRuntime) -> Result<(), Fail> {
+    let mut input = Vec::new(rt.alloc());
+    for _ in 0..257 {
+        input.extend_from_slice(b"worker * 0\n\n")?;
     }
+    let status = Status::Limit(Fault::Section(SectionFault::TooManyCallers));
+    ends(
+        &rt,
+        rt.alloc(),
+        &input,
+        status,
+        b"",
+        b"clof: section TooManyCallers\n",
+    )
+}
+
+#[test]
+fn serves_sections_one_after_another(rt: HostRuntime) -> Result<(), Fail> {
+    let alloc = rt.alloc();
+    let input = b"worker * 16\nset a 5 0 1\r\nx\r\n\nworker pu:1 7\nget a\r\n\n";
+    let ended = call(&rt, alloc, &["run", "Core:2 PU:2"], input.to_vec(alloc)?)?;
+    let text =
+        b"turn 0 caller 0 pu 0 climb 0 tests 0 left 0 \"set a 5 0 1\\r\\nx\\r\\n\" \"STORED\\r\\n\"\n\
+          turn 1 caller 1 pu 1 climb 0 tests 0 left 0 \"get a\\r\\n\" \"VALUE a 5 1\\r\\nx\\r\\nEND\\r\\n\"\n\
+          caller 0 pu 0 commands 1 rest 0\n\
+          caller 1 pu 1 commands 1 rest 0\n";
+    assert_eq!(rt; ended.status, Status::Ok);
+    assert_eq!(rt; ended.out.as_slice(), text.as_slice());
+    let ended = call(&rt, alloc, &["run", "PU:0"], input.to_vec(alloc)?)?;
+    assert_eq!(rt; ended.status.code(), 3);
+    assert_eq!(rt;
+        ended.err.as_slice(),
+        b"clof: synth BadArity 0\n".as_slice()
+    );
     Ok(())
+}
+
+#[test]
+fn serves_each_kind_of_answer(rt: HostRuntime) -> Result<(), Fail> {
+    let input = b"worker * 124\nset n 0 0 20\r\n18446744073709551615\r\nincr n 1\r\ndecr n 5\r\n\
+                  cas n 0 0 1 1\r\n7\r\ncas n 0 0 1 3\r\n7\r\ngets n\r\nset n 0 0 1 noreply\r\n8\r\n\n";
+    let text =
+        b"turn 0 caller 0 pu 0 climb 0 tests 0 left 0 \"set n 0 0 20\\r\\n18446744073709551615\\r\\n\" \"STORED\\r\\n\"\n\
+          turn 1 caller 0 pu 0 climb 0 tests 0 left 0 \"incr n 1\\r\\n\" \"0\\r\\n\"\n\
+          turn 2 caller 0 pu 0 climb 0 tests 0 left 0 \"decr n 5\\r\\n\" \"0\\r\\n\"\n\
+          turn 3 caller 0 pu 0 climb 0 tests 0 left 0 \"cas n 0 0 1 1\\r\\n7\\r\\n\" \"EXISTS\\r\\n\"\n\
+          turn 4 caller 0 pu 0 climb 0 tests 0 left 0 \"cas n 0 0 1 3\\r\\n7\\r\\n\" \"STORED\\r\\n\"\n\
+          turn 5 caller 0 pu 0 climb 0 tests 0 left 0 \"gets n\\r\\n\" \"VALUE n 0 1 4\\r\\n7\\r\\nEND\\r\\n\"\n\
+          turn 6 caller 0 pu 0 climb 0 tests 0 left 0 \"set n 0 0 1 noreply\\r\\n8\\r\\n\" \"\"\n\
+          caller 0 pu 0 commands 7 rest 0\n";
+    ends(&rt, rt.alloc(), input, Status::Ok, text, b"")
 }
 
 #[test]
@@ -168,7 +188,7 @@ fn refuses_other_words(rt: HostRuntime) -> Result<(), Fail> {
         &["topo", "-", "PU:1"],
         &[],
         &["frob"],
-        &["run", "PU:1"],
+        &["run", "--walk"],
         &["Run"],
         &[""],
         &["set"],
@@ -360,12 +380,24 @@ fn long_input(alloc: Global, length: usize) -> Result<Vec<u8>, Fail> {
 #[test]
 fn takes_values_and_keys_up_to_their_limits(rt: HostRuntime) -> Result<(), Fail> {
     let alloc = rt.alloc();
-    let cases = [
-        (250, 1_048_576, Status::Ok),
-        (251, 1_048_576, NOT_YET),
-        (250, 1_048_577, NOT_YET),
+    let cases: [(usize, usize, &[u8]); 3] = [
+        (
+            250,
+            1_048_576,
+            b"\" \"STORED\\r\\n\"\ncaller 0 pu 0 commands 1 rest 0\n",
+        ),
+        (
+            251,
+            1_048_576,
+            b"\" \"ERROR\\r\\n\"\ncaller 0 pu 0 commands 2 rest 0\n",
+        ),
+        (
+            250,
+            1_048_577,
+            b"\" \"SERVER_ERROR object too large for cache\\r\\n\"\ncaller 0 pu 0 commands 1 rest 0\n",
+        ),
     ];
-    for (key, value, status) in cases {
+    for (key, value, end) in cases {
         let mut section = Vec::new(alloc);
         section.extend_from_slice(b"set ")?;
         section.extend_from_slice(&filled(alloc, b'k', key)?)?;
@@ -377,14 +409,8 @@ fn takes_values_and_keys_up_to_their_limits(rt: HostRuntime) -> Result<(), Fail>
         let mut input = Vec::new(alloc);
         push_input(&mut input, &section)?;
         let ended = call(&rt, alloc, &["run"], input)?;
-        assert_eq!(rt; ended.status, status);
-        if ended.status == Status::Ok {
-            assert!(rt;
-                ended
-                    .out
-                    .ends_with(b"\" \"STORED\\r\\n\"\ncaller 0 pu 0 commands 1 rest 0\n")
-            );
-        }
+        assert_eq!(rt; ended.status, Status::Ok);
+        assert!(rt; ended.out.ends_with(end));
     }
     serves(&rt, alloc, b"set k 0 0 4294967295\r\nx\r\n", &[], 25)
 }
@@ -439,6 +465,40 @@ fn takes_an_input_up_to_its_limit(rt: HostRuntime) -> Result<(), Fail> {
     Ok(())
 }
 
+// Each command that reads no input, once: what it prints, and how it is refused.
+#[test]
+fn answers_without_an_input(rt: HostRuntime) -> Result<(), Fail> {
+    let tree = "Package:2 Core:2 PU:2";
+    let cases: [(&[&str], &str); 5] = [
+        (&["set", "--list", "5,0-2,1"], "0x00000027\n0-2,5\n0x27\n"),
+        (&["topo", "--export", "2 PU:3"], "Core:2 PU:3\n"),
+        (
+            &["calc", tree, "package:1.core:0-", "~pu:5"],
+            "0x000000d0\n",
+        ),
+        (&["calc", "-pIpu", "--sep=;", tree, "core:1"], "2;3\n"),
+        (
+            &["distrib", "3", tree],
+            "0x00000003\n0x0000000c\n0x000000f0\n",
+        ),
+    ];
+    for (words, out) in cases {
+        prints(&rt, rt.alloc(), words, Status::Ok, out, "")?;
+    }
+    let status = Status::Malformed(Fault::TypeOf(OptionName::Intersect));
+    let words = ["calc", "-I", "die", tree, "foo"];
+    prints(&rt, rt.alloc(), &words, status, "", "clof: type -I\n")?;
+    let status = Status::Limit(Fault::Synth(SynthFault::TooManyObjects));
+    prints(
+        &rt,
+        rt.alloc(),
+        &["topo", "PU:4097"],
+        status,
+        "",
+        "clof: synth TooManyObjects\n",
+    )
+}
+
 // Checks how the program ends on words that read no input.
 fn prints<R: Threads + Wait + Sync + Abort>(
     rt: &R,
@@ -452,65 +512,6 @@ fn prints<R: Threads + Wait + Sync + Abort>(
     assert_eq!(rt; ended.status, status);
     assert_eq!(rt; ended.out.as_slice(), out.as_bytes());
     assert_eq!(rt; ended.err.as_slice(), err.as_bytes());
-    Ok(())
-}
-
-#[test]
-fn prints_the_three_texts_of_a_set(rt: HostRuntime) -> Result<(), Fail> {
-    let cases: [(&[&str], &str); 8] = [
-        (&["set", "--", "0x1"], "0x00000001\n0\n0x1\n"),
-        (&["set", "4", "--list"], "0x00000010\n4\n0x10\n"),
-        (&["set", "--list", "--", ""], "0x0\n\n0x0\n"),
-        (&["set", "--list", ""], "0x0\n\n0x0\n"),
-        (&["set", "0x0"], "0x0\n\n0x0\n"),
-        (
-            &["set", "0x1,,0x0"],
-            "0x00000001,,0x0\n64\n0x10000000000000000\n",
-        ),
-        (&["set", "--list", "5,0-2,1"], "0x00000027\n0-2,5\n0x27\n"),
-        (&["set", "F0"], "0x000000f0\n4-7\n0xf0\n"),
-    ];
-    for (words, out) in cases {
-        prints(&rt, rt.alloc(), words, Status::Ok, out, "")?;
-    }
-    Ok(())
-}
-
-#[test]
-fn refuses_texts_that_are_no_sets(rt: HostRuntime) -> Result<(), Fail> {
-    let cases: [(&[&str], SetFault, &str); 6] = [
-        (
-            &["set", "-"],
-            SetFault::Form { at: 0 },
-            "clof: set Form 0\n",
-        ),
-        (
-            &["set", "--list", "--", "-1"],
-            SetFault::Form { at: 0 },
-            "clof: set Form 0\n",
-        ),
-        (
-            &["set", "--list", "3,4096"],
-            SetFault::TooLarge { at: 2 },
-            "clof: set TooLarge 2\n",
-        ),
-        (
-            &["set", "0xf...f"],
-            SetFault::Infinite { at: 0 },
-            "clof: set Infinite 0\n",
-        ),
-        (
-            &["set", "0x1,"],
-            SetFault::Form { at: 4 },
-            "clof: set Form 4\n",
-        ),
-        (&["set", ""], SetFault::Form { at: 0 }, "clof: set Form 0\n"),
-    ];
-    for (words, fault, err) in cases {
-        let status = Status::Malformed(Fault::Set(fault));
-        prints(&rt, rt.alloc(), words, status, "", err)?;
-        assert_eq!(rt; status.code(), 3);
-    }
     Ok(())
 }
 
@@ -559,204 +560,5 @@ fn tells_of_wanted_memory(rt: HostRuntime) -> Result<(), Fail> {
     report(&mut err, &Status::OutOfMemory);
     assert_eq!(rt; Status::OutOfMemory.code(), 7);
     assert_eq!(rt; err.bytes(), b"clof: out of memory\n".as_slice());
-    Ok(())
-}
-
-#[test]
-fn prints_the_last_number(rt: HostRuntime) -> Result<(), Fail> {
-    let alloc = rt.alloc();
-    let mut want = Vec::new(alloc);
-    want.extend_from_slice(b"0x80000000")?;
-    want.extend_from_slice(&filled(alloc, b',', 127)?)?;
-    want.extend_from_slice(b"0x0\n4095\n0x8")?;
-    want.extend_from_slice(&filled(alloc, b'0', 1023)?)?;
-    want.push(b'\n')?;
-    let ended = call(&rt, alloc, &["set", "--list", "4095"], Vec::new(alloc))?;
-    assert_eq!(rt; ended.status, Status::Ok);
-    assert_eq!(rt; ended.out.as_slice(), want.as_slice());
-    Ok(())
-}
-
-// The numbers below 4,096 from the last to the first, with commas between them.
-fn all_numbers(alloc: Global) -> Result<String, Fail> {
-    let mut numbers = String::new(alloc);
-    for number in (0..4096_u32).rev() {
-        if !numbers.is_empty() {
-            numbers.push(',')?;
-        }
-        numbers.push_str(itoa::Buffer::new().format(number))?;
-    }
-    Ok(numbers)
-}
-
-// Long texts are no excuse: the longest list of a set, and the longest list of indexes of a description.
-#[test]
-fn takes_lists_of_all_numbers(rt: HostRuntime) -> Result<(), Fail> {
-    let alloc = rt.alloc();
-    let numbers = all_numbers(alloc)?;
-    let set = call(
-        &rt,
-        alloc,
-        &["set", "--list", numbers.as_str()],
-        Vec::new(alloc),
-    )?;
-    assert_eq!(rt; set.status, Status::Ok);
-    assert!(rt; set.out.starts_with(b"0xffffffff,0xffffffff,"));
-    let mut description = String::from_str(alloc, "PU:4096(indexes=")?;
-    description.push_str(&numbers)?;
-    description.push(')')?;
-    let words = ["topo", "--export", description.as_str()];
-    let exported = call(&rt, alloc, &words, Vec::new(alloc))?;
-    assert_eq!(rt; exported.status, Status::Ok);
-    assert!(rt; exported.out.starts_with(description.as_bytes()));
-    assert_eq!(rt; exported.out.len(), description.len() + 1);
-    let tree = call(&rt, alloc, &["topo", description.as_str()], Vec::new(alloc))?;
-    assert_eq!(rt; tree.status, Status::Ok);
-    assert!(rt;
-        tree.out
-            .starts_with(b"Machine L#0\n  PU L#0 (P#4095)\n  PU L#1 (P#4094)\n")
-    );
-    assert!(rt; tree.out.ends_with(b"  PU L#4095 (P#0)\n"));
-    Ok(())
-}
-
-const TREE: &str = "Machine L#0
-  Package L#0
-    NUMANode L#0 (P#0 1GiB)
-    L3 L#0 (8MiB)
-      Core L#0
-        PU L#0 (P#0)
-        PU L#1 (P#1)
-      Core L#1
-        PU L#2 (P#2)
-        PU L#3 (P#3)
-  Package L#1
-    NUMANode L#1 (P#1 1GiB)
-    L3 L#1 (8MiB)
-      Core L#2
-        PU L#4 (P#4)
-        PU L#5 (P#5)
-      Core L#3
-        PU L#6 (P#6)
-        PU L#7 (P#7)
-";
-
-const DESCRIPTION: &str = "Package:2 [NUMANode(memory=1GiB)] L3Cache:1(size=8MiB) Core:2 PU:2";
-
-#[test]
-fn prints_a_tree_and_its_canonical_text(rt: HostRuntime) -> Result<(), Fail> {
-    let alloc = rt.alloc();
-    prints(&rt, alloc, &["topo", DESCRIPTION], Status::Ok, TREE, "")?;
-    let canonical = "Package:2 [NUMANode(memory=1073741824)] L3Cache:1(size=8388608) Core:2 PU:2\n";
-    prints(
-        &rt,
-        alloc,
-        &["topo", "--export", DESCRIPTION],
-        Status::Ok,
-        canonical,
-        "",
-    )?;
-    let usual =
-        "Package:2 [NUMANode(memory=34359738368)] L3Cache:1(size=33554432) L2Cache:16(size=1048576) \
-         L1dCache:1(size=32768) L1iCache:1(size=32768) Core:1 PU:2(indexes=2*32:1*2)";
-    let ended = call(&rt, alloc, &["topo", "--export", usual], Vec::new(alloc))?;
-    assert_eq!(rt; ended.status, Status::Ok);
-    assert!(rt; ended.out.starts_with(usual.as_bytes()));
-    assert_eq!(rt; ended.out.len(), usual.len() + 1);
-    Ok(())
-}
-
-#[test]
-fn refuses_texts_that_describe_nothing(rt: HostRuntime) -> Result<(), Fail> {
-    let cases: [(&str, SynthFault, &str); 7] = [
-        (
-            "Core:2 PU:0",
-            SynthFault::BadArity { at: 7 },
-            "clof: synth BadArity 7\n",
-        ),
-        (
-            "Core:2 Thread:2 PU:1",
-            SynthFault::BadType { at: 7 },
-            "clof: synth BadType 7\n",
-        ),
-        (
-            "Core:2(size=1) PU:1",
-            SynthFault::BadAttr { at: 0 },
-            "clof: synth BadAttr 0\n",
-        ),
-        (
-            "Core:1 PU:2(indexes=0,)",
-            SynthFault::BadIndexes { at: 7 },
-            "clof: synth BadIndexes 7\n",
-        ),
-        (
-            "PU:2 Core:2",
-            SynthFault::LastNotPu { at: 5 },
-            "clof: synth LastNotPu 5\n",
-        ),
-        ("", SynthFault::Empty, "clof: synth Empty\n"),
-        (
-            "Core:1 Core:1 PU:1",
-            SynthFault::RepeatedType { at: 7 },
-            "clof: synth RepeatedType 7\n",
-        ),
-    ];
-    for (text, fault, err) in cases {
-        let status = Status::Malformed(Fault::Synth(fault));
-        prints(&rt, rt.alloc(), &["topo", text], status, "", err)?;
-    }
-    Ok(())
-}
-
-#[test]
-fn refuses_descriptions_over_a_limit(rt: HostRuntime) -> Result<(), Fail> {
-    let levels = "Group:1 Group:1 Group:1 Group:1 Group:1 Group:1 Group:1 \
-         Group:1 Group:1 Group:1 Group:1 Group:1 Group:1 Group:1 Group:1 Group:1 PU:1";
-    let cases: [(&str, SynthFault, &str); 2] = [
-        (
-            levels,
-            SynthFault::TooManyLevels,
-            "clof: synth TooManyLevels\n",
-        ),
-        (
-            "PU:4097",
-            SynthFault::TooManyObjects,
-            "clof: synth TooManyObjects\n",
-        ),
-    ];
-    for (text, fault, err) in cases {
-        let status = Status::Limit(Fault::Synth(fault));
-        assert_eq!(rt; status.code(), 4);
-        prints(&rt, rt.alloc(), &["topo", text], status, "", err)?;
-    }
-    Ok(())
-}
-
-#[test]
-fn refuses_numbers_that_do_not_fit(rt: HostRuntime) -> Result<(), Fail> {
-    let cases: [(&str, BuildFault, &str); 3] = [
-        (
-            "Core:1 PU:2(indexes=0,0)",
-            BuildFault::IndexTwice { number: 0 },
-            "clof: build IndexTwice 0\n",
-        ),
-        (
-            "PU:2(indexes=0,1,2)",
-            BuildFault::IndexCount {
-                found: 3,
-                wanted: 2,
-            },
-            "clof: build IndexCount 3 2\n",
-        ),
-        (
-            "PU:2(indexes=0,4096)",
-            BuildFault::IndexRange { number: 4096 },
-            "clof: build IndexRange 4096\n",
-        ),
-    ];
-    for (text, fault, err) in cases {
-        let status = Status::Malformed(Fault::Build(fault));
-        prints(&rt, rt.alloc(), &["topo", text], status, "", err)?;
-    }
     Ok(())
 }

@@ -3,14 +3,15 @@ ghost use Rattle.std.specs.Prelude.{◌≡◌, ◌≢◌, ◌<◌, ◌⊎◌, �
 ghost use Rattle.edge_io.specs.Counts.{Rose};
 ghost use Rattle.edge_io.specs.Contents.{Gains, IsDrained};
 ghost use Rattle.edge_io.specs.Reading.{HasGiven};
-ghost use Rattle.clof_tool.specs.declared.status.Status.{Status as AnyStatus};
-ghost use Rattle.clof_tool.specs.Line.{line_of};
+ghost use Rattle.command_texts.specs.declared.status.Status.{Status as AnyStatus};
+ghost use Rattle.command_texts.specs.Line.{line_of};
 ghost use Rattle.command_words.specs.Asked.{Asked as PlainAsked};
 ghost use Rattle.command_words.specs.Plain.{plain};
 ghost use Rattle.command_words.specs.Words.{Says, IsTabled, IsUsage};
 ghost use Rattle.clof_tool.specs.Run.{input_limit};
-ghost use Rattle.clof_tool.specs.Outcome.{ReadsInput, IsInput, HasRead, IsAnswer, WordsRefused, InputRefused, HasCause, IsRefusal};
-ghost use Rattle.clof_tool.specs.Outcome.{HasWritten};
+ghost use Rattle.command_texts.specs.Ends.{IsRefusal};
+ghost use Rattle.clof_tool.specs.Outcome.{ReadsInput, IsInput, HasRead, IsAnswer, WordsRefused, InputRefused, HasCause};
+ghost use Rattle.command_texts.specs.Ends.{HasWritten};
 
 use crate::Status;
 use crate::answer::answer;

@@ -5,6 +5,7 @@ use Rattle.clap.proofs.OnLiterals.{clap_on_literals}
 use Rattle.command_words.specs.Commands.{command_of}
 use Rattle.command_words.specs.CalcWords.{calc_rules, calc_command}
 use Rattle.command_words.specs.DistribWords.{distrib_rules, distrib_command}
+use Rattle.command_words.specs.RunWords.{run_rules, run_command}
 use Rattle.command_words.specs.SetWords.{set_rules, set_command}
 use Rattle.command_words.specs.TopoWords.{topo_rules, topo_command}
 
@@ -39,3 +40,11 @@ calc_simple = refl
 pub distrib_simple : is_simple_and_free distrib_command ≡ true
 unfolding distrib_command clap_on_literals
 distrib_simple = refl
+
+pub run_made : (rules : List Rule) → rules ≡ run_rules → command_of (codes "run") rules ≡ run_command
+unfolding run_command
+run_made rules is = ap (command_of (codes "run")) is
+
+pub run_simple : is_simple_and_free run_command ≡ true
+unfolding run_command clap_on_literals
+run_simple = refl

@@ -38,7 +38,7 @@ pub record Distribution : Type 0 where
   pub description : Text
 
 pub data Asked : Type 0 where
-  Run : Asked
+  Run : (description : Text) → Asked
   Set : (list : Bool) (text : Text) → Asked
   Topo : (export : Bool) (text : Text) → Asked
   Calc : (asked : Calculation) → Asked

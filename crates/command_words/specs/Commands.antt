@@ -27,6 +27,10 @@ flag_rule name short = with_short short (record (new_rule name) { long = Some na
 abbrev pub word_rule : Text → Rule
 word_rule name = record (new_rule name) { required = true }
 
+-- a word that isn't an option's, and that may be absent
+abbrev pub optional_rule : Text → Rule
+optional_rule name = new_rule name
+
 -- any number of words that aren't options'
 abbrev pub words_rule : Text → Rule
 words_rule name = record (new_rule name) { action = Some Append }
@@ -35,6 +39,7 @@ abbrev pub rule_of : Argument → Rule
 rule_of (arguments.Valued name short) = option_rule name.now short
 rule_of (arguments.Flag name short) = flag_rule name.now short
 rule_of (arguments.Word name) = word_rule name.now
+rule_of (arguments.Optional name) = optional_rule name.now
 rule_of (arguments.Words name) = words_rule name.now
 
 -- the command with such arguments, and `clap`'s own for help

@@ -3,6 +3,7 @@ pub mod CalcWords
 pub mod Commands
 pub mod DistribWords
 pub mod Plain
+pub mod RunWords
 pub mod SetWords
 pub mod TopoWords
 pub mod Words

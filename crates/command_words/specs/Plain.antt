@@ -47,7 +47,7 @@ plain_distribution given = record {
 }
 
 abbrev pub plain : Asked → words.Asked
-plain asked.Run = words.Run
+plain (asked.Run description) = words.Run description.now
 plain (asked.Set list text) = words.Set list text.now
 plain (asked.Topo export text) = words.Topo export text.now
 plain (asked.Calc given) = words.Calc (plain_calculation given)

@@ -5,22 +5,18 @@ use Rattle.std.specs.Str.{bytes_eq}
 use Rattle.std.specs.declared.string.String.{String}
 use Rattle.std.specs.declared.alloc.Global.{Global}
 use Rattle.clap.specs.Words.{Text}
-use Rattle.command_words.specs.Asked.{Asked, Run}
+use Rattle.command_words.specs.Asked.{Asked}
 use Rattle.command_words.specs.CalcWords.{calc_asked}
 use Rattle.command_words.specs.DistribWords.{distrib_asked}
+use Rattle.command_words.specs.RunWords.{run_asked}
 use Rattle.command_words.specs.SetWords.{set_asked}
 use Rattle.command_words.specs.TopoWords.{topo_asked}
-
--- `run` stands alone
-abbrev pub run_asked : List Text → Option Asked
-run_asked [] = Some Run
-run_asked (word ∷ words) = None
 
 -- What words ask for. The first one names the command, which reads them.
 unfoldable pub asked_of : List Text → Option Asked
 asked_of [] = None
 asked_of (name ∷ words) =
-    if bytes_eq name (codes "run") then run_asked words
+    if bytes_eq name (codes "run") then run_asked (name ∷ words)
     else (if bytes_eq name (codes "set") then set_asked (name ∷ words)
     else (if bytes_eq name (codes "topo") then topo_asked (name ∷ words)
     else (if bytes_eq name (codes "calc") then calc_asked (name ∷ words)
@@ -35,7 +31,7 @@ IsUsage words = asked_of (map string_bytes words) ≡ None
 
 -- the names of the commands whose words `clap` reads
 abbrev pub tabled_names : List Text
-tabled_names = codes "set" ∷ codes "topo" ∷ codes "calc" ∷ codes "distrib" ∷ []
+tabled_names = codes "run" ∷ codes "set" ∷ codes "topo" ∷ codes "calc" ∷ codes "distrib" ∷ []
 
 abbrev pub is_tabled : List Text → Bool
 is_tabled [] = false

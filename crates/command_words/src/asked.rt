@@ -4,8 +4,8 @@ ghost use Rattle.std.specs.Prelude.{◌<◌, ◌^◌, vec_len};
 /// What the words ask for.
 #[derive(Drop)]
 pub enum Asked<'a> {
-    /// Serve the sections of the input.
-    Run,
+    /// Serve the sections of the input, whose callers stand on the topology of a description.
+    Run { description: &'a [u8] },
     /// Print a set, read as a list or in hexadecimal.
     Set { list: bool, text: &'a [u8] },
     /// Print the tree of a description, or its canonical text.

@@ -17,6 +17,8 @@ pub(crate) enum Argument {
     Flag(&'static str, Option<char>),
     /// A word that isn't an option's, and that has to be there.
     Word(&'static str),
+    /// A word that isn't an option's, and that may be absent.
+    Optional(&'static str),
     /// Any number of words that aren't options'.
     Words(&'static str),
 }
@@ -73,6 +75,7 @@ fn argument_of<'a>(alloc: Global, argument: Argument) -> Arg<'a>
             with_short(flag, short)
         }
         Argument::Word(name) => Arg::new(alloc, name).required(true),
+        Argument::Optional(name) => Arg::new(alloc, name),
         Argument::Words(name) => Arg::new(alloc, name).action(ArgAction::Append),
     }
 }

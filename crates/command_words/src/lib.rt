@@ -6,6 +6,7 @@ mod calc_words;
 mod command;
 mod distrib_words;
 mod fault;
+mod run_words;
 mod set_words;
 mod topo_words;
 mod words;

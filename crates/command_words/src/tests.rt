@@ -71,18 +71,33 @@ fn reads_sets_topologies_and_runs(rt: HostRuntime) -> Result<(), Fail> {
         )
     );
     let words = strings(alloc, &["run"])?;
-    assert!(rt; matches!(read_words(alloc, &words), Ok(Asked::Run)));
+    assert!(rt;
+        matches!(
+            read_words(alloc, &words),
+            Ok(Asked::Run {
+                description: b"PU:1"
+            })
+        )
+    );
+    let words = strings(alloc, &["run", "--", "-1"])?;
+    assert!(rt;
+        matches!(
+            read_words(alloc, &words),
+            Ok(Asked::Run { description: b"-1" })
+        )
+    );
     Ok(())
 }
 
 #[test]
 fn refuses_words(rt: HostRuntime) -> Result<(), Fail> {
     let alloc = rt.alloc();
-    let cases: [&[&str]; 20] = [
+    let cases: [&[&str]; 21] = [
         &[],
         &[""],
         &["Set", "0x1"],
-        &["run", "PU:1"],
+        &["run", "PU:1", "PU:1"],
+        &["run", "--walk"],
         &["set"],
         &["set", "1", "2"],
         &["set", "--list", "--list", "1"],

@@ -1,12 +1,13 @@
 // The words of the command line.
-ghost use Rattle.std.specs.Prelude.{◌≡◌, ◌⊎◌, None, Some, drop, map, string_bytes, IfOk, IfErr};
+ghost use Rattle.std.specs.Prelude.{◌≡◌, ◌⊎◌, map, string_bytes, IfOk, IfErr};
 ghost use Rattle.command_words.specs.Plain.{plain};
-ghost use Rattle.command_words.specs.Words.{run_asked, asked_of, Says, IsUsage, IsTabled};
+ghost use Rattle.command_words.specs.Words.{asked_of, Says, IsUsage, IsTabled};
 
 use crate::asked::Asked;
 use crate::calc_words::read_calc;
 use crate::distrib_words::read_distrib;
 use crate::fault::WordsFault;
+use crate::run_words::read_run;
 use crate::set_words::read_set;
 use crate::topo_words::read_topo;
 use std::alloc::Global;
@@ -24,7 +25,7 @@ pub fn read_words<'a>(alloc: Global, words: &'a [String]) -> Result<Asked<'a>, W
     };
     let name = first.as_str().as_bytes();
     if name == b"run".as_slice() {
-        read_run(words)
+        read_run(alloc, words)
     } else if name == b"set".as_slice() {
         read_set(alloc, words)
     } else if name == b"topo".as_slice() {
@@ -35,18 +36,5 @@ pub fn read_words<'a>(alloc: Global, words: &'a [String]) -> Result<Asked<'a>, W
         read_distrib(alloc, words)
     } else {
         Err(WordsFault::Usage)
-    }
-}
-
-// What the words of `run` ask for, which stands alone.
-fn read_run<'a>(words: &'a [String]) -> Result<Asked<'a>, WordsFault>
-    ensures asked { IfOk result (λ asked. run_asked (drop 1 (map string_bytes words.entry.now)) ≡ Some (plain asked)) }
-    ensures refused { IfErr result (λ fault.
-        (fault ≡ WordsFault.Usage) × (run_asked (drop 1 (map string_bytes words.entry.now)) ≡ None)) }
-{
-    if words.len() > 1 {
-        Err(WordsFault::Usage)
-    } else {
-        Ok(Asked::Run)
     }
 }

@@ -1,4 +1,6 @@
 pub mod Keyed
 pub mod Given
 pub mod Logs
-pub mod Records
+pub mod Turns
+pub mod Places
+pub mod Voids

@@ -1,16 +1,41 @@
 -- What the fields of a journal say.
-use Rattle.std.specs.Prelude.{◌≡◌, ◌<◌, ◌≤◌, ◌^◌, map, vec_capacity}
+use Rattle.std.specs.Prelude.{◌≡◌, ◌<◌, ◌≤◌, ◌^◌, ◌+◌, ℕ, List, [], ◌∷◌, length, map, vec_capacity}
 use Rattle.kv_history.specs.declared.journal.Journal.TheInside.{Inside}
-use Rattle.kv_history.specs.Log.{Log, IsSound, command_count, store_now}
-use Rattle.kv_history.specs.Views.{logged}
+use Rattle.kv_history.specs.declared.record.Record.{Record}
+use Rattle.kv_history.specs.Log.{Log, Logged, Turn, IsSound, all_replies, command_count, entries_from, store_now}
 
--- the sections and the entries
+abbrev pub turn_of : Record → Turn
+turn_of one = record { caller = one.caller; void = one.void }
+
+abbrev pub sections_of : Inside → List (List ℕ)
+sections_of journal = map (λ section. section.now) journal.sections.items
+
+abbrev pub turns_of : Inside → List Turn
+turns_of journal = map turn_of journal.records.items
+
+-- the sections, and the entries of the turns
 abbrev pub log_of : Inside → Log
-log_of journal = record { sections = map (λ section. section.now) journal.sections.items; entries = map logged journal.records.items }
+log_of journal = record { sections = sections_of journal; entries = entries_from (sections_of journal) [] (turns_of journal) }
 
--- the store is the one of the entries, and there is room for an entry for each command
+-- a record is that of an entry whose reply begins at a place in the buffer
+pub record IsPlaced (start : ℕ) (one : Record) (entry : Logged) : Type 0 where
+  pub caller : one.caller ≡ entry.caller
+  pub void : one.void ≡ entry.void
+  pub spelling : one.spelling.now ≡ entry.command.spelling
+  pub end : one.end ≡ start + length entry.reply
+
+-- the records are those of the entries, whose replies stand in the buffer one behind the other
+abbrev pub ArePlaced : ℕ → List Record → List Logged → Type 0
+ArePlaced start [] [] = Unit {0}
+ArePlaced start [] (entry ∷ entries) = ⊥
+ArePlaced start (one ∷ records) [] = ⊥
+ArePlaced start (one ∷ records) (entry ∷ entries) = IsPlaced start one entry × ArePlaced one.end records entries
+
+-- the records and the buffer are those of the entries, the store is theirs, and there is room for an entry for each command
 pub record IsKept (journal : Inside) : Type 0 where
   pub sound : IsSound (log_of journal)
-  pub store : journal.store ≡ store_now (map logged journal.records.items)
-  pub small : command_count (map (λ section. section.now) journal.sections.items) < 2 ^ 32
-  pub room : command_count (map (λ section. section.now) journal.sections.items) ≤ vec_capacity journal.records
+  pub placed : ArePlaced 0 journal.records.items (log_of journal).entries
+  pub replies : journal.replies.items ≡ all_replies (log_of journal).entries
+  pub store : journal.store ≡ store_now (log_of journal).entries
+  pub small : command_count (sections_of journal) < 2 ^ 32
+  pub room : command_count (sections_of journal) ≤ vec_capacity journal.records

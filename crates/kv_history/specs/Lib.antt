@@ -1,5 +1,7 @@
 pub mod Contents
 pub mod Answer
+pub mod Edits
+pub mod Lines
 pub mod Log
 pub mod Views
 pub mod Journal

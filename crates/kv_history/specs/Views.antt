@@ -1,18 +1,25 @@
 -- What the crate's own types hold, without where it lies in memory.
-use Rattle.std.specs.Prelude.{ℕ, List}
-use Rattle.mc_text.specs.Request.{view}
+use Rattle.std.specs.Prelude.{ℕ, List, Vec}
+use Rattle.std.specs.declared.alloc.Global.{Global}
 use Rattle.kv_history.specs.declared.item.Item.{Item}
-use Rattle.kv_history.specs.declared.record.Record.{Record}
+use Rattle.kv_history.specs.declared.storing.Storing.{Storing}
 use Rattle.kv_history.specs.Contents as contents
-use Rattle.kv_history.specs.Log.{Logged}
+use Rattle.mc_text.specs.Request as asked
 
--- an item without its key, and with it
 abbrev pub plain_item : Item → contents.Item
 plain_item item = record { flags = item.flags; block = item.block.items; unique = item.unique }
 
-abbrev pub keyed : Item → List ℕ × contents.Item
-keyed item = (item.key.items, plain_item item)
+abbrev pub keyed : Vec ℕ Global × Item → List ℕ × contents.Item
+keyed entry = (entry.0.items, plain_item entry.1)
 
--- an entry of the journal
-abbrev pub logged : Record → Logged
-logged entry = record { caller = entry.caller; command = view entry.command; reply = entry.reply.items; void = entry.void }
+abbrev pub storing_view : Storing → asked.Storing
+storing_view storing =
+    record {
+      how = storing.how;
+      key = storing.key.now;
+      flags = storing.flags;
+      exptime = storing.exptime;
+      unique = storing.unique;
+      block = storing.block.now;
+      quiet = storing.quiet;
+    }

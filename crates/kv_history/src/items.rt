@@ -1,11 +1,13 @@
 // The items of a store.
-ghost use Rattle.std.specs.Prelude.{◌≡◌, ◌≤◌, OnErr, OnOk, filter, not, option_map, vec_capacity, vec_len};
-ghost use Rattle.std.specs.Str.{bytes_eq};
-ghost use Rattle.std.specs.List as lists;
+ghost use Rattle.std.specs.Prelude.{◌≡◌, ◌↔◌, IfOk, IfErr, IsSome, IsTrue, OnErr, OnOk, option_map, is_some};
+ghost use Rattle.std.specs.Bool.{OnFalse};
+ghost use Rattle.std.specs.Option.{option_map_or};
 ghost use Rattle.std.specs.FinMap as map;
 ghost use Rattle.kv_history.specs.Views.{plain_item};
+ghost use Rattle.kv_history.specs.Edits.{edited};
 
-use crate::item::{Item, has_key};
+use crate::item::{Edit, Item};
+use indexmap::IndexMap;
 use out_of_memory::OutOfMemory;
 use std::alloc::Global;
 use std::marker::Model;
@@ -13,7 +15,8 @@ use std::marker::Model;
 /// Items, at most one a key.
 #[derive(Drop)]
 pub(crate) struct Items {
-    list: Vec<Item>,
+    alloc: Global,
+    table: IndexMap<Vec<u8>, Item>,
 }
 
 impl Model for Items {
@@ -26,7 +29,7 @@ impl Model for Items {
 
     ghost coded = { items_code };
 
-    ghost view = { λ items. from_entries (map keyed items.list.items) };
+    ghost view = { λ items. from_entries (map keyed items.table.entries) };
 }
 
 impl Items {
@@ -35,7 +38,8 @@ impl Items {
         ensures { result ≡ map.empty }
     {
         Items {
-            list: Vec::new(alloc),
+            alloc,
+            table: IndexMap::new(alloc),
         }
     }
 
@@ -43,40 +47,57 @@ impl Items {
     pub fn get(&self, key: &[u8]) -> Option<&Item>
         ensures { option_map (λ item. plain_item item.now) result ≡ map.get self.now key.now }
     {
-        find(&self.list, key)
+        self.table.get(key)
     }
 
-    /// Removes a key's item, if there is one.
-    pub fn remove(&mut self, key: &[u8])
-        ensures { self.new ≡ map.remove self.old key.now }
+    /// Removes a key's item, and answers whether there was one.
+    pub fn remove(&mut self, key: &[u8]) -> bool
+        ensures removed { self.new ≡ map.remove self.old key.now }
+        ensures found { result ≡ is_some (map.get self.old key.now) }
+        ensures stays { OnFalse result (self.new ≡ self.old) }
     {
-        retain_others(&mut self.list, key);
+        self.table.swap_remove(key).is_some()
     }
 
-    /// Puts an item in the place of the one that has its key, if there is one. Without memory the items stay.
-    pub fn insert(&mut self, item: Item) -> Result<(), OutOfMemory>
-        ensures ok { OnOk result (self.new ≡ map.insert self.old item.key.items (plain_item item)) }
+    /// Removes all items.
+    pub fn clear(&mut self)
+        ensures { self.new ≡ map.empty }
+    {
+        self.table.clear();
+    }
+
+    /// Puts an item under a key, in the place of the one that is there. Without memory the items stay.
+    pub fn put(
+        &mut self,
+        key: &[u8],
+        flags: u32,
+        block: &[u8],
+        unique: u64,
+    ) -> Result<(), OutOfMemory>
+        ensures ok { OnOk result (self.new
+            ≡ map.insert self.old key.now (record { flags = flags; block = block.now; unique = unique })) }
         ensures err { OnErr result (self.new ≡ self.old) }
     {
-        self.list.reserve(1)?;
-        retain_others(&mut self.list, &item.key);
-        self.list.push(item)?;
+        if self.edit(key, Edit::Whole { flags, block }, unique)? {
+            return Ok(());
+        }
+        let item = Item::new(self.alloc, flags, block, unique)?;
+        self.table.insert(key.to_vec(self.alloc)?, item)?;
         Ok(())
     }
-}
 
-// The first item that has the key.
-fn find<'a>(list: &'a [Item], key: &[u8]) -> Option<&'a Item>
-    ensures { option_map (λ item. item.now) result ≡ lists.find (λ item. bytes_eq key.now item.key.items) list.now }
-{
-    list.iter().find(|item| has_key(item, key))
-}
-
-// Keeps the items that have another key.
-fn retain_others(list: &mut Vec<Item>, key: &[u8])
-    ensures items { list.new.items ≡ filter (λ item. not (bytes_eq key.now item.key.items)) list.old.items }
-    ensures length { vec_len list.new ≤ vec_len list.old }
-    ensures capacity { vec_capacity list.new ≡ vec_capacity list.old }
-{
-    list.retain(|item| !has_key(item, key));
+    /// Changes the item of a key, which gets another unique, and answers whether there is one. Without memory the
+    /// items stay.
+    pub fn edit(&mut self, key: &[u8], edit: Edit<'_>, unique: u64) -> Result<bool, OutOfMemory>
+        ensures ok { OnOk result (self.new ≡ option_map_or (λ item. map.insert self.old key.now (edited edit.entry unique item))
+            (map.get self.old key.now) self.old) }
+        ensures found { IfOk result (λ found. found ≡ is_some (map.get self.old key.now)) }
+        ensures err { OnErr result (self.new ≡ self.old) }
+    {
+        let Some(item) = self.table.get_mut(key) else {
+            return Ok(false);
+        };
+        item.edit(edit, unique)?;
+        Ok(true)
+    }
 }

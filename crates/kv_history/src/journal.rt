@@ -1,13 +1,13 @@
 // The journal.
-ghost use Rattle.std.specs.Prelude.{◌≡◌, ◌^◌, ◌<◌, ◌≤◌, ◌↔◌, ◌++◌, ◌∷◌, [], length, map, option_map, slice_get, sum_by, vec_capacity};
-ghost use Rattle.std.specs.Prelude.{vec_len, not, IfOk, IsTrue, OnErr, OnOk, Some};
+ghost use Rattle.std.specs.Prelude.{◌≡◌, ◌^◌, ◌<◌, ◌≤◌, ◌↔◌, ◌++◌, ◌∷◌, [], length, map, option_map, slice_get, slice_range};
+ghost use Rattle.std.specs.Prelude.{sum_by, take, vec_capacity, vec_len, not, IfOk, IsTrue, OnErr, OnOk, Some};
 ghost use Rattle.std.specs.Bool.{OnTrue};
 ghost use Rattle.std.specs.List.{list_all};
 ghost use Rattle.mc_text.specs.Request.{request_of, view};
 ghost use Rattle.mc_text.specs.Reading.{commands_of};
 ghost use Rattle.kv_history.specs.Answer.{store_after};
-ghost use Rattle.kv_history.specs.Log.{IsNext, IsOneThread, NoneVoid, VoidIsSilent, EachHasSection, EachOwnFirst, applied, applied_entry};
-ghost use Rattle.kv_history.specs.Log.{void_entry, store_now};
+ghost use Rattle.kv_history.specs.Log.{IsNext, IsOneThread, NoneVoid, VoidIsSilent, EachHasSection, EachOwnFirst, IsHistory};
+ghost use Rattle.kv_history.specs.Log.{all_replies, applied, applied_entry, void_entry, store_now};
 
 use crate::Store;
 use crate::record::Record;
@@ -35,12 +35,13 @@ pub struct Entry<'a> {
 }
 
 /// A store with the list of the commands that callers applied to it, and the replies. Contracts see it as its
-/// sections and its entries.
+/// sections and its entries; `calls` are the callers of the entries.
 #[derive(Drop)]
 pub struct Journal<'a> {
-    alloc: Global,
     sections: Vec<&'a [u8]>,
     records: Vec<Record<'a>>,
+    // the replies of all entries, one behind the other
+    replies: Vec<u8>,
     store: Store,
 }
 
@@ -66,9 +67,9 @@ impl<'a> Journal<'a> {
     {
         let room = commands_in(sections) as usize;
         Ok(Journal {
-            alloc,
             sections: sections.to_vec(alloc)?,
             records: Vec::with_capacity(alloc, room)?,
+            replies: Vec::new(alloc),
             store: Store::new(alloc),
         })
     }
@@ -85,13 +86,12 @@ impl<'a> Journal<'a> {
         ensures void { OnErr result (self.new.entries ≡ self.old.entries ++ void_entry caller (view command.entry) ∷ []) }
         ensures store_stays { OnErr result (store_now self.new.entries ≡ store_now self.old.entries) }
     {
-        let mut reply = Vec::new(self.alloc);
-        let answered = self.store.answer(&command, &mut reply);
+        let answered = self.store.answer(&command, &mut self.replies);
         let turn = self.records.len() as u32;
         let record = Record {
+            spelling: command.spelling(),
+            end: self.replies.len(),
             caller,
-            command,
-            reply,
             void: answered.is_err(),
         };
         put(&mut self.records, record);
@@ -118,7 +118,7 @@ impl<'a> Journal<'a> {
         let record = &self.records[turn as usize];
         Entry {
             caller: record.caller,
-            spelling: record.command.spelling(),
+            spelling: record.spelling,
             void: record.void,
         }
     }
@@ -128,7 +128,30 @@ impl<'a> Journal<'a> {
         requires { turn < length self.now.entries }
         ensures { option_map (λ entry. entry.reply) (slice_get self.now.entries turn) ≡ Some result.now }
     {
-        &self.records[turn as usize].reply
+        let turn = turn as usize;
+        part(
+            &self.replies,
+            self.replies_end(turn),
+            self.replies_end(turn + 1),
+        )
+    }
+
+    /// The replies of all entries, in their order, one behind the other.
+    pub fn replies(&self) -> &[u8]
+        ensures { result.now ≡ all_replies self.now.entries }
+    {
+        &self.replies
+    }
+
+    // Where the replies of the first so many entries end.
+    fn replies_end(&self, entries: usize) -> usize
+        requires { entries ≤ length self.now.entries }
+        ensures { result ≡ length (all_replies (take entries self.now.entries)) }
+    {
+        match entries.checked_sub(1) {
+            Some(last) => self.records[last].end,
+            None => 0,
+        }
     }
 
     /// The store. It holds what the commands of the entries that aren't void leave, in their order, on the empty store.
@@ -143,11 +166,21 @@ impl<'a> Journal<'a> {
     pub fn whole(&self) -> bool
         ensures none_void { IsTrue result ↔ NoneVoid self.now.entries }
         ensures one_thread { OnTrue result (IsOneThread self.now.entries) }
+        ensures history { OnTrue result (IsHistory self.now) }
         ensures applied { IsOneThread (applied self.now.entries) }
         ensures silent { VoidIsSilent self.now.entries }
     {
         none_void(&self.records)
     }
+}
+
+// The bytes of a text between two places.
+fn part(text: &[u8], start: usize, end: usize) -> &[u8]
+    requires order { start ≤ end }
+    requires within { end ≤ length text.now }
+    ensures { result.now ≡ slice_range text.now start end }
+{
+    &text[start..end]
 }
 
 // Whether no record is void.

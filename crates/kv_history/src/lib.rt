@@ -1,12 +1,15 @@
 //! A store of items that answers memcached's commands, and the journal of the commands that callers apply to it.
 #![tactic(auto)]
 
+mod changes;
 mod item;
 mod items;
 mod journal;
 mod record;
 mod replies;
+mod reply_line;
 mod store;
+mod storing;
 
 pub use journal::{Entry, Journal, Receipt};
 pub use store::Store;

@@ -1,11 +1,12 @@
-// What the journal keeps of a command.
-use mc_text::Command;
+// What the journal keeps of an entry.
 
-/// A command that a caller applied, and its reply.
-#[derive(Drop)]
+/// The place of a command, and where its reply ends: 32 bytes.
+#[derive(Clone, Copy)]
 pub(crate) struct Record<'a> {
+    /// The bytes of the command, in its section.
+    pub spelling: &'a [u8],
+    /// Where its reply ends among the replies of all entries.
+    pub end: usize,
     pub caller: u32,
-    pub command: Command<'a>,
-    pub reply: Vec<u8>,
     pub void: bool,
 }

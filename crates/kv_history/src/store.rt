@@ -1,29 +1,27 @@
 // The store.
-ghost use Rattle.std.specs.Prelude.{◌≡◌, ℕ, List, ◌++◌, codes, pos, int_lt, IfOk, OnErr, OnOk, if◌then◌else◌, option_map};
+ghost use Rattle.std.specs.Prelude.{◌≡◌, ℕ, ◌+◌, ◌≤◌, List, ◌++◌, codes, OnErr, OnOk, option_map, vec_capacity, vec_len};
 ghost use Rattle.std.specs.FinMap as map;
 ghost use Rattle.std.specs.List.{flat_map};
 ghost use Rattle.mc_text.specs.Keys.{keys_left};
 ghost use Rattle.mc_text.specs.Request.{request_of};
 ghost use Rattle.kv_history.specs.Contents.{empty_store};
-ghost use Rattle.kv_history.specs.Answer.{reply_of, store_after, unique_after, written_key};
+ghost use Rattle.kv_history.specs.Lines.{HasLine};
+ghost use Rattle.kv_history.specs.Answer.{reply_of, store_after, written_key};
 
-use crate::item::Item;
 use crate::items::Items;
 use crate::replies::append_item;
-use mc_text::{Command, How, Keys};
+use crate::reply_line::{FixedLine, LINE_ROOM, ReplyLine, tell};
+use crate::storing::Storing;
+use mc_text::{Command, Keys};
 use out_of_memory::OutOfMemory;
-use std::alloc::{AllocError, Global};
+use std::alloc::Global;
 use std::marker::Model;
-
-// The reply to a command that stored an item.
-const STORED: &[u8] = b"STORED\r\n";
 
 /// Items by their keys, and the unique that the next item to be stored gets.
 #[derive(Drop)]
 pub struct Store {
-    alloc: Global,
-    items: Items,
-    next_unique: u64,
+    pub(crate) items: Items,
+    pub(crate) next_unique: u64,
 }
 
 impl Model for Store {
@@ -42,7 +40,6 @@ impl Store {
         ensures { result ≡ empty_store }
     {
         Store {
-            alloc,
             items: Items::new(alloc),
             next_unique: 1,
         }
@@ -55,25 +52,33 @@ impl Store {
         ensures reply_stays { OnErr result (reply.new.items ≡ reply.old.items) }
         ensures store_stays { OnErr result (self.new ≡ self.old) }
     {
+        // With this room, nothing fails once the store is changed.
+        reply.reserve(LINE_ROOM)?;
         match *command {
             Command::Store {
-                how: How::Set,
+                how,
                 key,
                 flags,
                 exptime,
+                unique,
                 block,
                 quiet,
                 ..
             } => {
-                // With this room, nothing fails once the item is stored.
-                reply.reserve(STORED.len())?;
-                self.set(key, flags, exptime, block)?;
-                if !quiet {
-                    reply.extend_from_slice(STORED)?;
-                }
-                Ok(())
+                let storing = Storing {
+                    how,
+                    key,
+                    flags,
+                    exptime,
+                    unique,
+                    block,
+                    quiet,
+                };
+                let line = self.store(&storing)?;
+                tell(reply, quiet, ReplyLine::Fixed(line))
             }
             Command::Get { uniques, keys, .. } => self.give(uniques, keys, reply),
+            _ => self.answer_in_line(command, reply),
         }
     }
 
@@ -85,26 +90,58 @@ impl Store {
         Some(&item.block)
     }
 
-    // Stores an item, or lets it expire at once, and uses the next unique up. Without memory the store stays.
-    fn set(&mut self, key: &[u8], flags: u32, exptime: i32, block: &[u8]) -> Result<(), OutOfMemory>
-        ensures items { OnOk result (self.new.items ≡ (if int_lt exptime (pos 0) then map.remove self.old.items key.now
-            else map.insert self.old.items key.now (record { flags = flags; block = block.now; unique = self.old.next_unique }))) }
-        ensures unique { OnOk result (self.new.next_unique ≡ unique_after self.old.next_unique) }
-        ensures err { OnErr result (self.new ≡ self.old) }
+    // Appends the reply to a command whose reply is one line at most, and changes the store as the command asks. The reply
+    // has room for a line.
+    fn answer_in_line(
+        &mut self,
+        command: &Command<'_>,
+        reply: &mut Vec<u8>,
+    ) -> Result<(), OutOfMemory>
+        requires line { HasLine (request_of command.now) }
+        requires room { vec_len reply.old + 64 ≤ vec_capacity reply.old }
+        ensures reply { OnOk result (reply.new.items ≡ reply.old.items ++ reply_of self.old (request_of command.now)) }
+        ensures store { OnOk result (self.new ≡ store_after self.old (request_of command.now)) }
+        ensures reply_stays { OnErr result (reply.new.items ≡ reply.old.items) }
+        ensures store_stays { OnErr result (self.new ≡ self.old) }
     {
-        if exptime < 0 {
-            self.items.remove(key);
-        } else {
-            let item = Item {
-                key: key.to_vec(self.alloc)?,
-                flags,
-                block: block.to_vec(self.alloc)?,
-                unique: self.next_unique,
-            };
-            self.items.insert(item)?;
+        match *command {
+            Command::Store { .. } | Command::Get { .. } => unreachable!(),
+            Command::Delete { key, quiet, .. } => {
+                let line = self.delete(key);
+                tell(reply, quiet, ReplyLine::Fixed(line))
+            }
+            Command::Count {
+                up,
+                key,
+                delta,
+                quiet,
+                ..
+            } => {
+                let line = self.count(up, key, delta)?;
+                tell(reply, quiet, line)
+            }
+            Command::Touch {
+                key,
+                exptime,
+                quiet,
+                ..
+            } => {
+                let line = self.touch(key, exptime);
+                tell(reply, quiet, ReplyLine::Fixed(line))
+            }
+            Command::Flush { quiet, .. } => {
+                self.items.clear();
+                tell(reply, quiet, ReplyLine::Fixed(FixedLine::Done))
+            }
+            Command::Version { .. } => tell(reply, false, ReplyLine::Fixed(FixedLine::Version)),
+            Command::Verbosity { quiet, .. } => {
+                tell(reply, quiet, ReplyLine::Fixed(FixedLine::Done))
+            }
+            Command::Quit { .. } => Ok(()),
+            Command::Bad { fault, .. } => {
+                tell(reply, false, ReplyLine::Fixed(FixedLine::Fault(fault)))
+            }
         }
-        self.next_unique = self.next_unique.wrapping_add(1);
-        Ok(())
     }
 
     // Appends the reply to a retrieval command. Without memory the reply stays.

@@ -1,69 +1,73 @@
 -- The whole command that a text begins with: the relation and the reading of it agree.
-use Rattle.std.proofs.Common.{
-  ◌≡◌,
-  ℕ,
-  ◌+◌,
-  ◌<◌,
-  ◌≤◌,
-  List,
-  ◌∷◌,
-  ◌++◌,
-  length,
-  take,
-  drop,
-  Option,
-  Some,
-  None,
-  option_and_then,
-  refl,
-  sym,
-  ap,
-  ◌∙◌,
-  subst,
-  arith,
-}
-use Rattle.std.proofs.lemmas.List.{length-append, length-take-le, take-append-drop}
+use Rattle.std.proofs.Common.{◌≡◌, ℕ, ◌+◌, ◌<◌, ◌≤◌, Bool, true, false, List, ◌∷◌, ◌++◌, length, take, drop, Option, Some, None, option_map, option_and_then, inl, inr, refl, sym, ap, ◌∙◌, subst, arith}
+use Rattle.std.proofs.lemmas.List.{length-append, length-take-le, length-drop, take-append-drop, take_at, drop_at}
 use Rattle.byte_text.specs.Cuts.{IsCutAt}
-use Rattle.mc_text.specs.Request.{Request, Store, Get, WholeCommand}
-use Rattle.mc_text.specs.Line.{Header, Line, Storage, Retrieval, Says, words_of_line}
-use Rattle.mc_text.specs.Begins.{Asks, Begins, storing}
+use Rattle.mc_text.specs.Request.{Request, WholeCommand}
+use Rattle.mc_text.specs.Line.{Header, Line, Storage, Whole, words_of_line, line_of}
+use Rattle.mc_text.specs.Begins.{Asks, Begins, EndsAtOnce, EndsLater}
 use Rattle.mc_text.specs.Section.{NoCommand}
-use Rattle.mc_text.specs.Reading.{cut_first, said_by, block_of, asked_by, first_command}
+use Rattle.mc_text.specs.Reading.{at_line_end, line_end, stored, asked_by, first_command}
 use Rattle.mc_text.proofs.Pairs.{some_pair}
-use Rattle.mc_text.proofs.Cuts.{cut_first_cuts}
-use Rattle.mc_text.proofs.Blocks.{block_of_is, block_of_has}
-use Rattle.mc_text.proofs.Lines.{says_said, said_says}
+use Rattle.mc_text.proofs.Cuts.{cut_is}
+use Rattle.mc_text.proofs.Blocks.{IsEnd, end_at_once, end_differs, end_is}
 use Rattle.mc_text.proofs.Steps.{something_asked}
+
+-- a block with `\r\n` behind it
+at_once_end : (bytes : ℕ) (behind block : List ℕ) → EndsAtOnce behind bytes block
+    → (line_end (drop bytes behind) ≡ Some (true, 2)) × (take bytes behind ≡ block)
+at_once_end bytes behind block ends =
+    let behind_is = ends.behind_is in
+    let length_is = ends.length_is in
+    let rest : drop bytes behind ≡ 13 ∷ 10 ∷ ends.after = rw behind_is (drop_at block (13 ∷ 10 ∷ ends.after) bytes length_is) in
+    let front : take bytes behind ≡ block = rw behind_is (take_at block (13 ∷ 10 ∷ ends.after) bytes length_is) in
+    (ap line_end rest ∙ end_at_once ends.after, front)
+
+-- a block with other bytes behind it
+later_end : (bytes : ℕ) (behind : List ℕ) (extra : ℕ) → EndsLater behind bytes extra → line_end (drop bytes behind) ≡ Some (false, extra)
+later_end bytes behind extra ends =
+    let behind_is = ends.behind_is in
+    let length_is = ends.length_is in
+    let rest : drop bytes behind ≡ ends.tail = rw behind_is (drop_at ends.block ends.tail bytes length_is) in
+    ap line_end rest ∙ end_differs ends.tail ends.other ends.after ends.two ends.differs ends.cut
+    ∙ ap (λ n. Some (false, n)) (sym ends.extra_is)
 
 -- what a line asks for is what is read
 pub asks_asked : (line : Line) (behind : List ℕ) (request : Request) (more : ℕ) → Asks line behind request more
     → asked_by line behind ≡ Some (request, more)
 unfolding asked_by
-asks_asked (Storage header) behind request more asks =
-    let block = asks.0 in
-    let has = asks.1 in
-    let short = asks.2 in
-    let request_is = asks.3 in
-    let more_is = asks.4 in
-    rw (block_of_is header.bytes behind block has short, request_is, more_is) refl
-asks_asked (Retrieval uniques keys) behind request more asks =
+asks_asked (Whole asked) behind request more asks =
     let request_is = asks.0 in
     let more_is = asks.1 in
     rw (request_is, more_is) refl
+asks_asked (Storage header) behind request more (inl asks) =
+    let ends = at_once_end header.bytes behind asks.0 asks.1 in
+    let request_is = asks.2 in
+    let more_is = asks.3 in
+    rw (ends.0, ends.1, request_is, more_is) refl
+asks_asked (Storage header) behind request more (inr asks) =
+    let ends = later_end header.bytes behind asks.0 asks.1 in
+    let request_is = asks.2 in
+    let more_is = asks.3 in
+    rw (ends, request_is, more_is) refl
 
 -- what is asked for reaches no further than the text
 asks_within : (line : Line) (behind : List ℕ) (request : Request) (more : ℕ) → Asks line behind request more → more ≤ length behind
-asks_within (Storage header) behind request more asks =
-    let has = asks.1 in
-    let long = length-append asks.0 (13 ∷ 10 ∷ has.after) in
-    omega (arith, ap length has.behind_is, has.length_is, long, asks.4)
-asks_within (Retrieval uniques keys) behind request more asks = omega (arith, asks.1)
+asks_within (Whole asked) behind request more asks = omega (arith, asks.1)
+asks_within (Storage header) behind request more (inl asks) =
+    let ends = asks.1 in
+    let long = length-append asks.0 (13 ∷ 10 ∷ ends.after) in
+    omega (arith, ap length ends.behind_is, ends.length_is, long, asks.3)
+asks_within (Storage header) behind request more (inr asks) =
+    let ends = asks.1 in
+    let long = length-append ends.block ends.tail in
+    let tail = length-append ends.other (10 ∷ ends.after) in
+    omega (arith, ap length ends.behind_is, ends.length_is, long, asks.3, ends.extra_is, ap length ends.cut.parts, tail)
 
 -- a whole command has at least one byte, and no more than the text
 pub begins_within : (text : List ℕ) (command : WholeCommand) (count : ℕ) → Begins text command count → (0 < count) × (count ≤ length text)
 begins_within text command count begins =
     let cut = begins.cut in
-    let more = asks_within begins.line begins.behind command.request begins.more begins.asks in
+    let more = asks_within (line_of (words_of_line begins.content)) begins.behind command.request begins.more begins.asks in
     let long = length-append begins.content (10 ∷ begins.behind) in
     (omega (arith, begins.count_is), omega (arith, begins.count_is, ap length cut.parts, long))
 
@@ -83,40 +87,78 @@ begins_parts text command count begins =
 -- the whole command is the one that is read
 pub begins_first : (text : List ℕ) (command : WholeCommand) (count : ℕ) → Begins text command count → first_command text ≡ Some command
 begins_first text command count begins =
-    let said = says_said (words_of_line begins.content) begins.line begins.says in
-    let asked = asks_asked begins.line begins.behind command.request begins.more begins.asks in
-    something_asked text begins.content begins.behind begins.line command.request begins.more begins.cut said asked
+    let asked = asks_asked (line_of (words_of_line begins.content)) begins.behind command.request begins.more begins.asks in
+    something_asked text begins.content begins.behind command.request begins.more begins.cut asked
     ∙ ap (λ n. Some (record { request = command.request; spelling = take n text })) (sym begins.count_is)
     ∙ ap (λ spelling. Some (record { request = command.request; spelling = spelling })) (sym begins.spelling_is)
 
--- what is read is what a line asks for
-storage_asked : (header : Header) (behind : List ℕ) (request : Request) (more : ℕ) (block : Option (List ℕ))
-    → block_of header.bytes behind ≡ block
-    → option_and_then {U = Request × ℕ} (λ (b : List ℕ). Some (Store (storing header b), header.bytes + 2)) block ≡ Some (request, more)
-    → Asks (Storage header) behind request more
-storage_asked header behind request more None block_is is = cc
-storage_asked header behind request more (Some block) block_is is =
-    let has = block_of_has header.bytes behind block block_is in
-    let same = some_pair (Store (storing header block)) request (header.bytes + 2) more is in
-    (block, has.0, has.1, sym same.0, sym same.1)
+-- what is read behind a storage line is what it asks for
+end_asks : (header : Header) (behind : List ℕ) (ended : Bool) (extra : ℕ) → IsEnd (drop header.bytes behind) ended extra
+    → Asks (Storage header) behind (stored header (take header.bytes behind) ended) (header.bytes + extra)
+end_asks header behind true extra ends =
+    let bytes = header.bytes in
+    let within : bytes ≤ length behind = omega (arith, length-drop bytes behind, ap length ends.0) in
+    inl (
+      take bytes behind,
+      record {
+        after = drop 2 (drop bytes behind);
+        behind_is = sym (take-append-drop bytes behind) ∙ ap (λ rest. take bytes behind ++ rest) ends.0;
+        length_is = length-take-le bytes behind within;
+      },
+      refl,
+      ap (λ n. bytes + n) ends.1,
+    )
+end_asks header behind false extra ends =
+    let bytes = header.bytes in
+    let within : bytes ≤ length behind = omega (arith, length-drop bytes behind, ends.two) in
+    inr (
+      extra,
+      record {
+        block = take bytes behind;
+        tail = drop bytes behind;
+        other = ends.other;
+        after = ends.after;
+        behind_is = sym (take-append-drop bytes behind);
+        length_is = length-take-le bytes behind within;
+        two = ends.two;
+        differs = ends.differs;
+        cut = ends.cut;
+        extra_is = ends.more_is;
+      },
+      refl,
+      refl,
+    )
+
+-- once what stands behind the block is known
+storage_asked : (header : Header) (behind : List ℕ) (request : Request) (more : ℕ) (end : Option (Bool × ℕ))
+    → line_end (drop header.bytes behind) ≡ end
+    → option_map {U = Request × ℕ} (λ (e : Bool × ℕ). (stored header (take header.bytes behind) e.0, header.bytes + e.1)) end
+    ≡ Some (request, more) → Asks (Storage header) behind request more
+storage_asked header behind request more None found is = cc
+storage_asked header behind request more (Some end) found is =
+    let asks = end_asks header behind end.0 end.1 (end_is (drop header.bytes behind) end.0 end.1 found) in
+    let same = some_pair (stored header (take header.bytes behind) end.0) request (header.bytes + end.1) more is in
+    subst (λ r. Asks (Storage header) behind r more) same.0
+    (subst (λ n. Asks (Storage header) behind (stored header (take header.bytes behind) end.0) n) same.1 asks)
 
 -- what is read of a line is what it asks for
 pub asked_asks : (line : Line) (behind : List ℕ) (request : Request) (more : ℕ) → asked_by line behind ≡ Some (request, more)
     → Asks line behind request more
 unfolding asked_by
-asked_asks (Storage header) behind request more is = storage_asked header behind request more (block_of header.bytes behind) refl is
-asked_asks (Retrieval uniques keys) behind request more is =
-    let same = some_pair (Get uniques keys) request 0 more is in
+asked_asks (Storage header) behind request more is =
+    storage_asked header behind request more (line_end (drop header.bytes behind)) refl is
+asked_asks (Whole asked) behind request more is =
+    let same = some_pair asked request 0 more is in
     (sym same.0, sym same.1)
 
 -- a command that is read begins the text: once its line is known
-read_asked : (text content behind : List ℕ) (line : Line) (command : WholeCommand) (asked : Option (Request × ℕ))
-    → IsCutAt 10 text content behind → Says (words_of_line content) line → asked_by line behind ≡ asked
-    → option_and_then {U = WholeCommand}
-    (λ (a : Request × ℕ). Some (record { request = a.0; spelling = take (length content + 1 + a.1) text })) asked ≡ Some command
+read_asked : (text content behind : List ℕ) (command : WholeCommand) (asked : Option (Request × ℕ)) → IsCutAt 10 text content behind
+    → asked_by (line_of (words_of_line content)) behind ≡ asked
+    → option_map {U = WholeCommand}
+    (λ (a : Request × ℕ). record { request = a.0; spelling = take (length content + 1 + a.1) text }) asked ≡ Some command
     → (count : ℕ) × Begins text command count
-read_asked text content behind line command None cut says asked_is is = cc
-read_asked text content behind line command (Some asked) cut says asked_is is =
+read_asked text content behind command None cut asked_is is = cc
+read_asked text content behind command (Some asked) cut asked_is is =
     let read : WholeCommand = record { request = asked.0; spelling = take (length content + 1 + asked.1) text } in
     let same : read ≡ command = cc in (
       length content + 1 + asked.1,
@@ -124,42 +166,30 @@ read_asked text content behind line command (Some asked) cut says asked_is is =
           (record {
             content = content;
             behind = behind;
-            line = line;
             more = asked.1;
             cut = cut;
-            says = says;
-            asks = asked_asks line behind asked.0 asked.1 asked_is;
+            asks = asked_asks (line_of (words_of_line content)) behind asked.0 asked.1 asked_is;
             count_is = refl;
             spelling_is = refl;
           }),
     )
 
--- once the content of the line is known
-read_said : (text content behind : List ℕ) (command : WholeCommand) (line : Option Line) → IsCutAt 10 text content behind
-    → said_by (words_of_line content) ≡ line
-    → option_and_then (λ (l : Line). option_and_then {U = WholeCommand}
-    (λ (a : Request × ℕ). Some (record { request = a.0; spelling = take (length content + 1 + a.1) text })) (asked_by l behind)) line
-    ≡ Some command → (count : ℕ) × Begins text command count
-read_said text content behind command None cut said is = cc
-read_said text content behind command (Some line) cut said is =
-    read_asked text content behind line command (asked_by line behind) cut (said_says (words_of_line content) line said) refl is
-
 -- from the whole text
-read_cut : (text : List ℕ) (command : WholeCommand) (cut : Option (List ℕ × List ℕ)) → cut_first 10 text ≡ cut
-    → option_and_then (λ (p : List ℕ × List ℕ). option_and_then
-    (λ (l : Line). option_and_then {U = WholeCommand}
-    (λ (a : Request × ℕ). Some (record { request = a.0; spelling = take (length p.0 + 1 + a.1) text })) (asked_by l p.1))
-    (said_by (words_of_line p.0))) cut ≡ Some command → (count : ℕ) × Begins text command count
+read_cut : (text : List ℕ) (command : WholeCommand) (cut : Option (List ℕ × List ℕ)) → at_line_end text ≡ cut
+    → option_and_then (λ (p : List ℕ × List ℕ). option_map {U = WholeCommand}
+    (λ (a : Request × ℕ). record { request = a.0; spelling = take (length p.0 + 1 + a.1) text })
+    (asked_by (line_of (words_of_line p.0)) p.1)) cut ≡ Some command → (count : ℕ) × Begins text command count
 read_cut text command None cut is = cc
 read_cut text command (Some parts) cut is =
-    read_said text parts.0 parts.1 command (said_by (words_of_line parts.0)) (cut_first_cuts 10 text parts.0 parts.1 cut) refl is
+    read_asked text parts.0 parts.1 command (asked_by (line_of (words_of_line parts.0)) parts.1)
+    (cut_is 10 text parts.0 parts.1 cut) refl is
 
 -- the command that is read begins the text
 pub first_begins : (text : List ℕ) (command : WholeCommand) → first_command text ≡ Some command
     → Begins text command (length command.spelling)
 unfolding first_command
 first_begins text command is =
-    let read = read_cut text command (cut_first 10 text) refl is in
+    let read = read_cut text command (at_line_end text) refl is in
     subst (λ n. Begins text command n) (sym (begins_count text command read.0 read.1)) read.1
 
 -- where nothing is read, no whole command begins the text

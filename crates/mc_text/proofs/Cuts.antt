@@ -1,62 +1,11 @@
 -- A text that is cut at the first such byte.
-use Rattle.std.proofs.Common.{
-  ◌≡◌,
-  ℕ,
-  ◌<◌,
-  zero,
-  suc,
-  Bool,
-  List,
-  [],
-  ◌∷◌,
-  ◌++◌,
-  length,
-  get_or,
-  eqb,
-  true,
-  false,
-  cond,
-  Option,
-  Some,
-  None,
-  option_map,
-  refl,
-  ap,
-  subst,
-  arith,
-}
+use Rattle.std.proofs.Common.{◌≡◌, ℕ, ◌<◌, zero, suc, Bool, List, [], ◌∷◌, ◌++◌, length, get_or, eqb, true, false, cond, Option, Some, None, option_map}
+use Rattle.std.proofs.Common.{refl, ap, subst, arith}
 use Rattle.std.specs.List.{Contains}
-use Rattle.std.proofs.lemmas.Bool.{ne_eqb, eq-eqb, eqb-true, eqb-false}
-use Rattle.byte_text.specs.Cuts.{IsCutAt}
-use Rattle.mc_text.specs.Reading.{cut_first}
+use Rattle.std.specs.Prelude.{◌==◌}
+use Rattle.std.proofs.lemmas.Bool.{eqb-true, eqb-false}
+use Rattle.byte_text.specs.Cuts.{IsCutAt, cut}
 use Rattle.mc_text.proofs.Pairs.{some_pair}
-
--- what a text with a byte in front lacks
-head_differs : (byte first : ℕ) (more : List ℕ) → ¬ (Contains (first ∷ more) byte) → first ≡ byte → ⊥
-head_differs byte first more lacks same = lacks (0, omega arith, same)
-
--- and what its rest lacks
-tail_lacks : (byte first : ℕ) (more : List ℕ) → ¬ (Contains (first ∷ more) byte) → ¬ (Contains more byte)
-tail_lacks byte first more lacks = λ has. lacks (suc has.0, omega (arith, has.1), has.2)
-
--- the parts of a text are found
-cut_first_parts : (byte : ℕ) (before behind : List ℕ) → ¬ (Contains before byte)
-    → cut_first byte (before ++ (byte ∷ behind)) ≡ Some (before, behind)
-unfolding cut_first
-cut_first_parts byte [] behind lacks = rw (eq-eqb byte byte refl) refl
-cut_first_parts byte (first ∷ more) behind lacks =
-    rw (ne_eqb first byte (head_differs byte first more lacks), cut_first_parts byte more behind (tail_lacks byte first more lacks)) refl
-
--- the cut of a text is the one that is found
-pub cut_first_is : (byte : ℕ) (text before behind : List ℕ) → IsCutAt byte text before behind → cut_first byte text ≡ Some (before, behind)
-cut_first_is byte text before behind cut = rw cut.parts (cut_first_parts byte before behind cut.first)
-
--- a text without the byte has no cut
-pub cut_first_none : (byte : ℕ) (text : List ℕ) → ¬ (Contains text byte) → cut_first byte text ≡ None
-unfolding cut_first
-cut_first_none byte [] lacks = refl
-cut_first_none byte (first ∷ more) lacks =
-    rw (ne_eqb first byte (head_differs byte first more lacks), cut_first_none byte more (tail_lacks byte first more lacks)) refl
 
 -- no place of a list has the byte, if neither its head nor a place of its rest has
 lacking : (byte first : ℕ) (more : List ℕ) → (first ≡ byte → ⊥) → ¬ (Contains more byte) → (k : ℕ) → k < length (first ∷ more)
@@ -66,12 +15,11 @@ lacking byte first more other lacks (suc k) within is = lacks (k, omega arith, i
 
 -- a list lacks the byte, if its head and its rest do
 cons_lacks : (byte first : ℕ) (more : List ℕ) → (first ≡ byte → ⊥) → ¬ (Contains more byte) → ¬ (Contains (first ∷ more) byte)
-cons_lacks byte first more other lacks has =
-    lacking byte first more other lacks has.0 has.1 has.2
+cons_lacks byte first more other lacks has = lacking byte first more other lacks has.0 has.1 has.2
 
 -- the cut of a text by its first byte, and the cut of the rest
 found_in : (byte first : ℕ) (more before behind : List ℕ) (same : Bool) (later : Option (List ℕ × List ℕ)) → eqb first byte ≡ same
-    → cut_first byte more ≡ later → ((b c : List ℕ) → cut_first byte more ≡ Some (b, c) → IsCutAt byte more b c)
+    → cut (λ b. b == byte) more ≡ later → ((b c : List ℕ) → cut (λ x. x == byte) more ≡ Some (b, c) → IsCutAt byte more b c)
     → cond {A = Option (List ℕ × List ℕ)} same (Some ([], more)) (option_map (λ parts. (first ∷ parts.0, parts.1)) later)
     ≡ Some (before, behind) → IsCutAt byte (first ∷ more) before behind
 found_in byte first more before behind true later same_is later_is cuts is =
@@ -90,9 +38,7 @@ found_in byte first more before behind false (Some parts) same_is later_is cuts 
     (record { parts = ap (λ rest. first ∷ rest) cut.parts; first = cons_lacks byte first parts.0 other cut.first }))
 
 -- the cut that is found is one
-pub cut_first_cuts : (byte : ℕ) (text before behind : List ℕ) → cut_first byte text ≡ Some (before, behind)
-    → IsCutAt byte text before behind
-unfolding cut_first
-cut_first_cuts byte [] before behind is = cc
-cut_first_cuts byte (first ∷ more) before behind is =
-    found_in byte first more before behind (eqb first byte) (cut_first byte more) refl refl (cut_first_cuts byte more) is
+pub cut_is : (byte : ℕ) (text before behind : List ℕ) → cut (λ b. b == byte) text ≡ Some (before, behind) → IsCutAt byte text before behind
+cut_is byte [] before behind is = cc
+cut_is byte (first ∷ more) before behind is =
+    found_in byte first more before behind (eqb first byte) (cut (λ b. b == byte) more) refl refl (cut_is byte more) is

@@ -1,9 +1,7 @@
-pub mod Numbers
-pub mod Pairs
-pub mod Cuts
-pub mod Blocks
-pub mod Steps
-pub mod Lines
-pub mod Beginnings
-pub mod Sections
-pub mod Forms
+mod Pairs
+mod Cuts
+mod Numbers
+mod Blocks
+mod Steps
+mod Beginnings
+mod Sections

@@ -1,50 +1,55 @@
 -- The command at the front of a text, step by step.
-use Rattle.std.proofs.Common.{◌≡◌, ℕ, Bool, add-zero, ◌+◌, List, length, take, Some, None, refl}
+use Rattle.std.proofs.Common.{◌≡◌, ℕ, Bool, add-zero, ◌+◌, ◌≤◌, List, length, take, drop, Some, None, refl, arith}
 use Rattle.std.specs.List.{Contains}
+use Rattle.std.proofs.lemmas.List.{length-drop}
 use Rattle.byte_text.specs.Cuts.{IsCutAt}
-use Rattle.mc_text.specs.Request.{Request, Store, Get}
-use Rattle.mc_text.specs.Begins.{storing}
-use Rattle.mc_text.specs.Line.{Header, Line, Storage, Retrieval, words_of_line}
-use Rattle.mc_text.specs.Reading.{said_by, asked_by, block_of, first_command}
-use Rattle.mc_text.proofs.Cuts.{cut_first_is, cut_first_none}
+use Rattle.mc_text.specs.Request.{Request}
+use Rattle.mc_text.specs.Line.{Header, Storage, Whole, words_of_line, line_of}
+use Rattle.mc_text.specs.Reading.{asked_by, line_end, stored, first_command}
+use Rattle.byte_text.proofs.CutLaws.{cut-from_IsCutAt, cut-from_lacks}
+use Rattle.mc_text.proofs.Blocks.{end_short}
 
 -- a text without a line
 pub no_line : (text : List ℕ) → ¬ (Contains text 10) → first_command text ≡ None
 unfolding first_command
-no_line text lacks = rw (cut_first_none 10 text lacks) refl
+no_line text lacks = rw (cut-from_lacks 10 text lacks) refl
 
--- a line that says nothing
-pub nothing_said : (text content behind : List ℕ) → IsCutAt 10 text content behind → said_by (words_of_line content) ≡ None
-    → first_command text ≡ None
-unfolding first_command
-nothing_said text content behind cut said = rw (cut_first_is 10 text content behind cut, said) refl
+-- a line that is a command by itself
+pub whole_line : (text content behind : List ℕ) (request : Request) → IsCutAt 10 text content behind
+    → line_of (words_of_line content) ≡ Whole request
+    → first_command text ≡ Some (record { request = request; spelling = take (length content + 1) text })
+unfolding first_command asked_by
+whole_line text content behind request cut said = rw (cut-from_IsCutAt 10 text content behind cut, said, add-zero) refl
 
--- a storage line without its block
+-- a storage line whose block and line end aren't there
+pub no_end : (text content behind : List ℕ) (header : Header) → IsCutAt 10 text content behind
+    → line_of (words_of_line content) ≡ Storage header → line_end (drop header.bytes behind) ≡ None → first_command text ≡ None
+unfolding first_command asked_by
+no_end text content behind header cut said ends = rw (cut-from_IsCutAt 10 text content behind cut, said, ends) refl
+
+-- a storage line whose block isn't there
 pub no_block : (text content behind : List ℕ) (header : Header) → IsCutAt 10 text content behind
-    → said_by (words_of_line content) ≡ Some (Storage header) → block_of header.bytes behind ≡ None → first_command text ≡ None
-unfolding first_command asked_by
-no_block text content behind header cut said block = rw (cut_first_is 10 text content behind cut, said, block) refl
+    → line_of (words_of_line content) ≡ Storage header → length behind ≤ header.bytes → first_command text ≡ None
+no_block text content behind header cut said few =
+    no_end text content behind header cut said
+    (end_short (drop header.bytes behind) (omega (arith, length-drop header.bytes behind)))
 
--- a storage line and its block
-pub stored : (text content behind : List ℕ) (header : Header) (block : List ℕ) → IsCutAt 10 text content behind
-    → said_by (words_of_line content) ≡ Some (Storage header) → block_of header.bytes behind ≡ Some block
+-- a storage line, its block and its line end
+pub with_block : (text content behind : List ℕ) (header : Header) (ended : Bool) (more : ℕ) → IsCutAt 10 text content behind
+    → line_of (words_of_line content) ≡ Storage header → line_end (drop header.bytes behind) ≡ Some (ended, more)
     → first_command text
-    ≡ Some (record { request = Store (storing header block); spelling = take (length content + 1 + (header.bytes + 2)) text })
+    ≡ Some (record {
+      request = stored header (take header.bytes behind) ended;
+      spelling = take (length content + 1 + (header.bytes + more)) text;
+    })
 unfolding first_command asked_by
-stored text content behind header block cut said is = rw (cut_first_is 10 text content behind cut, said, is) refl
-
--- a retrieval line
-pub retrieved : (text content behind : List ℕ) (uniques : Bool) (keys : List (List ℕ)) → IsCutAt 10 text content behind
-    → said_by (words_of_line content) ≡ Some (Retrieval uniques keys)
-    → first_command text ≡ Some (record { request = Get uniques keys; spelling = take (length content + 1) text })
-unfolding first_command asked_by
-retrieved text content behind uniques keys cut said = rw (cut_first_is 10 text content behind cut, said, add-zero) refl
+with_block text content behind header ended more cut said ends = rw (cut-from_IsCutAt 10 text content behind cut, said, ends) refl
 
 -- a line that asks for something
-pub something_asked : (text content behind : List ℕ) (line : Line) (request : Request) (more : ℕ) → IsCutAt 10 text content behind
-    → said_by (words_of_line content) ≡ Some line → asked_by line behind ≡ Some (request, more)
+pub something_asked : (text content behind : List ℕ) (request : Request) (more : ℕ) → IsCutAt 10 text content behind
+    → asked_by (line_of (words_of_line content)) behind ≡ Some (request, more)
     → first_command text ≡ Some (record { request = request; spelling = take (length content + 1 + more) text })
 unfolding first_command
-something_asked text content behind line request more cut said asks = rw (cut_first_is 10 text content behind cut, said, asks) refl
+something_asked text content behind request more cut asks = rw (cut-from_IsCutAt 10 text content behind cut, asks) refl
 
-pub ruleset steps = (no_line, nothing_said, no_block, stored, retrieved)
+pub ruleset steps = (no_line, whole_line, no_end, no_block, with_block)

@@ -4,11 +4,9 @@ use Rattle.std.specs.Prelude.{
   zero,
   suc,
   ◌+◌,
-  ◌^◌,
   Bool,
   true,
   false,
-  ◌&&◌,
   List,
   [],
   ◌∷◌,
@@ -22,113 +20,56 @@ use Rattle.std.specs.Prelude.{
   option_and_then,
   codes,
   nat_lt,
-  nat_le,
   nat_eq,
   ◌==◌,
   if◌then◌else◌,
 }
-use Rattle.std.specs.List.{list_all, starts_with}
+use Rattle.std.specs.List.{starts_with}
 use Rattle.std.specs.Option.{option_map_or}
-use Rattle.std.specs.Str.{bytes_eq}
-use Rattle.mc_text.specs.declared.command.How.{How}
-use Rattle.mc_text.specs.declared.command.How.TheVariants.{Set}
-use Rattle.mc_text.specs.Request.{Request, Store, Get, WholeCommand}
-use Rattle.byte_text.specs.Numerals.{number_below}
-use Rattle.mc_text.specs.Field.{is_key, exptime_of}
-use Rattle.mc_text.specs.Line.{words_of_line, Header, Line, Storage, Retrieval}
-use Rattle.mc_text.specs.Begins.{value_limit, storing}
+use Rattle.byte_text.specs.Cuts.{cut}
+use Rattle.mc_text.specs.declared.command.LineFault.TheVariants.{Chunk}
+use Rattle.mc_text.specs.Request.{Request, Store, Bad, WholeCommand, is_quit}
+use Rattle.mc_text.specs.Line.{words_of_line, line_of, Header, Line, Storage, Whole}
+use Rattle.mc_text.specs.Begins.{limited, storing}
 
-infixl 10 ◌>>=◌
-abbrev pub ◌>>=◌ : {A B : Type 0} → Option A → (A → Option B) → Option B
-o >>= f = option_and_then f o
+-- what stands before the first `\n`, and what stands behind it
+abbrev pub at_line_end : List ℕ → Option (List ℕ × List ℕ)
+at_line_end text = cut (λ byte. byte == 10) text
 
-abbrev pub only_if : Bool → Option (Unit {0})
-only_if true = Some tt
-only_if false = None
+-- how many bytes behind a block through the next `\n`, and whether they are `\r\n`; none where less than two bytes or no `\n` stand there
+unfoldable pub line_end : List ℕ → Option (Bool × ℕ)
+line_end tail =
+    if nat_lt (length tail) 2 then None
+    else if starts_with nat_eq tail (codes "\r\n") then Some (true, 2)
+    else option_map (λ parts. (false, length parts.0 + 1)) (at_line_end tail)
 
--- what stands before the first such byte, and what stands behind it
-unfoldable pub cut_first : ℕ → List ℕ → Option (List ℕ × List ℕ)
-cut_first byte [] = None
-cut_first byte (first ∷ more) =
-    if first == byte then Some ([], more) else option_map (λ parts. (first ∷ parts.0, parts.1)) (cut_first byte more)
-
--- the words of a storage line behind its name
-pub record Fields : Type 0 where
-  pub key : List ℕ
-  pub flags : List ℕ
-  pub exptime : List ℕ
-  pub bytes : List ℕ
-  pub quiet : Bool
-
--- whether the words behind the last field ask for no reply
-unfoldable pub quiet_of : List (List ℕ) → Option Bool
-quiet_of [] = Some false
-quiet_of (word ∷ []) = if bytes_eq word (codes "noreply") then Some true else None
-quiet_of (_ ∷ _ ∷ _) = None
-
-unfoldable pub fields_of : List (List ℕ) → Option Fields
-fields_of [] = None
-fields_of (key ∷ []) = None
-fields_of (key ∷ flags ∷ []) = None
-fields_of (key ∷ flags ∷ exptime ∷ []) = None
-fields_of (key ∷ flags ∷ exptime ∷ bytes ∷ more) = do
-  quiet ← quiet_of more
-  Some (record { key = key; flags = flags; exptime = exptime; bytes = bytes; quiet = quiet })
-
--- what the words of a storage line say
-unfoldable pub header_of : How → Fields → Option Header
-header_of how fields = do
-  _ ← only_if (is_key fields.key)
-  flags ← number_below (2 ^ 32) fields.flags
-  exptime ← exptime_of fields.exptime
-  bytes ← number_below (2 ^ 32) fields.bytes
-  Some (record { how = how; key = fields.key; flags = flags; exptime = exptime; bytes = bytes; unique = 0; quiet = fields.quiet })
-
-unfoldable pub storage_of : How → List (List ℕ) → Option Line
-storage_of how words = do
-  fields ← fields_of words
-  header ← header_of how fields
-  Some (Storage header)
-
--- the keys of a retrieval line
-unfoldable pub retrieval_of : List (List ℕ) → Option Line
-retrieval_of keys = if nat_lt 0 (length keys) && list_all is_key keys then Some (Retrieval false keys) else None
-
--- what the words of a line say
-unfoldable pub said_by : List (List ℕ) → Option Line
-said_by [] = None
-said_by (name ∷ words) =
-    if bytes_eq name (codes "set") then storage_of Set words else (if bytes_eq name (codes "get") then retrieval_of words else None)
-
--- the block behind a storage line, where `\r\n` follows it and it isn't too long
-unfoldable pub block_of : ℕ → List ℕ → Option (List ℕ)
-block_of bytes behind =
-    if starts_with nat_eq (drop bytes behind) (codes "\r\n") && nat_le bytes value_limit then Some (take bytes behind) else None
+-- what a storage line asks for, by its block and whether `\r\n` follows that
+abbrev pub stored : Header → List ℕ → Bool → Request
+stored header block ended = limited header.bytes (if ended then Store (storing header block) else Bad Chunk)
 
 -- what a line asks for, with what stands behind it, and how many bytes behind it belong to the command
 unfoldable pub asked_by : Line → List ℕ → Option (Request × ℕ)
-asked_by (Storage header) behind = do
-  block ← block_of header.bytes behind
-  Some (Store (storing header block), header.bytes + 2)
-asked_by (Retrieval uniques keys) behind = Some (Get uniques keys, 0)
+asked_by (Whole request) behind = Some (request, 0)
+asked_by (Storage header) behind =
+    option_map (λ end. (stored header (take header.bytes behind) end.0, header.bytes + end.1)) (line_end (drop header.bytes behind))
 
 -- the whole command at the front of a text
 unfoldable pub first_command : List ℕ → Option WholeCommand
-first_command text = do
-  cut ← cut_first 10 text
-  line ← said_by (words_of_line cut.0)
-  asked ← asked_by line cut.1
-  Some (record { request = asked.0; spelling = take (length cut.0 + 1 + asked.1) text })
+first_command text =
+    option_and_then (λ line. option_map
+    (λ asked. record { request = asked.0; spelling = take (length line.0 + 1 + asked.1) text })
+    (asked_by (line_of (words_of_line line.0)) line.1)) (at_line_end text)
 
--- a command in front of what is read behind it
-abbrev pub in_front : WholeCommand → List WholeCommand × List ℕ → List WholeCommand × List ℕ
-in_front command read = (command ∷ read.0, read.1)
+-- a command in front of what is read behind it; behind `quit` nothing is
+abbrev pub in_front : WholeCommand → List ℕ → List WholeCommand × List ℕ → List WholeCommand × List ℕ
+in_front command behind read = if is_quit command.request then (command ∷ [], behind) else (command ∷ read.0, read.1)
 
 -- the commands at the front of a text, and what stands behind them; at most so many
 unfoldable pub read_within : ℕ → List ℕ → List WholeCommand × List ℕ
 read_within zero text = ([], text)
 read_within (suc k) text =
-    option_map_or (λ command. in_front command (read_within k (drop (length command.spelling) text))) (first_command text) ([], text)
+    option_map_or (λ command. let behind = drop (length command.spelling) text in in_front command behind (read_within k behind))
+    (first_command text) ([], text)
 
 -- the commands of a section, and its rest: a command has at least one byte
 unfoldable pub commands_of : List ℕ → List WholeCommand

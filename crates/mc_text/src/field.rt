@@ -1,49 +1,148 @@
 // The words of a line that carry a value.
 ghost use Rattle.std.specs.Prelude.{◌≡◌, ◌+◌, ◌^◌, ◌≤◌, IfSome};
+ghost use Rattle.std.specs.List.{list_all};
 ghost use Rattle.byte_text.specs.Numerals.{number_below};
-ghost use Rattle.mc_text.specs.Field.{is_key, exptime_of};
+ghost use Rattle.byte_text.specs.Words.{words_left};
+ghost use Rattle.mc_text.specs.Field.{
+  is_key,
+  expiry_in,
+  key_of,
+  keys_of,
+  number32_of,
+  exptime_of,
+  unique_of,
+  delta_of,
+  level_of,
+  quiet_of,
+};
+ghost use Rattle.mc_text.specs.Keys.{keys_left};
+ghost use Rattle.mc_text.specs.View.{Answers};
 
-use byte_text::{Numeral, read_numeral};
+use crate::command::LineFault;
+use crate::keys::Keys;
+use byte_text::{Numeral, Words, number_up_to, read_numeral};
 
 // The greatest number of bytes of a key.
 const KEY_LIMIT: usize = 250;
 
-/// Whether a word is a key.
-pub(crate) fn is_key(word: &[u8]) -> bool
+/// The word as a key.
+#[tactic(auto, unfolding(crate::specs::Field::key_of))]
+pub(crate) fn read_key(word: &[u8]) -> Result<&[u8], LineFault>
+    ensures { Answers (λ key. key.now) (key_of word.now) result }
+{
+    if is_key(word) {
+        Ok(word)
+    } else {
+        Err(LineFault::Format)
+    }
+}
+
+// Whether a word is a key.
+fn is_key(word: &[u8]) -> bool
     ensures { result ≡ is_key word.now }
 {
     word.len() <= KEY_LIMIT && word.iter().all(|byte| *byte > b' ' && *byte != 127)
 }
 
-// The number that a word writes, where it is at most `greatest`.
-fn read_number(greatest: u64, word: &[u8]) -> Option<u64>
-    ensures value { result ≡ number_below (greatest + 1) word.now }
-    ensures bound { IfSome result (λ number. number ≤ greatest) }
+/// The words as keys, of which there is one at least.
+#[tactic(auto, unfolding(crate::specs::Field::keys_of))]
+pub(crate) fn read_keys<'a>(words: Words<'a>) -> Result<Keys<'a>, LineFault>
+    ensures { Answers (λ keys. keys_left keys) (keys_of (words_left words.entry)) result }
 {
-    match read_numeral(10, word, greatest) {
-        Numeral::Number(number) => Some(number),
-        Numeral::TooLarge | Numeral::NotNumeral => None,
+    let mut more = words;
+    if more.next().is_none() {
+        return Err(LineFault::Unknown);
+    }
+    if are_keys(words) {
+        Ok(Keys::new(words))
+    } else {
+        Err(LineFault::Format)
     }
 }
 
-/// The number of at most 32 bits that a word writes.
-pub(crate) fn read_u32(word: &[u8]) -> Option<u32>
-    ensures { result ≡ number_below (2 ^ 32) word.now }
+// Whether each word is a key.
+fn are_keys(mut words: Words<'_>) -> bool
+    ensures { result ≡ list_all is_key (words_left words.entry) }
 {
-    let number = read_number(4_294_967_295, word)?;
-    Some(number as u32)
+    while let Some(word) = words.next() {
+        if !is_key(word) {
+            return false;
+        }
+    }
+    true
+}
+
+/// The number of at most 32 bits that a word writes.
+#[tactic(auto, unfolding(crate::specs::Field::number32_of))]
+pub(crate) fn read_number32(word: &[u8]) -> Result<u32, LineFault>
+    ensures { Answers (λ number. number) (number32_of word.now) result }
+{
+    match number_up_to(4_294_967_295, word) {
+        Some(number) => Ok(number as u32),
+        None => Err(LineFault::Format),
+    }
+}
+
+/// The unique that a word writes.
+#[tactic(auto, unfolding(crate::specs::Field::unique_of))]
+pub(crate) fn read_unique(word: &[u8]) -> Result<u64, LineFault>
+    ensures { Answers (λ number. number) (unique_of word.now) result }
+{
+    number_up_to(u64::MAX, word).ok_or(LineFault::Format)
+}
+
+/// The delta that a word writes.
+#[tactic(auto, unfolding(crate::specs::Field::delta_of))]
+pub(crate) fn read_delta(word: &[u8]) -> Result<u64, LineFault>
+    ensures { Answers (λ number. number) (delta_of word.now) result }
+{
+    number_up_to(u64::MAX, word).ok_or(LineFault::Delta)
 }
 
 /// The expiry time that a word writes.
-pub(crate) fn read_exptime(word: &[u8]) -> Option<i32>
-    ensures { result ≡ exptime_of word.now }
+#[tactic(auto, unfolding(crate::specs::Field::exptime_of))]
+pub(crate) fn read_exptime(word: &[u8]) -> Result<i32, LineFault>
+    ensures { Answers (λ time. time) (exptime_of word.now) result }
+{
+    read_expiry(word).ok_or(LineFault::Format)
+}
+
+// The expiry time that a word writes, if it does.
+fn read_expiry(word: &[u8]) -> Option<i32>
+    ensures { result ≡ expiry_in word.now }
 {
     let (first, digits) = word.split_first()?;
     if *first == b'-' {
-        let number = read_number(2_147_483_648, digits)?;
+        let number = number_up_to(2_147_483_648, digits)?;
         Some((0 - number as i64) as i32)
     } else {
-        let number = read_number(2_147_483_647, word)?;
+        let number = number_up_to(2_147_483_647, word)?;
         Some(number as i32)
+    }
+}
+
+/// Whether a word is a level of logging, of any size.
+#[tactic(auto, unfolding(crate::specs::Field::level_of))]
+pub(crate) fn read_level(word: &[u8]) -> Result<(), LineFault>
+    ensures { Answers (λ _. tt) (level_of word.now) result }
+{
+    match read_numeral(10, word, 0) {
+        Numeral::Number(_) | Numeral::TooLarge => Ok(()),
+        Numeral::NotNumeral => Err(LineFault::Format),
+    }
+}
+
+/// Whether the words behind a line's values ask for no reply.
+#[tactic(auto, unfolding(crate::specs::Field::quiet_of))]
+pub(crate) fn read_quiet(mut words: Words<'_>) -> Result<bool, LineFault>
+    ensures { Answers (λ quiet. quiet) (quiet_of (words_left words.entry)) result }
+{
+    let Some(word) = words.next() else {
+        return Ok(false);
+    };
+    if words.next().is_none() && word == b"noreply".as_slice() {
+        Ok(true)
+    } else {
+        Err(LineFault::Unknown)
     }
 }

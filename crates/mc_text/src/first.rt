@@ -1,12 +1,10 @@
 // The command at the front of a text.
-ghost use Rattle.std.specs.Prelude.{◌≡◌, ◌+◌, ◌≤◌, ◌↔◌, length, IsTrue, IfSome, option_map};
-ghost use Rattle.mc_text.specs.Request.{Store, view};
-ghost use Rattle.mc_text.specs.Begins.{storing};
+ghost use Rattle.std.specs.Prelude.{◌≡◌, ◌+◌, ◌≤◌, length, IfSome, option_map};
+ghost use Rattle.mc_text.specs.Request.{view, request_of, spelling_of};
 ghost use Rattle.mc_text.specs.View.{header_view};
-ghost use Rattle.mc_text.specs.Reading.{block_of, first_command};
-ghost use Rattle.mc_text.specs.Section.{IsBadBlock, IsUnbuiltForm};
+ghost use Rattle.mc_text.specs.Reading.{line_end, stored, first_command};
 
-use crate::command::Command;
+use crate::command::{Command, LineFault};
 use crate::line::{Header, Line, read_line};
 use byte_text::cut_at;
 
@@ -20,24 +18,51 @@ pub(crate) fn first_command(text: &[u8]) -> Option<Command<'_>>
 {
     let (content, behind) = cut_at(text, b'\n')?;
     let line_length = content.len() + 1;
-    match read_line(content)? {
+    match read_line(content, &text[..line_length]) {
+        Line::Whole(command) => Some(command),
         Line::Storage(header) => {
-            let block = read_block(header.bytes, behind)?;
-            Some(store(header, block, &text[..line_length + block.len() + 2]))
+            let (block, tail) = behind.split_at_checked(header.bytes as usize)?;
+            let (ended, more) = line_end(tail)?;
+            let spelling = &text[..line_length + block.len() + more];
+            Some(stored(header, block, ended, spelling))
         }
-        Line::Retrieval { uniques, keys } => Some(Command::Get {
-            uniques,
-            keys,
-            spelling: &text[..line_length],
-        }),
     }
 }
 
-// The command of a storage line and its block.
-fn store<'a>(header: Header<'a>, block: &'a [u8], spelling: &'a [u8]) -> Command<'a>
-    ensures { view result
-        ≡ record { request = Store (storing (header_view header.entry) block.now); spelling = spelling.now } }
+// How many bytes behind a block through the next `\n`, and whether they are `\r\n`; none where less than two bytes or no `\n`
+// stand there.
+#[tactic(auto, using(crate::proofs::Blocks::ends))]
+fn line_end(tail: &[u8]) -> Option<(bool, usize)>
+    ensures value { result ≡ line_end tail.now }
+    ensures bound { IfSome result (λ end. end.1 ≤ length tail.now) }
 {
+    if tail.len() < 2 {
+        None
+    } else if tail.starts_with(b"\r\n") {
+        Some((true, 2))
+    } else {
+        let (other, _) = cut_at(tail, b'\n')?;
+        Some((false, other.len() + 1))
+    }
+}
+
+// What a storage line asks for, by its block and whether `\r\n` follows that.
+fn stored<'a>(header: Header<'a>, block: &'a [u8], ended: bool, spelling: &'a [u8]) -> Command<'a>
+    ensures request { request_of result ≡ stored (header_view header.entry) block.now ended }
+    ensures spelled { spelling_of result ≡ spelling.now }
+{
+    if header.bytes as usize > VALUE_LIMIT {
+        return Command::Bad {
+            fault: LineFault::TooLarge,
+            spelling,
+        };
+    }
+    if !ended {
+        return Command::Bad {
+            fault: LineFault::Chunk,
+            spelling,
+        };
+    }
     Command::Store {
         how: header.how,
         key: header.key,
@@ -47,43 +72,5 @@ fn store<'a>(header: Header<'a>, block: &'a [u8], spelling: &'a [u8]) -> Command
         block,
         quiet: header.quiet,
         spelling,
-    }
-}
-
-// The block behind a storage line, where `\r\n` follows it and it isn't too long.
-#[tactic(auto, unfolding(crate::specs::Reading::block_of))]
-fn read_block(bytes: u32, behind: &[u8]) -> Option<&[u8]>
-    ensures value { option_map (λ block. block.now) result ≡ block_of bytes behind.now }
-    ensures bound { IfSome result (λ block. (length block.now ≡ bytes) × (bytes + 2 ≤ length behind.now)) }
-{
-    let (block, after) = behind.split_at_checked(bytes as usize)?;
-    if after.starts_with(b"\r\n") && block.len() <= VALUE_LIMIT {
-        Some(block)
-    } else {
-        None
-    }
-}
-
-/// Whether a text begins with a line that isn't built, or with a storage line whose block can't be served.
-pub(crate) fn is_unbuilt_form(text: &[u8]) -> bool
-    ensures { IsTrue result ↔ IsUnbuiltForm text.now }
-{
-    let Some((content, behind)) = cut_at(text, b'\n') else {
-        return false;
-    };
-    match read_line(content) {
-        None => true,
-        Some(Line::Storage(header)) => is_bad_block(header.bytes, behind),
-        Some(Line::Retrieval { .. }) => false,
-    }
-}
-
-// Whether all bytes of a block and its line end are there, and it can't be served.
-fn is_bad_block(bytes: u32, behind: &[u8]) -> bool
-    ensures { IsTrue result ↔ IsBadBlock behind.now bytes }
-{
-    match read_block(bytes, behind) {
-        Some(_) => false,
-        None => behind.len() >= bytes as usize + 2,
     }
 }

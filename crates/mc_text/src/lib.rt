@@ -1,5 +1,4 @@
 //! Commands of memcached's text protocol, as parts of the text that they stand in. Nothing is copied.
-//! Built are `set` and `get`. `unbuilt` tells the sections in which another form stands behind the commands.
 #![tactic(auto)]
 
 mod command;
@@ -9,13 +8,15 @@ mod first;
 mod keys;
 mod laws;
 mod line;
+mod row;
+mod rows;
 mod section;
 
-pub use command::{Command, How};
+pub use command::{Command, How, LineFault};
 pub use commands::Commands;
 pub use keys::Keys;
 pub use laws::{at_most_one_command, one_reading};
-pub use section::{count, rest_of, unbuilt};
+pub use section::{count, rest_of};
 
 #[cfg(test)]
 mod tests;

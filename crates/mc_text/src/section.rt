@@ -1,11 +1,10 @@
 // What is said of a whole section.
-ghost use Rattle.std.specs.Prelude.{◌≡◌, ◌<◌, ◌≤◌, ◌^◌, ◌↔◌, ℕ, List, length, IsTrue};
+ghost use Rattle.std.specs.Prelude.{◌≡◌, ◌<◌, ◌≤◌, ◌^◌, ℕ, List, length};
 ghost use Rattle.mc_text.specs.Request.{WholeCommand};
-ghost use Rattle.mc_text.specs.Section.{Spelled, IsUnbuilt};
+ghost use Rattle.mc_text.specs.Section.{Spelled};
 ghost use Rattle.mc_text.specs.Reading.{commands_of, rest_of};
 
 use crate::commands::Commands;
-use crate::first::is_unbuilt_form;
 
 /// The number of commands of a section, which has fewer than 2^32 bytes.
 pub fn count(section: &[u8]) -> u32
@@ -22,19 +21,11 @@ pub fn count(section: &[u8]) -> u32
     number
 }
 
-/// What stands behind the commands of a section: the bytes from the first place where no whole command begins.
+/// What stands behind the commands of a section.
 pub fn rest_of(section: &[u8]) -> &[u8]
     ensures { result.now ≡ rest_of section.now }
 {
     let mut commands = Commands::new(section);
     while commands.next().is_some() {}
     commands.rest()
-}
-
-/// Whether a form that isn't built stands behind the commands of a section: a line that isn't a `set` or `get` line
-/// without a fault, or a `set` line whose bytes all came, but whose block is too long or isn't followed by `\r\n`.
-pub fn unbuilt(section: &[u8]) -> bool
-    ensures { IsTrue result ↔ IsUnbuilt section.now }
-{
-    is_unbuilt_form(rest_of(section))
 }

@@ -1,68 +1,83 @@
 // Examples from outside the definitions, by memcached's protocol.txt and this project's profile.
-use crate::{Command, Commands, count, unbuilt};
+use crate::{Command, Commands, LineFault, count, rest_of};
+use std::process::Abort;
 use std::test::Fail;
 
-// The number of bytes that are left behind the commands of a section.
-fn rest_length(section: &[u8]) -> usize {
-    let mut commands = Commands::new(section);
-    for _ in 0..section.len() {
-        let _ = commands.next();
+mod lines;
+
+/// What a text begins with.
+#[derive(Clone, Copy, Debug, PartialEq, Eq)]
+pub(crate) enum First {
+    /// No whole command.
+    Nothing,
+    /// A command without a fault.
+    Good,
+    /// A command with a fault.
+    Bad(LineFault),
+}
+
+// What a text begins with, and how many bytes that has.
+fn beginning(text: &[u8]) -> (First, usize) {
+    match Commands::new(text).next() {
+        None => (First::Nothing, 0),
+        Some(Command::Bad { fault, spelling }) => (First::Bad(fault), spelling.len()),
+        Some(command) => (First::Good, command.spelling().len()),
     }
-    commands.rest().len()
+}
+
+/// Each text is one command, which is this; and where it is cut short, it begins with none.
+pub(crate) fn agree(rt: &impl Abort, cases: &[(&[u8], First)]) {
+    for (text, want) in cases {
+        assert_eq!(rt; beginning(text), (*want, text.len()));
+        for end in 0..text.len() {
+            assert_eq!(rt; beginning(&text[..end]), (First::Nothing, 0));
+        }
+    }
 }
 
 #[test]
-fn counts_commands_and_finds_the_rest(rt: HostRuntime) {
-    let cases: [(&[u8], u32, usize, bool); 24] = [
-        (b"", 0, 0, false),
-        (b"get a\n", 1, 0, false),
-        (b"get a b a\r\nget  b \r\nget", 2, 3, false),
-        (b"get \r\n", 0, 6, true),
-        (b"\r\n", 0, 2, true),
-        (b"get a\r\r\n", 0, 8, true),
-        (b"get a\tb\r\n", 0, 9, true),
-        (b"gets a\r\n", 0, 8, true),
-        (b"get a\r\ndelete a\r\n", 1, 10, true),
-        (b"set a 5 0 1\r\nx\r\nget a\r\n", 2, 0, false),
-        (b"set a 5 0 1\nx\r\nset", 1, 3, false),
-        (b"set a 007 -2147483648 00 noreply\r\n\r\n", 1, 0, false),
-        (b"set a 0 2147483648 1\r\nx\r\n", 0, 25, true),
-        (b"set a 0 -2147483649 1\r\nx\r\n", 0, 26, true),
-        (b"set a 4294967296 0 1\r\nx\r\n", 0, 25, true),
-        (b"set a -0 0 1\r\nx\r\n", 0, 17, true),
-        (b"set a +1 0 1\r\nx\r\n", 0, 17, true),
-        (b"set a 0 0 1 quiet\r\nx\r\n", 0, 22, true),
-        (b"set a 0 0 1 noreply noreply\r\nx\r\n", 0, 32, true),
-        (b"set a 0 0\r\nx\r\n", 0, 14, true),
-        (b"set a 0 0 1\r\nxy\r\n", 0, 17, true),
-        (b"set a 0 0 4294967295\r\nx\r\n", 0, 25, false),
-        (b"set a 0 0 4294967296\r\nx\r\n", 0, 25, true),
-        (b"set a 0 0 5\r\nx\r\nget a\r\n", 0, 23, true),
+fn waits_for_all_bytes_of_a_block(rt: HostRuntime) {
+    let cases: [&[u8]; 6] = [
+        b"set k 0 0 1\r\nxyz",
+        b"set k 0 0 3\r\nx\r\n",
+        b"set k 0 0 1048577\r\nx\r\n",
+        b"set k 0 0 2147483646\r\nx\r\n",
+        b"set k 0 0 2147483648\r\nx\r\n",
+        b"set k 0 0 4294967295\r\nx\r\n",
     ];
-    for (section, number, rest, not_built) in cases {
-        assert!(rt; section.len() < 1000);
-        assert_eq!(rt; count(section), number);
-        assert_eq!(rt; rest_length(section), rest);
-        assert_eq!(rt; unbuilt(section), not_built);
+    for text in cases {
+        assert_eq!(rt; beginning(text), (First::Nothing, 0));
     }
 }
 
 #[test]
-fn waits_for_the_bytes_of_a_command(rt: HostRuntime) {
-    let whole = b"set a 5 0 4\r\n\r\n\0\"\r\n";
-    for end in 0..whole.len() {
-        let part = &whole[..end];
-        assert_eq!(rt; count(part), 0);
-        assert_eq!(rt; rest_length(part), end);
-        assert!(rt; !unbuilt(part));
-    }
-    assert_eq!(rt; count(whole), 1);
+fn a_torn_block_ends_with_its_next_line(rt: HostRuntime) {
+    assert_eq!(rt;
+        beginning(b"set k 0 0 1\r\nx\n\nget a\r\n"),
+        (First::Bad(LineFault::Chunk), 15)
+    );
+    assert_eq!(rt;
+        beginning(b"set k 0 0 3\r\nx\n\nget a\r\n"),
+        (First::Bad(LineFault::Chunk), 23)
+    );
+    assert_eq!(rt; count(b"set k 0 0 1\r\nxy\r\nget k\r\n"), 2);
+}
+
+#[test]
+fn no_command_stands_behind_quit(rt: HostRuntime) {
+    let section = b"get a\r\nquit\r\nget b\r\nquit\r\n";
+    assert_eq!(rt; count(section), 2);
+    assert!(rt; rest_of(section) == b"get b\r\nquit\r\n".as_slice());
+    let mut commands = Commands::new(section);
+    assert!(rt; commands.next().is_some() && commands.next().is_some());
+    assert!(rt; commands.next().is_none() && commands.next().is_none());
+    assert!(rt; commands.rest() == b"get b\r\nquit\r\n".as_slice());
 }
 
 #[test]
 fn gives_the_parts_of_commands(rt: HostRuntime) -> Result<(), Fail> {
     let mut commands = Commands::new(
-        b"set k 007 -0 8 noreply\r\n\r\n\0\"\\\xff\r\n\r\nget a b a\r\nset",
+        b"cas k 007 -0 8 9 noreply\r\n\r\n\0\"\\\xff\r\n\r\ngets a b a\r\nincr n 5\r\nset",
     );
     let Some(
         Command::Store {
@@ -80,8 +95,8 @@ fn gives_the_parts_of_commands(rt: HostRuntime) -> Result<(), Fail> {
         return Err("a storage command".into());
     };
     assert!(rt; key == b"k".as_slice() && block == b"\r\n\0\"\\\xff\r\n".as_slice());
-    assert!(rt; flags == 7 && exptime == 0 && unique == 0 && quiet);
-    assert_eq!(rt; spelling.len(), 34);
+    assert!(rt; flags == 7 && exptime == 0 && unique == 9 && quiet);
+    assert_eq!(rt; spelling.len(), 36);
     let Some(
         Command::Get {
             uniques,
@@ -92,42 +107,66 @@ fn gives_the_parts_of_commands(rt: HostRuntime) -> Result<(), Fail> {
     else {
         return Err("a retrieval command".into());
     };
-    assert!(rt; !uniques && spelling == b"get a b a\r\n".as_slice());
+    assert!(rt; uniques && spelling == b"gets a b a\r\n".as_slice());
     for name in [b"a", b"b", b"a"] {
         let key = keys.next().ok_or("a key")?;
         assert!(rt; key == name.as_slice());
     }
-    assert!(rt; keys.next().is_none() && commands.next().is_none());
-    assert!(rt; commands.rest() == b"set".as_slice());
+    assert!(rt; keys.next().is_none());
+    assert!(rt;
+        matches!(
+            commands.next(),
+            Some(Command::Count {
+                up: true,
+                delta: 5,
+                ..
+            })
+        )
+    );
+    assert!(rt; commands.next().is_none() && commands.rest() == b"set".as_slice());
     Ok(())
 }
 
 #[test]
 fn keeps_the_limits_of_keys_and_values(rt: HostRuntime) -> Result<(), Fail> {
-    for (key, value, number, not_built) in [
-        (250, 1_048_576, 1, false),
-        (251, 1_048_576, 0, true),
-        (250, 1_048_577, 0, true),
+    let lines: [(&[u8], &[u8]); 5] = [
+        (b"get ", b"\r\n"),
+        (b"gets a ", b" b\r\n"),
+        (b"delete ", b" noreply\r\n"),
+        (b"incr ", b" 1\r\n"),
+        (b"touch ", b" 1\r\n"),
+    ];
+    for (front, back) in lines {
+        for length in [250, 251] {
+            let mut line = Vec::new(rt.alloc());
+            line.extend_from_slice(front)?;
+            for _ in 0..length {
+                line.push(b'k')?;
+            }
+            line.extend_from_slice(back)?;
+            let want = if length == 250 {
+                First::Good
+            } else {
+                First::Bad(LineFault::Format)
+            };
+            assert_eq!(rt; beginning(&line), (want, line.len()));
+        }
+    }
+    for (bytes, want) in [
+        (1_048_576, First::Good),
+        (1_048_577, First::Bad(LineFault::TooLarge)),
     ] {
-        let mut section = Vec::new(rt.alloc());
-        section.extend_from_slice(b"set ")?;
-        for _ in 0..key {
-            section.push(b'k')?;
-        }
-        section.extend_from_slice(b" 0 0 ")?;
-        section.extend_from_slice(if value == 1_048_576 {
-            b"1048576"
+        let mut text = Vec::new(rt.alloc());
+        text.extend_from_slice(if bytes == 1_048_576 {
+            b"set k 0 0 1048576\r\n"
         } else {
-            b"1048577"
+            b"set k 0 0 1048577\r\n"
         })?;
-        section.extend_from_slice(b"\r\n")?;
-        for _ in 0..value {
-            section.push(b'x')?;
+        for _ in 0..bytes {
+            text.push(b'x')?;
         }
-        section.extend_from_slice(b"\r\n")?;
-        assert!(rt; section.len() < 2_000_000);
-        assert_eq!(rt; count(&section), number);
-        assert_eq!(rt; unbuilt(&section), not_built);
+        text.extend_from_slice(b"\r\n")?;
+        assert_eq!(rt; beginning(&text), (want, text.len()));
     }
     Ok(())
 }

@@ -1,5 +1,7 @@
 pub mod Cuts
-pub mod Heads
-pub mod Histories
+pub mod Escapes
+pub mod Numbered
 pub mod Runs
 pub mod Texts
+pub mod Uniqueness
+pub mod Walks

@@ -1,9 +1,23 @@
--- The law of the history of one caller's commands.
-use Rattle.std.specs.Prelude.{◌≡◌, List}
-use Rattle.mc_text.specs.Request.{WholeCommand}
-use Rattle.kv_history.specs.Log.{commands, NoneVoid, IsOneThread}
-use Rattle.placed_runner.specs.Running.{history}
+-- What holds of every input.
+use Rattle.std.specs.Prelude.{◌≡◌, ℕ, List}
+use Rattle.synth_text.specs.declared.description.Description.{Description}
+use Rattle.placed_runner.specs.declared.fault.SectionFault.{SectionFault}
+use Rattle.placed_runner.specs.Sections.{Placed, Sections, IsRefused}
 
--- the entries are those of the commands, in their order, none of them void, with the replies of one thread
-abbrev pub HistoryIsOneThread : Type 0
-HistoryIsOneThread = (all : List WholeCommand) → (commands (history all) ≡ all) × NoneVoid (history all) × IsOneThread (history all)
+-- at most one list of sections fits an input
+abbrev pub OneReading : Type 0
+OneReading =
+    (described : Description) (input : List ℕ) (sections others : List Placed) → Sections described input sections
+    → Sections described input others → sections ≡ others
+
+-- at most one refusal does
+abbrev pub OneRefusal : Type 0
+OneRefusal =
+    (described : Description) (input : List ℕ) (fault other : SectionFault) → IsRefused described input fault
+    → IsRefused described input other → fault ≡ other
+
+-- and not both
+abbrev pub NotBoth : Type 0
+NotBoth =
+    (described : Description) (input : List ℕ) (sections : List Placed) (fault : SectionFault) → Sections described input sections
+    → IsRefused described input fault → ⊥

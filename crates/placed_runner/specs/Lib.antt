@@ -1,5 +1,8 @@
-pub mod Input
-pub mod Text
-pub mod Lines
+pub mod Heads
+pub mod Places
+pub mod Sections
 pub mod Running
+pub mod Text
+pub mod Entries
+pub mod Views
 pub mod Laws

@@ -1,20 +1,24 @@
--- The run of one caller's commands.
-use Rattle.std.specs.Prelude.{ℕ, List, [], ◌∷◌, false}
+-- The run of the callers' commands.
+use Rattle.std.specs.Prelude.{ℕ, List, map}
+use Rattle.std.specs.List.{flat_map, enumerate_from}
 use Rattle.mc_text.specs.Request.{WholeCommand}
-use Rattle.kv_history.specs.Contents.{Contents, empty_store}
-use Rattle.kv_history.specs.Answer.{reply_of, store_after}
+use Rattle.mc_text.specs.Reading.{commands_of}
 use Rattle.kv_history.specs.Log.{Logged}
+use Rattle.placed_runner.specs.Sections.{Placed}
 
--- the entry of a command of caller 0 with its reply
-abbrev pub entry_of : WholeCommand → List ℕ → Logged
-entry_of command reply = record { caller = 0; command = command; reply = reply; void = false }
+-- a command that a caller gives
+pub record Call : Type 0 where
+  pub caller : ℕ
+  pub command : WholeCommand
 
--- the entries of commands, with the replies of their replay from a store on
-abbrev pub history_from : Contents → List WholeCommand → List Logged
-history_from store [] = []
-history_from store (command ∷ commands) =
-    entry_of command (reply_of store command.request) ∷ history_from (store_after store command.request) commands
+-- the calls of entries
+abbrev pub calls : List Logged → List Call
+calls entries = map (λ entry. record { caller = entry.caller; command = entry.command }) entries
 
--- the history of commands of caller 0: each has the reply of the replay on the empty store
-abbrev pub history : List WholeCommand → List Logged
-history commands = history_from empty_store commands
+-- all calls of a caller, in the order of its section
+abbrev pub calls_of : ℕ → List ℕ → List Call
+calls_of caller section = map (λ command. record { caller = caller; command = command }) (commands_of section)
+
+-- all calls, section by section
+abbrev pub calls_in_order : List Placed → List Call
+calls_in_order sections = flat_map (λ at. calls_of at.0 at.1.bytes) (enumerate_from 0 sections)

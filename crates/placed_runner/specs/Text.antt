@@ -1,11 +1,16 @@
 -- The printed text of a run: a line for each turn and then one for each caller. The form is this project's own.
-use Rattle.std.specs.Prelude.{ℕ, ◌+◌, ◌/◌, ◌%◌, ◌==◌, ◌&&◌, nat_lt, if◌then◌else◌, List, [], ◌∷◌, ◌++◌, length, codes, decimal}
-use Rattle.std.specs.List.{flat_map}
+use Rattle.std.specs.Prelude.{ℕ, ◌+◌, ◌/◌, ◌%◌, ◌==◌, ◌&&◌, nat_lt, if◌then◌else◌, List, [], ◌∷◌, ◌++◌, length, map, codes, decimal}
+use Rattle.std.specs.Prelude.{Option, Some, None, option_map, option_and_then, slice_get, replicate}
+use Rattle.std.specs.List.{flat_map, enumerate_from, count_by}
+use Rattle.std.specs.Option.{option_map_or}
 use Rattle.byte_text.specs.Numerals.{lower_hex_digit}
+use Rattle.keep_local.specs.declared.shape.Shape.{Shape}
+use Rattle.keep_local.specs.declared.turn.Turn.{Turn}
+use Rattle.keep_local.specs.Laws.{turn_after}
 use Rattle.mc_text.specs.Request.{WholeCommand}
 use Rattle.mc_text.specs.Reading.{commands_of, rest_of}
-use Rattle.kv_history.specs.Log.{Logged}
-use Rattle.placed_runner.specs.Running.{history}
+use Rattle.kv_history.specs.Answer.{replies_of}
+use Rattle.placed_runner.specs.Sections.{Placed}
 
 -- how a byte is printed between quotes
 abbrev pub escaped_byte : ℕ → List ℕ
@@ -21,61 +26,101 @@ escaped_byte byte =
 abbrev pub escaped : List ℕ → List ℕ
 escaped text = flat_map escaped_byte text
 
--- the end of a line: a command and a reply between quotes
-unfoldable pub quoted : List ℕ → List ℕ → List ℕ
-quoted command reply = codes " \"" ++ (escaped command ++ (codes "\" \"" ++ (escaped reply ++ codes "\"\n")))
+-- numbers, each behind its name
+abbrev pub labelled : List (List ℕ × ℕ) → List ℕ
+labelled parts = flat_map (λ part. part.0 ++ decimal part.1) parts
 
--- what the line of a turn shows: its number, its caller and where that stands, at which level the caller found the
--- lock, which levels had a waiter, at which level it left the lock, the command and the reply
-pub record Shown : Type 0 where
-  pub number : ℕ
-  pub caller : ℕ
-  pub pu : ℕ
-  pub climb : ℕ
-  pub tests : ℕ
-  pub left : ℕ
+-- a text between quotes, behind a space
+unfoldable pub quoted : List ℕ → List ℕ
+quoted text = codes " \"" ++ (escaped text ++ codes "\"")
+
+-- a turn, with its command and its reply
+pub record Told : Type 0 where
+  pub turn : Turn
   pub command : List ℕ
   pub reply : List ℕ
 
--- a number behind its name
-abbrev pub labelled : List ℕ → ℕ → List ℕ
-labelled label number = label ++ decimal number
+-- the PU of a caller
+abbrev pub pu_of : List Placed → ℕ → ℕ
+pu_of sections caller = option_map_or (λ section. section.pu) (slice_get sections caller) 0
+
+-- the numbers of a turn's line: its own, its caller and where that stands, at which level the caller found the lock, which levels
+-- had a waiter, and at which level it left the lock
+abbrev pub turn_numbers : List Placed → ℕ → Turn → List (List ℕ × ℕ)
+turn_numbers sections number turn =
+    (codes "turn ", number) ∷ (codes " caller ", turn.caller) ∷ (codes " pu ", pu_of sections turn.caller)
+    ∷ (codes " climb ", turn.climb) ∷ (codes " tests ", turn.tests) ∷ (codes " left ", turn.left) ∷ []
 
 -- the line of a turn
-unfoldable pub turn_line : Shown → List ℕ
-turn_line shown =
-    labelled (codes "turn ") shown.number ++ (labelled (codes " caller ") shown.caller ++ (labelled (codes " pu ") shown.pu
-    ++ (labelled (codes " climb ") shown.climb ++ (labelled (codes " tests ") shown.tests ++ (labelled (codes " left ") shown.left
-    ++ quoted shown.command shown.reply)))))
+unfoldable pub turn_line : List Placed → ℕ → Told → List ℕ
+turn_line sections number told =
+    labelled (turn_numbers sections number told.turn) ++ (quoted told.command ++ (quoted told.reply ++ codes "\n"))
 
--- the line of a caller: its number, where it stands, how many commands it gave, and how many bytes stand behind them
-unfoldable pub caller_line : ℕ → ℕ → ℕ → ℕ → List ℕ
-caller_line caller pu commands rest =
-    labelled (codes "caller ") caller ++ (labelled (codes " pu ") pu ++ (labelled (codes " commands ") commands
-    ++ (labelled (codes " rest ") rest ++ codes "\n")))
+-- the numbers of a caller's line: its own, where it stands, how many commands it gave, and how many bytes stand behind them
+abbrev pub caller_numbers : ℕ → Placed → List (List ℕ × ℕ)
+caller_numbers caller section =
+    (codes "caller ", caller) ∷ (codes " pu ", section.pu) ∷ (codes " commands ", length (commands_of section.bytes))
+    ∷ (codes " rest ", length (rest_of section.bytes)) ∷ []
 
--- the entries of a run without levels, as the lines show them
-abbrev pub shown_entry : ℕ → ℕ → Logged → Shown
-shown_entry pu number entry = record {
-  number = number;
-  caller = entry.caller;
-  pu = pu;
-  climb = 0;
-  tests = 0;
-  left = 0;
-  command = entry.command.spelling;
-  reply = entry.reply;
-}
+-- the line of a caller
+unfoldable pub caller_line : ℕ → Placed → List ℕ
+caller_line caller section = labelled (caller_numbers caller section) ++ codes "\n"
 
--- a line for each entry, from a number on
-abbrev pub turn_lines : ℕ → ℕ → List Logged → List ℕ
-turn_lines pu number [] = []
-turn_lines pu number (entry ∷ entries) = turn_line (shown_entry pu number entry) ++ turn_lines pu (number + 1) entries
+-- the lines of turns, numbered from 0
+abbrev pub turn_lines : List Placed → List Told → List ℕ
+turn_lines sections told = flat_map (λ at. turn_line sections at.0 at.1) (enumerate_from 0 told)
 
--- the text of the run of one section: a line for each entry and then the line of its caller
-abbrev pub entries_text : ℕ → List ℕ → List Logged → List ℕ
-entries_text pu section entries = turn_lines pu 0 entries ++ caller_line 0 pu (length (commands_of section)) (length (rest_of section))
+-- the lines of all callers, in order
+abbrev pub caller_lines : List Placed → List ℕ
+caller_lines sections = flat_map (λ at. caller_line at.0 at.1) (enumerate_from 0 sections)
 
--- the text of a section that is these commands and this rest, whose caller stands on a PU: that of their history
-abbrev pub section_text : ℕ → List WholeCommand → List ℕ → List ℕ
-section_text pu commands rest = turn_lines pu 0 (history commands) ++ caller_line 0 pu (length commands) (length rest)
+-- a hold of the lock: who held it, and at which levels others were waiting (bit k for level k)
+pub record Hold : Type 0 where
+  pub caller : ℕ
+  pub tests : ℕ
+
+-- the turns that holds make behind others: each climbs to where the one before left, and leaves as the shape says
+abbrev pub turns_behind : Shape → List Turn → List Hold → List Turn
+turns_behind shape before [] = []
+turns_behind shape before (hold ∷ holds) =
+    turn_after shape before hold.caller hold.tests
+    ∷ turns_behind shape (before ++ turn_after shape before hold.caller hold.tests ∷ []) holds
+
+-- the command that a caller gives behind these calls: the next one of its section
+abbrev pub next_command : List Placed → List ℕ → ℕ → Option WholeCommand
+next_command sections before caller =
+    option_and_then (λ section. slice_get (commands_of section.bytes) (count_by (λ other. other == caller) before))
+    (slice_get sections caller)
+
+-- the commands that callers give one after another, behind others; none where a caller has no section or no command left
+abbrev pub commands_behind : List Placed → List ℕ → List ℕ → Option (List WholeCommand)
+commands_behind sections before [] = Some []
+commands_behind sections before (caller ∷ callers) =
+    option_and_then (λ command. option_map (λ more. command ∷ more) (commands_behind sections (before ++ caller ∷ []) callers))
+    (next_command sections before caller)
+
+-- turns with their commands and replies
+abbrev pub told : List Turn → List WholeCommand → List (List ℕ) → List Told
+told [] commands replies = []
+told (turn ∷ turns) [] replies = []
+told (turn ∷ turns) (command ∷ commands) [] = []
+told (turn ∷ turns) (command ∷ commands) (reply ∷ replies) =
+    record { turn = turn; command = command.spelling; reply = reply } ∷ told turns commands replies
+
+-- the text of turns, with the replies of one thread that gives these commands; nothing where the commands can't be given
+abbrev pub text_of : List Placed → List Turn → Option (List WholeCommand) → List ℕ
+text_of sections turns None = []
+text_of sections turns (Some commands) = turn_lines sections (told turns commands (replies_of commands)) ++ caller_lines sections
+
+-- the text of a run: the m-th hold of a caller stands for the m-th command of its section
+unfoldable pub run_text : List Placed → Shape → List Hold → List ℕ
+run_text sections shape holds =
+    text_of sections (turns_behind shape [] holds) (commands_behind sections [] (map (λ hold. hold.caller) holds))
+
+-- callers under one lock, without levels below it
+abbrev pub one_lock : ℕ → Shape
+one_lock callers = record { paths = replicate callers (0 ∷ []); keeps = [] }
+
+-- the holds of entries that no level below the lock asked about
+abbrev pub holds_of : List ℕ → List Hold
+holds_of callers = map (λ caller. record { caller = caller; tests = 0 }) callers

@@ -1,31 +1,65 @@
 // How bytes are printed between quotes.
-ghost use Rattle.std.specs.Prelude.{◌≡◌, ◌++◌, OnOk};
-ghost use Rattle.placed_runner.specs.Text.{escaped, escaped_byte};
+ghost use Rattle.std.specs.Prelude.{◌≡◌, ◌++◌, ◌&&◌, not, ◌==◌, nat_lt, ◌<◌, length, IfSome, MatchOption, OnOk};
+ghost use Rattle.placed_runner.specs.Text.{escaped, escaped_byte, quoted};
 
 use byte_text::hex_digit;
-use out_of_memory::OutOfMemory;
+use std::alloc::AllocError;
 
-/// Appends a text as it is printed between quotes.
-pub(crate) fn push_escaped(out: &mut Vec<u8>, text: &[u8]) -> Result<(), OutOfMemory>
+/// Appends a text between quotes, behind a space.
+#[tactic(auto, unfolding(crate::specs::Text::quoted))]
+pub(crate) fn push_quoted(out: &mut Vec<u8>, text: &[u8]) -> Result<(), AllocError>
+    ensures { OnOk result (out.new.items ≡ out.old.items ++ quoted text.now) }
+{
+    out.extend_from_slice(b" \"")?;
+    push_escaped(out, text)?;
+    out.extend_from_slice(b"\"")
+}
+
+// Appends a text as it is printed between quotes.
+fn push_escaped(out: &mut Vec<u8>, text: &[u8]) -> Result<(), AllocError>
     ensures { OnOk result (out.new.items ≡ out.old.items ++ escaped text.now) }
 {
-    for byte in text {
-        push_escaped_byte(out, *byte)?;
+    let mut rest = text;
+    while let Some((plain, byte, behind)) = split_plain(rest) {
+        out.extend_from_slice(plain)?;
+        push_escape(out, byte)?;
+        rest = behind;
     }
-    Ok(())
+    out.extend_from_slice(rest)
+}
+
+// The bytes in front that stand for themselves, the first other byte, and what stands behind it.
+fn split_plain(text: &[u8]) -> Option<(&[u8], u8, &[u8])>
+    ensures shorter { IfSome result (λ parts. length parts.2.now < length text.now) }
+    ensures parts { MatchOption result
+        (escaped text.now ≡ text.now)
+        (λ parts. escaped text.now ≡ parts.0.now ++ (escaped_byte parts.1 ++ escaped parts.2.now)) }
+{
+    for (place, byte) in text.iter().enumerate() {
+        if !is_plain(*byte) {
+            return Some((&text[..place], *byte, &text[place + 1..]));
+        }
+    }
+    None
+}
+
+// Whether a byte stands for itself between quotes.
+fn is_plain(byte: u8) -> bool
+    ensures { result ≡ (nat_lt 31 byte && nat_lt byte 127 && not (byte == 34) && not (byte == 92)) }
+{
+    byte > 31 && byte < 127 && byte != b'"' && byte != b'\\'
 }
 
 // Appends a byte as it is printed between quotes.
-fn push_escaped_byte(out: &mut Vec<u8>, byte: u8) -> Result<(), OutOfMemory>
+fn push_escape(out: &mut Vec<u8>, byte: u8) -> Result<(), AllocError>
     ensures { OnOk result (out.new.items ≡ out.old.items ++ escaped_byte byte) }
 {
     match byte {
-        b'\r' => out.extend_from_slice(b"\\r")?,
-        b'\n' => out.extend_from_slice(b"\\n")?,
-        b'\\' => out.extend_from_slice(b"\\\\")?,
-        b'"' => out.extend_from_slice(b"\\\"")?,
-        b' '..=b'~' => out.push(byte)?,
-        _ => out.extend_from_slice(&[b'\\', b'x', hex_digit(byte / 16), hex_digit(byte % 16)])?,
+        b'\r' => out.extend_from_slice(b"\\r"),
+        b'\n' => out.extend_from_slice(b"\\n"),
+        b'\\' => out.extend_from_slice(b"\\\\"),
+        b'"' => out.extend_from_slice(b"\\\""),
+        b' '..=b'~' => out.extend_from_slice(&[byte]),
+        _ => out.extend_from_slice(&[b'\\', b'x', hex_digit(byte / 16), hex_digit(byte % 16)]),
     }
-    Ok(())
 }

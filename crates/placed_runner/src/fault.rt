@@ -1,10 +1,52 @@
 // Why an input is refused.
+ghost use Rattle.std.specs.Prelude.{◌≡◌};
+ghost use Rattle.placed_runner.specs.declared.fault.SectionFault.TheVariants as faults;
+
+use std::alloc::{AllocError, AllocFailed};
 use thiserror::Error;
 
-/// Why the sections of an input are refused.
+/// Why the sections of an input are refused. A fault's number is its place in this list, from 1; `at` is where the head of
+/// the section begins, in bytes from the input's start.
 #[derive(Clone, Copy, Debug, PartialEq, Eq, Error)]
 pub enum SectionFault {
-    /// The input isn't one section that can be served yet. Its number is 5.
-    #[error("sections of this kind are not built yet")]
-    NotYet,
+    /// No head stands there.
+    #[error("the head at byte {at}")]
+    BadHead {
+        /// Where the head should begin.
+        at: usize,
+    },
+    /// The place is neither `*` nor a location that is just one PU.
+    #[error("the place of the head at byte {at}")]
+    BadPlace {
+        /// Where the head begins.
+        at: usize,
+    },
+    /// Fewer bytes than the length stand behind the head, or no line end stands behind them.
+    #[error("the bytes behind the head at byte {at}")]
+    Short {
+        /// Where the head begins.
+        at: usize,
+    },
+    /// Bytes stand behind the 256th section.
+    #[error("more than 256 sections")]
+    TooManyCallers,
+    /// There was not enough memory.
+    #[error("out of memory")]
+    OutOfMemory,
+}
+
+impl From<AllocError> for SectionFault {
+    ghost from_gives = { λ _ e. e ≡ faults.OutOfMemory };
+
+    fn from(_refused: AllocError) -> SectionFault {
+        SectionFault::OutOfMemory
+    }
+}
+
+impl<T: Drop> From<AllocFailed<T>> for SectionFault {
+    ghost from_gives = { λ _ e. e ≡ faults.OutOfMemory };
+
+    fn from(_refused: AllocFailed<T>) -> SectionFault {
+        SectionFault::OutOfMemory
+    }
 }

@@ -1,8 +1,9 @@
-// The law of the definitions: the function has an empty body, and its contract is the law.
-ghost use Rattle.placed_runner.specs.Laws.{HistoryIsOneThread};
+// Laws of the definitions: the function has an empty body, and its contract is the law.
+ghost use Rattle.placed_runner.specs.Laws.{OneReading, OneRefusal, NotBoth};
 
-/// The history of commands has their entries, in their order, none of them void, with the replies of one thread that
-/// applies them on the empty store.
-pub fn history_is_one_thread()
-    ensures { HistoryIsOneThread }
+/// At most one list of sections fits an input, or at most one refusal, and not both.
+pub fn one_answer()
+    ensures sections { OneReading }
+    ensures refusal { OneRefusal }
+    ensures either { NotBoth }
 {}

@@ -3,17 +3,19 @@
 
 mod escape;
 mod fault;
-mod input;
+mod heads;
 mod laws;
 mod lines;
+mod place;
 mod printing;
 mod running;
+mod sections;
 
 pub use fault::SectionFault;
-pub use input::{Section, read_first};
-pub use laws::history_is_one_thread;
+pub use laws::one_answer;
 pub use printing::text;
 pub use running::run_in_order;
+pub use sections::{Section, read_sections};
 
 #[cfg(test)]
 mod tests;

@@ -1,78 +1,89 @@
 // The lines of a printed run.
-ghost use Rattle.std.specs.Prelude.{◌≡◌, ◌++◌, OnOk};
-ghost use Rattle.placed_runner.specs.Text.{labelled, quoted, turn_line, caller_line};
-ghost use Rattle.placed_runner.specs.Lines.{shown};
+ghost use Rattle.std.specs.Prelude.{◌≡◌, ◌<◌, ◌^◌, ◌++◌, OnOk, length, map};
+ghost use Rattle.placed_runner.specs.Text.{labelled, turn_line, caller_line, pu_of};
+ghost use Rattle.placed_runner.specs.Views.{part_view, section_view, line_view};
 
-use crate::escape::push_escaped;
+use crate::escape::push_quoted;
+use crate::sections::Section;
 use byte_text::push_decimal;
-use out_of_memory::OutOfMemory;
+use keep_local::Turn;
+use mc_text::{count, rest_of};
+use std::alloc::AllocError;
 
-/// What the line of a turn shows.
+/// A turn, with its command and its reply.
 #[derive(Clone, Copy)]
-pub(crate) struct TurnLine<'a> {
-    pub number: u32,
-    pub caller: u32,
-    pub pu: u32,
-    pub climb: u32,
-    pub tests: u32,
-    pub left: u32,
+pub(crate) struct Line<'a> {
+    pub turn: Turn,
     pub command: &'a [u8],
     pub reply: &'a [u8],
 }
 
 /// Appends the line of a turn.
 #[tactic(auto, unfolding(crate::specs::Text::turn_line))]
-pub(crate) fn push_turn(out: &mut Vec<u8>, turn: &TurnLine<'_>) -> Result<(), OutOfMemory>
-    ensures { OnOk result (out.new.items ≡ out.old.items ++ turn_line (shown turn.now)) }
+pub(crate) fn push_turn(
+    out: &mut Vec<u8>,
+    sections: &[Section<'_>],
+    number: u32,
+    line: &Line<'_>,
+) -> Result<(), AllocError>
+    ensures { OnOk result (out.new.items ≡ out.old.items ++ turn_line (map section_view sections.now) number (line_view line.now)) }
 {
-    push_labelled(out, b"turn ", turn.number)?;
-    push_labelled(out, b" caller ", turn.caller)?;
-    push_labelled(out, b" pu ", turn.pu)?;
-    push_labelled(out, b" climb ", turn.climb)?;
-    push_labelled(out, b" tests ", turn.tests)?;
-    push_labelled(out, b" left ", turn.left)?;
-    push_quoted(out, turn.command, turn.reply)?;
-    Ok(())
+    let turn = line.turn;
+    push_labelled(
+        out,
+        &[
+            (b"turn ", u64::from(number)),
+            (b" caller ", u64::from(turn.caller)),
+            (b" pu ", u64::from(pu_of(sections, turn.caller))),
+            (b" climb ", u64::from(turn.climb)),
+            (b" tests ", u64::from(turn.tests)),
+            (b" left ", u64::from(turn.left)),
+        ],
+    )?;
+    push_quoted(out, line.command)?;
+    push_quoted(out, line.reply)?;
+    out.extend_from_slice(b"\n")
 }
 
-// Appends the command and the reply of a turn between quotes, and the line end.
-#[tactic(auto, unfolding(crate::specs::Text::quoted))]
-fn push_quoted(out: &mut Vec<u8>, command: &[u8], reply: &[u8]) -> Result<(), OutOfMemory>
-    ensures { OnOk result (out.new.items ≡ out.old.items ++ quoted command.now reply.now) }
+// The PU of a caller.
+fn pu_of(sections: &[Section<'_>], caller: u32) -> u32
+    ensures { result ≡ pu_of (map section_view sections.now) caller }
 {
-    out.extend_from_slice(b" \"")?;
-    push_escaped(out, command)?;
-    out.extend_from_slice(b"\" \"")?;
-    push_escaped(out, reply)?;
-    out.extend_from_slice(b"\"\n")?;
-    Ok(())
+    match sections.get(caller as usize) {
+        Some(section) => section.pu,
+        None => 0,
+    }
 }
 
 /// Appends the line of a caller: its number, its PU, how many commands it gave and how many bytes stand behind them.
 #[tactic(auto, unfolding(crate::specs::Text::caller_line))]
 pub(crate) fn push_caller(
     out: &mut Vec<u8>,
-    caller: u32,
-    pu: u32,
-    commands: u32,
-    rest: usize,
-) -> Result<(), OutOfMemory>
-    ensures { OnOk result (out.new.items ≡ out.old.items ++ caller_line caller pu commands rest) }
+    caller: usize,
+    section: &Section<'_>,
+) -> Result<(), AllocError>
+    requires { length section.now.bytes.now < 2 ^ 32 }
+    ensures { OnOk result (out.new.items ≡ out.old.items ++ caller_line caller (section_view section.now)) }
 {
-    push_labelled(out, b"caller ", caller)?;
-    push_labelled(out, b" pu ", pu)?;
-    push_labelled(out, b" commands ", commands)?;
-    out.extend_from_slice(b" rest ")?;
-    push_decimal(out, rest as u64)?;
-    out.push(b'\n')?;
-    Ok(())
+    push_labelled(
+        out,
+        &[
+            (b"caller ", caller as u64),
+            (b" pu ", u64::from(section.pu)),
+            (b" commands ", u64::from(count(section.bytes))),
+            (b" rest ", rest_of(section.bytes).len() as u64),
+        ],
+    )?;
+    out.extend_from_slice(b"\n")
 }
 
-// Appends a number behind its name.
-fn push_labelled(out: &mut Vec<u8>, label: &[u8], number: u32) -> Result<(), OutOfMemory>
-    ensures { OnOk result (out.new.items ≡ out.old.items ++ labelled label.now number) }
+// Appends numbers, each behind its name.
+fn push_labelled(out: &mut Vec<u8>, parts: &[(&[u8], u64)]) -> Result<(), AllocError>
+    ensures { OnOk result (out.new.items ≡ out.old.items ++ labelled (map part_view parts.now)) }
 {
-    out.extend_from_slice(label)?;
-    push_decimal(out, u64::from(number))?;
+    for (label, number) in parts {
+        out.extend_from_slice(label)?;
+        push_decimal(out, *number)?;
+    }
     Ok(())
 }

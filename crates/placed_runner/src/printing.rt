@@ -1,57 +1,67 @@
 // The printed text of a run.
-ghost use Rattle.std.specs.Prelude.{◌≡◌, ◌<◌, ◌++◌, ◌^◌, IfOk, OnOk, Some, length, slice_get};
-ghost use Rattle.placed_runner.specs.Text.{turn_line, shown_entry, entries_text};
+ghost use Rattle.std.specs.Prelude.{◌≡◌, ◌<◌, ◌^◌, ◌++◌, IfOk, OnOk, length, map, sum_by, slice_get, Some};
+ghost use Rattle.kv_history.specs.Log.{NoneVoid};
+ghost use Rattle.placed_runner.specs.Text.{run_text, turn_line, one_lock, holds_of};
+ghost use Rattle.placed_runner.specs.Entries.{told_entry};
+ghost use Rattle.placed_runner.specs.Views.{section_view};
 
-use crate::Section;
-use crate::lines::{TurnLine, push_caller, push_turn};
+use crate::lines::{Line, push_caller, push_turn};
+use crate::sections::Section;
+use keep_local::Turn;
 use kv_history::Journal;
-use mc_text::{count, rest_of};
 use out_of_memory::OutOfMemory;
-use std::alloc::Global;
+use std::alloc::{AllocError, Global};
 
-/// The text of a run: a line for each entry of the journal, whose callers stand on the section's PU, and then the line
-/// of the section's caller, 0. A section has fewer than 2^32 bytes.
+/// The text of a run of these sections, whose commands the journal has: a line for each entry and then one for each caller.
+/// There is one lock without levels, so each turn climbs to level 0 and leaves there, and has no tests.
 pub fn text(
     alloc: Global,
-    section: &Section<'_>,
+    sections: &[Section<'_>],
     journal: &Journal<'_>,
 ) -> Result<Vec<u8>, OutOfMemory>
-    requires { length section.now.bytes.now < 2 ^ 32 }
-    ensures { IfOk result (λ text. text.items ≡ entries_text section.now.pu section.now.bytes.now journal.now.entries) }
+    requires small { sum_by (λ section. length section.bytes.now) sections.now < 2 ^ 32 }
+    requires same { journal.now.sections ≡ map (λ section. section.bytes.now) sections.now }
+    requires whole { NoneVoid journal.now.entries }
+    ensures { IfOk result (λ text. text.items ≡ run_text (map section_view sections.now) (one_lock (length sections.now))
+        (holds_of (map (λ entry. entry.caller) journal.now.entries))) }
 {
+    let _whole = journal.whole();
     let mut out = Vec::new(alloc);
     for number in 0..journal.entries() {
-        push_entry(&mut out, section.pu, journal, number)?;
+        push_entry(&mut out, sections, journal, number)?;
     }
-    let rest = rest_of(section.bytes);
-    push_caller(&mut out, 0, section.pu, count(section.bytes), rest.len())?;
+    for (caller, section) in sections.iter().enumerate() {
+        push_caller(&mut out, caller, section)?;
+    }
     Ok(out)
 }
 
 // Appends the line of an entry.
 fn push_entry(
     out: &mut Vec<u8>,
-    pu: u32,
+    sections: &[Section<'_>],
     journal: &Journal<'_>,
     number: u32,
-) -> Result<(), OutOfMemory>
+) -> Result<(), AllocError>
     requires { number < length journal.now.entries }
     ensures { OnOk result ((entry : _) × (slice_get journal.now.entries number ≡ Some entry)
-        × (out.new.items ≡ out.old.items ++ turn_line (shown_entry pu number entry))) }
+        × (out.new.items ≡ out.old.items ++ turn_line (map section_view sections.now) number (told_entry entry))) }
 {
     let entry = journal.entry(number);
+    let turn = Turn {
+        caller: entry.caller,
+        climb: 0,
+        tests: 0,
+        left: 0,
+    };
     push_turn(
         out,
-        &TurnLine {
-            number,
-            caller: entry.caller,
-            pu,
-            climb: 0,
-            tests: 0,
-            left: 0,
+        sections,
+        number,
+        &Line {
+            turn,
             command: entry.spelling,
             reply: journal.reply(number),
         },
-    )?;
-    Ok(())
+    )
 }

@@ -1,44 +1,146 @@
-// The input's section and the printed text, by hand.
-ghost use Rattle.std.specs.Prelude.{◌<◌, ◌^◌, length};
+// Sections, places and the printed text, by hand.
+ghost use Rattle.std.specs.Prelude.{◌≡◌, ◌<◌, ◌^◌, length};
 
-use crate::{Section, SectionFault, read_first, run_in_order, text};
+use crate::{Section, SectionFault, read_sections, run_in_order, text};
 use kv_history::Journal;
 use std::alloc::Global;
 use std::test::Fail;
+use synth_text::read;
+use topo_tree::Topology;
+
+fn topology(alloc: Global, description: &[u8]) -> Result<Topology, Fail> {
+    Ok(Topology::build(alloc, read(alloc, description)?)?)
+}
 
 #[test]
-fn reads_one_section_with_a_star(rt: HostRuntime) -> Result<(), Fail> {
-    let section = read_first(b"worker * 0000000007\nget a\r\n\n")?.ok_or("a section")?;
-    assert_eq!(rt; section.pu, 0);
-    assert_eq!(rt; section.bytes, b"get a\r\n".as_slice());
-    assert!(rt; read_first(b"")?.is_none());
+fn refuses_the_first_broken_rule(rt: HostRuntime) -> Result<(), Fail> {
+    use SectionFault::{BadHead, BadPlace, Short};
+    let cases: [(&[u8], SectionFault); 25] = [
+        (b"walker * 0\n\n", BadHead { at: 0 }),
+        (b"worker * 0", BadHead { at: 0 }),
+        (b"worker  0\n\n", BadHead { at: 0 }),
+        (b"worker *  0\n\n", BadHead { at: 0 }),
+        (b"worker * 0 \n\n", BadHead { at: 0 }),
+        (b"worker * \n\n", BadHead { at: 0 }),
+        (b"worker *\n\n", BadHead { at: 0 }),
+        (b"worker * +1\na\n", BadHead { at: 0 }),
+        (b"worker * 00000000000\n\n", BadHead { at: 0 }),
+        (b"\n", BadHead { at: 0 }),
+        (b"worker pu:x y\n", BadHead { at: 0 }),
+        (b"worker pu:4 0\n\n", BadPlace { at: 0 }),
+        (b"worker core:0 0\n\n", BadPlace { at: 0 }),
+        (b"worker numa:0 0\n\n", BadPlace { at: 0 }),
+        (b"worker ** 0\n\n", BadPlace { at: 0 }),
+        (b"worker 0x10 0\n\n", BadPlace { at: 0 }),
+        (b"worker 0x3 0\n\n", BadPlace { at: 0 }),
+        (b"worker pu:9 99\n", BadPlace { at: 0 }),
+        (b"worker * 9\nget a\r\n\n", Short { at: 0 }),
+        (b"worker * 1\na", Short { at: 0 }),
+        (b"worker * 1\nab\n", Short { at: 0 }),
+        (b"worker * 9999999999\n", Short { at: 0 }),
+        (b"worker * 0\n\nx", BadHead { at: 12 }),
+        (b"worker * 0\n\nworker pu:4 0\n\n", BadPlace { at: 12 }),
+        (b"worker * 2\n\n\n\nworker * 1\n\n", Short { at: 14 }),
+    ];
+    let topology = topology(rt.alloc(), b"Package:1 [NUMANode] Core:2 PU:2")?;
+    for (input, want) in cases {
+        match read_sections(rt.alloc(), &topology, input) {
+            Ok(_) => panic!(rt; "sections"),
+            Err(fault) => assert_eq!(rt; fault, want),
+        }
+    }
+    Ok(())
+}
+
+#[test]
+fn reads_places(rt: HostRuntime) -> Result<(), Fail> {
+    let cases: [(&[u8], &[u8], &[u32]); 6] = [
+        (b"PU:1", b"", &[]),
+        (b"PU:1", b"worker * 0000000001\na\n", &[0]),
+        (
+            b"Package:2 Core:2 PU:2",
+            b"worker * 0\n\nworker * 0\n\nworker * 0\n\nworker * 0\n\n",
+            &[0, 2, 4, 6],
+        ),
+        (
+            b"Package:2 Core:2 PU:2",
+            b"worker pu:5 0\n\nworker * 0\n\nworker core:1.pu:1 0\n\n",
+            &[5, 2, 3],
+        ),
+        (
+            b"PU:2(indexes=1,0)",
+            b"worker pu:0 0\n\nworker 0x1 0\n\n",
+            &[0, 1],
+        ),
+        (
+            b"Core:2 [NUMANode] PU:1",
+            b"worker numa:1 0\n\nworker core:0 0\n\n",
+            &[1, 0],
+        ),
+    ];
+    for (description, input, want) in cases {
+        let topology = topology(rt.alloc(), description)?;
+        let sections = read_sections(rt.alloc(), &topology, input)?;
+        assert_eq!(rt; sections.len(), want.len());
+        for (section, pu) in sections.iter().zip(want) {
+            assert_eq!(rt; section.pu, *pu);
+        }
+    }
+    Ok(())
+}
+
+#[test]
+fn takes_256_sections(rt: HostRuntime) -> Result<(), Fail> {
+    let topology = topology(rt.alloc(), b"PU:1")?;
+    let mut input = Vec::new(rt.alloc());
+    for _ in 0..256 {
+        input.extend_from_slice(b"worker * 0\n\n")?;
+    }
+    assert_eq!(rt; read_sections(rt.alloc(), &topology, &input)?.len(), 256);
+    input.push(b'x')?;
     assert!(rt;
         matches!(
-            read_first(b"worker * 7\nget a\r\n"),
-            Err(SectionFault::NotYet)
+            read_sections(rt.alloc(), &topology, &input),
+            Err(SectionFault::TooManyCallers)
         )
     );
     Ok(())
 }
 
-fn printed(alloc: Global, pu: u32, bytes: &[u8]) -> Result<Vec<u8>, Fail>
-    requires { length bytes.now < 2 ^ 32 }
+fn printed(alloc: Global, first: &[u8], second: &[u8]) -> Result<Vec<u8>, Fail>
+    requires first { length first.now < 2 ^ 20 }
+    requires second { length second.now < 2 ^ 20 }
 {
-    let section = Section { pu, bytes };
-    let mut journal = Journal::reserve(alloc, &[bytes])?;
-    if run_in_order(&section, &mut journal) {
+    let sections = [
+        Section {
+            pu: 3,
+            bytes: first,
+        },
+        Section {
+            pu: 0,
+            bytes: second,
+        },
+    ];
+    let mut journal = Journal::reserve(alloc, &[first, second])?;
+    if run_in_order(&sections, &mut journal) {
         return Err("out of memory")?;
     }
-    Ok(text(alloc, &section, &journal)?)
+    Ok(text(alloc, &sections, &journal)?)
 }
 
 #[test]
 fn prints_a_run(rt: HostRuntime) -> Result<(), Fail> {
-    let text = printed(rt.alloc(), 3, b"set a 5 0 2\r\n\x01\"\r\nget a\r\nge")?;
+    let text = printed(
+        rt.alloc(),
+        b"set a 5 0 3\r\n\x01\"\xff\r\nquit\r\nget a\r\n",
+        b"get a\r\nge",
+    )?;
     let want =
-        b"turn 0 caller 0 pu 3 climb 0 tests 0 left 0 \"set a 5 0 2\\r\\n\\x01\\\"\\r\\n\" \"STORED\\r\\n\"\n\
-          turn 1 caller 0 pu 3 climb 0 tests 0 left 0 \"get a\\r\\n\" \"VALUE a 5 2\\r\\n\\x01\\\"\\r\\nEND\\r\\n\"\n\
-          caller 0 pu 3 commands 2 rest 2\n";
+        b"turn 0 caller 0 pu 3 climb 0 tests 0 left 0 \"set a 5 0 3\\r\\n\\x01\\\"\\xff\\r\\n\" \"STORED\\r\\n\"\n\
+          turn 1 caller 0 pu 3 climb 0 tests 0 left 0 \"quit\\r\\n\" \"\"\n\
+          turn 2 caller 1 pu 0 climb 0 tests 0 left 0 \"get a\\r\\n\" \"VALUE a 5 3\\r\\n\\x01\\\"\\xff\\r\\nEND\\r\\n\"\n\
+          caller 0 pu 3 commands 2 rest 7\n\
+          caller 1 pu 0 commands 1 rest 2\n";
     assert_eq!(rt; text.as_slice(), want.as_slice());
     Ok(())
 }

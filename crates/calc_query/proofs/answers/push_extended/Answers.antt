@@ -1,5 +1,4 @@
-use Rattle.std.proofs.Common.{◌≡◌, ◌+◌, [], ◌∷◌, ◌++◌, sym, ap, subst, ◌∙◌, arith}
-use Rattle.std.specs.List.{All, range_with_len}
+use Rattle.std.proofs.Common.{◌+◌, [], ◌∷◌, ◌++◌, sym, ap, subst, ◌∙◌, arith}
 use Rattle.std.proofs.lemmas.List.Elements.{All-push, All-same}
 use Rattle.cpu_set.specs.Tests.{meets}
 use Rattle.topo_tree.specs.Objects.{IsObject}
@@ -7,7 +6,7 @@ use Rattle.topo_tree.specs.Coverage.{set_of}
 use Rattle.calc_query.specs.declared.query.Path.{Path}
 use Rattle.calc_query.specs.Candidates.{candidates}
 use Rattle.calc_query.specs.Answers.{end_of}
-use Rattle.calc_query.proofs.ChainLaws.{steps_through, through-more, through-none, through-all, end_of-with_step}
+use Rattle.calc_query.proofs.ChainLaws.{through-more, through-none, through-all, end_of-with_step}
 use Rattle.calc_query.proofs.answers.push_extended.Goals as goal
 use Rattle.calc_query.proofs.answers.push_extended.Goals.{then-meets+in_ok-with_step+in_ok-push, else-meets}
 

@@ -1,8 +1,6 @@
-use Rattle.std.proofs.Common.{◌≡◌, ◌++◌, map}
-use Rattle.std.specs.List.{All, filter, range_with_len}
-use Rattle.cpu_set.specs.Tests.{meets}
+use Rattle.std.proofs.Common.{◌≡◌, ◌++◌}
+use Rattle.std.specs.List.{All}
 use Rattle.topo_tree.specs.Objects.{IsObject}
-use Rattle.topo_tree.specs.Coverage.{set_of}
 use Rattle.calc_query.specs.Answers.{end_of}
 use Rattle.calc_query.proofs.ChainLaws.{steps_through}
 use Rattle.calc_query.proofs.answers.push_extended.Given as goal

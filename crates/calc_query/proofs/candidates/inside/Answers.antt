@@ -1,8 +1,8 @@
-use Rattle.std.proofs.Common.{◌≡◌, ℕ, ◌+◌, ◌-◌, ◌*◌, ◌/◌, ◌≤◌, sym, ap, ◌∙◌, arith}
+use Rattle.std.proofs.Common.{ℕ, ◌-◌, ◌/◌, sym, ap, ◌∙◌, arith}
 use Rattle.std.specs.List.{range_with_len}
 use Rattle.topo_tree.specs.Beginnings.{width_at}
 use Rattle.topo_tree.specs.Coverage.{layer_depth, set_of}
-use Rattle.calc_query.proofs.CandidateLaws.{Found, found, first_inside, end_inside, run_inside, run_within, none_inside}
+use Rattle.calc_query.proofs.CandidateLaws.{found, first_inside, end_inside, run_inside, run_within, none_inside}
 use Rattle.calc_query.proofs.candidates.inside.Goals as goal
 
 pub returns-then-count-eq0-clause-run : goal.returns-then-count-eq0-clause-run

@@ -1,9 +1,9 @@
-use Rattle.std.proofs.Common.{◌≡◌, ◌-◌, length, Ok, Err, sym, ap, subst, ◌∙◌, arith}
+use Rattle.std.proofs.Common.{◌-◌, length, Ok, sym, ap, subst, ◌∙◌, arith}
 use Rattle.std.proofs.lemmas.Bool.{eqb-true, eqb-false}
 use Rattle.std.proofs.lemmas.Result.{err_from_is_err_and}
 use Rattle.synth_text.specs.Flaws.{◌>>=◌}
 use Rattle.calc_query.specs.declared.query.Location.TheVariants as locations
-use Rattle.calc_query.specs.Readings.{parts_from, Answers, FailsWith, location_of}
+use Rattle.calc_query.specs.Readings.{parts_from, Answers, FailsWith}
 use Rattle.calc_query.proofs.PartReadings.{pieces_of}
 use Rattle.calc_query.proofs.LocationReadings.{fails_after, location-whole, location-other, location-empty, location-set, location-parts}
 use Rattle.calc_query.proofs.reading.read_behind.Goals as goal

@@ -1,9 +1,9 @@
-use Rattle.std.proofs.Common.{◌≡◌, ◌+◌, ◌-◌, ◌≤◌, length, Some, Ok, Err, sym, ap, subst, ◌∙◌, arith}
+use Rattle.std.proofs.Common.{◌≡◌, ◌+◌, ◌-◌, ◌≤◌, length, sym, ap, subst, ◌∙◌, arith}
 use Rattle.std.specs.List.{AllByRecursion}
 use Rattle.std.proofs.lemmas.Result.{err_from_is_err_and}
 use Rattle.topo_tree.specs.Objects.{IsLayer}
 use Rattle.calc_query.specs.declared.query.Part.{Part}
-use Rattle.calc_query.specs.Readings.{parts_from, Answers}
+use Rattle.calc_query.specs.Readings.{parts_from}
 use Rattle.calc_query.proofs.PartReadings.{pieces_of, pieces_left, length_left, begins, after, stops, next_read, pieces_shorter, all_push}
 use Rattle.calc_query.proofs.LocationReadings.{fails_by}
 use Rattle.calc_query.proofs.reading.read_parts.Goals as goal

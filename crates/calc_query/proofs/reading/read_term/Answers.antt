@@ -1,7 +1,7 @@
-use Rattle.std.proofs.Common.{◌≡◌, ◌-◌, length, drop, Ok, Err, sym, ap, subst, ◌∙◌, arith}
+use Rattle.std.proofs.Common.{◌-◌, length, Ok, sym, ap, subst, ◌∙◌, arith}
 use Rattle.std.proofs.lemmas.Result.{err_from_is_err_and}
 use Rattle.synth_text.specs.Flaws.{◌>>=◌}
-use Rattle.calc_query.specs.Readings.{location_of, op_len, term_of, FailsWith}
+use Rattle.calc_query.specs.Readings.{location_of, op_len, FailsWith}
 use Rattle.calc_query.proofs.LocationReadings.{fails_after, op_fits, term_behind}
 use Rattle.calc_query.proofs.reading.read_term.Goals as goal
 

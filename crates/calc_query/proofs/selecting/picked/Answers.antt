@@ -1,4 +1,4 @@
-use Rattle.std.proofs.Common.{◌≡◌, ◌+◌, ◌∙◌, arith}
+use Rattle.std.proofs.Common.{◌∙◌, arith}
 use Rattle.calc_query.proofs.SelectionLaws.{collect_none}
 use Rattle.calc_query.proofs.PickLaws.{picked_at, pick_more, pick_none, pick_all}
 use Rattle.calc_query.proofs.selecting.picked.Goals as goal

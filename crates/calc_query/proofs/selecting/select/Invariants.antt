@@ -1,4 +1,4 @@
-use Rattle.std.proofs.Common.{◌≡◌, [], take}
+use Rattle.std.proofs.Common.{◌≡◌, take}
 use Rattle.calc_query.specs.Selection.{selected}
 use Rattle.calc_query.proofs.selecting.select.Given as goal
 

@@ -1,4 +1,4 @@
-use Rattle.std.proofs.Common.{◌≡◌, [], ◌∷◌, sym, ap, ◌∙◌, arith}
+use Rattle.std.proofs.Common.{[], ◌∷◌, ap, ◌∙◌, arith}
 use Rattle.cpu_set.specs.Sets.{union}
 use Rattle.topo_tree.specs.declared.layer.Layer.TheVariants as layers
 use Rattle.calc_query.specs.Selection.{selected_from}

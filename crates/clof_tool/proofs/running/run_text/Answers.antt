@@ -1,23 +1,23 @@
-use Rattle.std.proofs.Common.{◌≡◌, ℕ, inr, ap, ◌∙◌}
-use Rattle.std.proofs.lemmas.Result.{IfOk-weaker}
-use Rattle.mc_text.specs.Reading.{commands_of, rest_of}
-use Rattle.mc_text.proofs.Sections.{section_spelled}
-use Rattle.placed_runner.specs.Input.{IsServed}
-use Rattle.placed_runner.specs.Text.{section_text}
+use Rattle.std.proofs.Common.{Err, map, refl, inl, inr, ap, ◌∙◌}
+use Rattle.placed_runner.specs.Views.{section_view}
+use Rattle.clof_tool.specs.Run.{text_in_order}
+use Rattle.clof_tool.proofs.SectionRuns.{status_only, printed_not, printed_memory}
 use Rattle.clof_tool.proofs.running.run_text.Goals as goal
 
-pub returns-in-Ok-Some-clause-ok : goal.returns-in-Ok-Some-clause-ok
-returns-in-Ok-Some-clause-ok c =
-    let bytes = c.in-Ok-Some.section.bytes.now in
-    let served : IsServed c.args.input.now bytes = rw c.in-Ok-Some.field-0-is at c.in-Ok-Some.ensures.some in
-    let pu : c.in-Ok-Some.section.pu ≡ 0 = rw c.in-Ok-Some.field-0-is at c.in-Ok-Some.ensures.pu in
-    IfOk-weaker c.section_text.result _ _
-    (λ text printed. inr (record {
-      bytes = bytes;
-      commands = commands_of bytes;
-      rest = rest_of bytes;
-      served = served;
-      spelled = section_spelled bytes;
-      printed = printed ∙ ap (λ (at : ℕ). section_text at (commands_of bytes) (rest_of bytes)) pu;
-    }))
-    c.section_text.ensures.ok
+pub returns-in-Ok-text_in_order-clause-refused : goal.returns-in-Ok-text_in_order-clause-refused
+returns-in-Ok-text_in_order-clause-refused c status refuses =
+    let sections = map section_view c.in-Ok.sections.items in
+    absurd (printed_not c.args.topology.now c.args.input.now (text_in_order sections) status
+    (record { sections = sections; are = c.in-Ok.ensures.sections; printed_is = refl }) refuses)
+
+pub returns-clause-refused : goal.returns-clause-refused
+returns-clause-refused c status refuses =
+    elim (status_only c.args.topology.now c.args.input.now c.in-Err.fault status c.in-Err.ensures.refused refuses) [
+      | inl is ↦ inl (ap Err (c.section_status.ensures.status ∙ is))
+      | inr memory ↦ inr (ap Err (c.section_status.ensures.status ∙ memory))
+    ]
+
+pub returns-clause-complete : goal.returns-clause-complete
+returns-clause-complete c printed prints =
+    inr (ap Err (c.section_status.ensures.status
+    ∙ printed_memory c.args.topology.now c.args.input.now printed c.in-Err.fault c.in-Err.ensures.refused prints))

@@ -2,8 +2,7 @@ use Rattle.std.proofs.Common.{◌≡◌, ◌∙◌, ◌++◌, ◌∷◌, [], fal
 use Rattle.std.proofs.lemmas.List.{map-append}
 use Rattle.std.proofs.lemmas.List.Elements.{All-push}
 use Rattle.mc_text.specs.Request.{view}
-use Rattle.mc_text.specs.Commands.{left}
-use Rattle.mc_text.specs.Reading.{commands_of}
+use Rattle.mc_text.specs.Commands.{commands_left}
 use Rattle.kv_history.specs.Log.{Logged, NoneVoid, applied_entry, commands, own}
 use Rattle.kv_history.proofs.Logs.{own-push}
 use Rattle.kv_history.proofs.tests.applied.Goals as goal
@@ -24,7 +23,7 @@ loop-command-preserved c =
           ∙ ap (λ known. known ++ command ∷ []) c.loop-command.invariant.alone ∙ more;
       next = c.loop-command.invariant.next
           ∙ ap (λ later. commands entries ++ later) c.in-Some.ensures.commands
-          ∙ sym (append_assoc (commands entries) (command ∷ []) (commands_of (left c.next.new.self)))
-          ∙ ap (λ known. known ++ commands_of (left c.next.new.self)) more;
+          ∙ sym (append_assoc (commands entries) (command ∷ []) (commands_left c.next.new.self))
+          ∙ ap (λ known. known ++ commands_left c.next.new.self) more;
       done = subst NoneVoid (sym entries_are) none;
     }

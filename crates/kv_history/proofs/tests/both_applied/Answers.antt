@@ -1,8 +1,7 @@
 use Rattle.std.proofs.Common.{◌≡◌, ◌∙◌, ◌++◌, ◌∷◌, [], sym, ap}
 use Rattle.std.specs.Prelude.{slice_get}
 use Rattle.mc_text.specs.Request.{view}
-use Rattle.mc_text.specs.Commands.{left}
-use Rattle.mc_text.specs.Reading.{commands_of}
+use Rattle.mc_text.specs.Commands.{commands_left}
 use Rattle.kv_history.specs.Log.{applied_entry, own}
 use Rattle.kv_history.proofs.Logs.{own-push}
 use Rattle.kv_history.proofs.tests.both_applied.Goals as goal
@@ -10,11 +9,11 @@ use Rattle.kv_history.proofs.tests.both_applied.Goals as goal
 pub apply-requires : goal.apply-requires
 apply-requires c = record {
   section = c.args.writer.now;
-  rest = commands_of (left c.next.new.self);
+  rest = commands_left c.next.new.self;
   place = ap (λ sections. slice_get sections 0) c.in_ok-journal.ensures.sections;
-  next = ap commands_of (sym c.new.ensures)
+  next = sym c.new.ensures.commands
       ∙ c.in-Some.ensures.commands
-      ∙ ap (λ entries. own entries 0 ++ view c.in-Some.written ∷ commands_of (left c.next.new.self)) (sym c.in_ok-journal.ensures.entries);
+      ∙ ap (λ entries. own entries 0 ++ view c.in-Some.written ∷ commands_left c.next.new.self) (sym c.in_ok-journal.ensures.entries);
 }
 
 pub apply-requires-2 : goal.apply-requires-2
@@ -26,9 +25,9 @@ apply-requires-2 c =
     ∙ ap (λ entries. own entries 1 ++ []) c.in_ok-journal.ensures.entries in
     record {
       section = c.args.reader.now;
-      rest = commands_of (left c.next-2.new.self);
+      rest = commands_left c.next-2.new.self;
       place = ap (λ sections. slice_get sections 1) (c.in_ok-first.ensures.sections ∙ c.in_ok-journal.ensures.sections);
-      next = ap commands_of (sym c.new-2.ensures)
+      next = sym c.new-2.ensures.commands
           ∙ c.in-Some-next.ensures.commands
-          ∙ ap (λ known. known ++ view c.in-Some-next.read ∷ commands_of (left c.next-2.new.self)) (sym none_yet);
+          ∙ ap (λ known. known ++ view c.in-Some-next.read ∷ commands_left c.next-2.new.self) (sym none_yet);
     }

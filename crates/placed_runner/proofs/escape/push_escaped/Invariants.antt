@@ -1,7 +1,10 @@
-use Rattle.std.proofs.Common.{◌≡◌, ◌++◌, take}
+use Rattle.std.proofs.Common.{◌≡◌, ◌++◌, length}
 use Rattle.placed_runner.specs.Text.{escaped}
 use Rattle.placed_runner.proofs.escape.push_escaped.Given as goal
 
--- the bytes so far have been appended
-abbrev pub invariant-loop-byte : goal.invariant-loop-byte
-invariant-loop-byte l = l.out.items ≡ l.fn.out.items ++ escaped (take l.byte-index l.text)
+-- what has been appended, and what is still to be
+abbrev pub invariant-loop-plain : goal.invariant-loop-plain
+invariant-loop-plain l = l.out.items ++ escaped l.rest ≡ l.fn.out.items ++ escaped l.text
+
+abbrev pub decreases-loop-plain : goal.decreases-loop-plain
+decreases-loop-plain l = length l.rest

@@ -1,10 +1,19 @@
-use Rattle.std.proofs.Common.{◌≡◌, length, take}
-use Rattle.placed_runner.specs.Text.{turn_lines}
+use Rattle.std.proofs.Common.{◌≡◌, ◌++◌, length, map, take}
+use Rattle.std.specs.List.{flat_map, enumerate_from}
+use Rattle.placed_runner.specs.Text.{turn_lines, caller_lines}
+use Rattle.placed_runner.specs.Entries.{told_entry}
+use Rattle.placed_runner.specs.Views.{section_view}
 use Rattle.placed_runner.proofs.printing.text.Given as goal
 
 -- the lines of the entries so far have been appended
 abbrev pub invariant-loop-number : goal.invariant-loop-number
 invariant-loop-number l = record {
   within : l.number-end ≡ length l.journal.entries;
-  lines : l.out.items ≡ turn_lines l.section.pu 0 (take l.number l.journal.entries);
+  lines : l.out.items ≡ turn_lines (map section_view l.sections) (map told_entry (take l.number l.journal.entries));
 }
+
+-- and then those of the callers so far
+abbrev pub invariant-loop-caller : goal.invariant-loop-caller
+invariant-loop-caller l =
+    l.out.items
+    ≡ turn_lines (map section_view l.sections) (map told_entry l.journal.entries) ++ caller_lines (map section_view (take l.caller l.sections))

@@ -1,12 +1,15 @@
-use Rattle.std.proofs.Common.{length}
-use Rattle.mc_text.specs.Commands.{left}
-use Rattle.mc_text.specs.Reading.{commands_of}
-use Rattle.placed_runner.proofs.Runs.{HasDone}
+use Rattle.std.proofs.Common.{◌≡◌, ◌<◌, map, take}
+use Rattle.std.specs.List.{AllByRecursion}
+use Rattle.kv_history.specs.Log.{NoneVoid}
+use Rattle.placed_runner.specs.Running.{calls, calls_in_order}
+use Rattle.placed_runner.specs.Views.{section_view}
 use Rattle.placed_runner.proofs.running.run_in_order.Given as goal
 
--- the journal has the history of the commands so far, and those that are left make up the section's
-abbrev pub invariant-loop-command : goal.invariant-loop-command
-invariant-loop-command l = HasDone l.section.bytes.now (left l.commands) l.fn.journal.sections l.journal.sections l.journal.entries
-
-abbrev pub decreases-loop-command : goal.decreases-loop-command
-decreases-loop-command l = length (commands_of (left l.commands))
+-- the commands of the sections so far have been applied
+abbrev pub invariant-loop-caller : goal.invariant-loop-caller
+invariant-loop-caller l = record {
+  same : l.journal.sections ≡ l.fn.journal.sections;
+  called : calls l.journal.entries ≡ calls_in_order (map section_view (take l.caller l.sections));
+  whole : NoneVoid l.journal.entries;
+  lower : AllByRecursion (λ call. call.caller < l.caller) (calls l.journal.entries);
+}

@@ -1,11 +1,13 @@
-use Rattle.std.proofs.Common.{arith}
-use Rattle.std.proofs.lemmas.List.{length-map}
-use Rattle.kv_history.specs.Views.{logged}
+use Rattle.std.proofs.Common.{◌∙◌, ap, length, arith}
 use Rattle.kv_history.specs.Journal.{log_of}
 use Rattle.kv_history.proofs.Logs.{entries-within}
+use Rattle.kv_history.proofs.Places.{length-kept}
 use Rattle.kv_history.proofs.journal.Journal.entries.Goals as goal
 
 pub overflow_cast-result : goal.overflow_cast-result
 overflow_cast-result c =
     let within = entries-within (log_of c.self.inside) c.self.invariant.sound in
-    omega (arith, within, length-map c.self.inside.records.items logged, c.self.invariant.small)
+    omega (arith, within, length-kept c.self.inside c.self.invariant, c.self.invariant.small, c.len.ensures)
+
+pub returns-clause-count : goal.returns-clause-count
+returns-clause-count c = c.len.ensures ∙ length-kept c.self.inside c.self.invariant ∙ ap (λ log. length log.entries) c.self.view_is

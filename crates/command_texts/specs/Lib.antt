@@ -1,0 +1,9 @@
+pub mod CalcText
+pub mod Chosen
+pub mod DistribText
+pub mod Ends
+pub mod Line
+pub mod OnTopology
+pub mod SetText
+pub mod Status
+pub mod TopoText

@@ -1,0 +1,141 @@
+// What `calc` prints.
+ghost use Rattle.std.specs.Prelude.{◌≡◌, ◌⊎◌, ◌++◌, ◌∷◌, [], ℕ, List, option_map, IfOk, IfErr, IsOk};
+ghost use Rattle.calc_text.specs.Layers.{HasLayers};
+ghost use Rattle.calc_text.specs.Texts.{answer_text};
+ghost use Rattle.command_words.specs.Plain.{plain_question, plain_calculation};
+ghost use Rattle.command_texts.specs.declared.status.Fault.TheVariants.{TypeOf};
+ghost use Rattle.command_texts.specs.declared.status.Status.{Status as AnyStatus};
+ghost use Rattle.command_texts.specs.CalcText.{numbering_of, answer_for, calc_status, calc_on, PrintsCalc, CalcRefuses};
+ghost use Rattle.command_texts.specs.Ends.{EndsEarly};
+
+use crate::chosen::chosen;
+use crate::topology::topology;
+use crate::{Fault, OptionName, Status};
+use calc_query::{CalcFault, Numbering, select};
+use calc_text::{Answer, Style, answer_text, read_layers, read_terms};
+use command_words::{Calculation, Question};
+use cpu_set::CpuSet;
+use out_of_memory::OutOfMemory;
+use std::alloc::Global;
+use topo_tree::Topology;
+
+/// The answer on the set that locations select, or the status with which it is refused.
+pub fn calc_text(alloc: Global, asked: &Calculation<'_>) -> Result<Vec<u8>, Status>
+    ensures ok { IfOk result (λ printed. PrintsCalc (plain_calculation asked.now) printed.items) }
+    ensures err { IfErr result (λ status. (status ≡ Status.OutOfMemory) ⊎ CalcRefuses (plain_calculation asked.now) status) }
+    ensures refused { (status : AnyStatus) → CalcRefuses (plain_calculation asked.now) status →
+        (result ≡ Err status) ⊎ (result ≡ Err Status.OutOfMemory) }
+    ensures complete { (printed : List ℕ) → PrintsCalc (plain_calculation asked.now) printed →
+        IsOk result ⊎ (result ≡ Err Status.OutOfMemory) }
+    ensures early { IfErr result EndsEarly }
+{
+    match topology(alloc, asked.description) {
+        Ok(topology) => match answer_on(alloc, &topology, asked) {
+            Ok(text) => Ok(text),
+            Err(status) => Err(status),
+        },
+        Err(status) => Err(status),
+    }
+}
+
+// The answer on a topology, or the status with which it is refused.
+#[tactic(auto, unfolding(crate::specs::CalcText::calc_on))]
+fn answer_on(alloc: Global, topology: &Topology, asked: &Calculation<'_>) -> Result<Vec<u8>, Status>
+    ensures ok { IfOk result (λ printed. calc_on topology.now (plain_calculation asked.now) ≡ Ok printed.items) }
+    ensures err { IfErr result (λ status. (status ≡ Status.OutOfMemory)
+        ⊎ (calc_on topology.now (plain_calculation asked.now) ≡ Err status)) }
+    ensures early { IfErr result EndsEarly }
+{
+    let answer = match answer_for(alloc, topology, asked.question) {
+        Ok(answer) => answer,
+        Err(status) => return Err(status),
+    };
+    let terms = match read_terms(alloc, topology, &asked.locations) {
+        Ok(terms) => terms,
+        Err(fault) => return Err(calc_status(fault)),
+    };
+    let numbering = numbering_of(asked.physical);
+    let style = Style {
+        numbering,
+        taskset: asked.taskset,
+        separator: asked.separator,
+    };
+    let set = chosen(asked.single, &select(topology, &terms, numbering));
+    match line(alloc, topology, &set, &answer, style) {
+        Ok(text) => Ok(text),
+        Err(OutOfMemory) => Err(Status::OutOfMemory),
+    }
+}
+
+// What is asked of a set, on a topology.
+fn answer_for(alloc: Global, topology: &Topology, question: Question<'_>) -> Result<Answer, Status>
+    ensures ok { IfOk result (λ answer. answer_for topology.now (plain_question question.entry) ≡ Ok answer) }
+    ensures err { IfErr result (λ status. (status ≡ Status.OutOfMemory)
+        ⊎ (answer_for topology.now (plain_question question.entry) ≡ Err status)) }
+    ensures fit { IfOk result (HasLayers topology.now) }
+    ensures early { IfErr result EndsEarly }
+{
+    match question {
+        Question::Set => Ok(Answer::Set),
+        Question::Intersect(name) => match topology.layer_named(name) {
+            Some(layer) => Ok(Answer::Objects(layer)),
+            None => Err(untyped(OptionName::Intersect)),
+        },
+        Question::NumberOf(name) => match topology.layer_named(name) {
+            Some(layer) => Ok(Answer::Count(layer)),
+            None => Err(untyped(OptionName::NumberOf)),
+        },
+        Question::Hierarchical(names) => match read_layers(alloc, topology, names) {
+            Ok(Some(layers)) => Ok(Answer::Chains(layers)),
+            Ok(None) => Err(untyped(OptionName::Hierarchical)),
+            Err(OutOfMemory) => Err(Status::OutOfMemory),
+        },
+        Question::Largest => Ok(Answer::Largest),
+    }
+}
+
+// The refusal of an option's type.
+fn untyped(option: OptionName) -> Status
+    ensures { result ≡ Status.Malformed (TypeOf option) }
+{
+    Status::Malformed(Fault::TypeOf(option))
+}
+
+// Which numbers objects have.
+fn numbering_of(physical: bool) -> Numbering
+    ensures { result ≡ numbering_of physical }
+{
+    if physical {
+        Numbering::Physical
+    } else {
+        Numbering::Logical
+    }
+}
+
+// The status of a fault of a location.
+fn calc_status(fault: CalcFault) -> Status
+    ensures status { result ≡ calc_status fault }
+    ensures early { EndsEarly result }
+{
+    match fault {
+        CalcFault::OutOfMemory => Status::OutOfMemory,
+        _ => Status::Malformed(Fault::Calc(fault)),
+    }
+}
+
+// The text of an answer, and a line end.
+fn line(
+    alloc: Global,
+    topology: &Topology,
+    set: &CpuSet,
+    answer: &Answer,
+    style: Style<'_>,
+) -> Result<Vec<u8>, OutOfMemory>
+    requires { HasLayers topology.now answer.now }
+    ensures { IfOk result (λ text. text.items ≡ answer_text topology.now set.now answer.now style.entry.numbering
+        style.entry.taskset (option_map (λ separator. separator.now) style.entry.separator) ++ 10 ∷ []) }
+{
+    let mut text = answer_text(alloc, topology, set, answer, style)?;
+    text.push(b'\n')?;
+    Ok(text)
+}

@@ -1,0 +1,21 @@
+//! What the commands print that read no input, and how a call of the program ends: its status, its code and its line.
+#![tactic(auto)]
+
+mod calculation;
+mod chosen;
+mod distribution;
+mod lines;
+mod sets;
+mod status;
+pub mod topology;
+mod trees;
+
+pub use calculation::calc_text;
+pub use distribution::distrib_text;
+pub use lines::{Line, line};
+pub use sets::set_text;
+pub use status::{Fault, OptionName, Status};
+pub use trees::topo_text;
+
+#[cfg(test)]
+mod tests;

@@ -1,0 +1,37 @@
+// What `topo` prints.
+ghost use Rattle.std.specs.Prelude.{◌≡◌, ◌⊎◌, List, ℕ, IfErr, IfOk, IsOk};
+ghost use Rattle.command_texts.specs.declared.status.Status.{Status as AnyStatus};
+ghost use Rattle.command_texts.specs.TopoText.{text_of, PrintsTopo, TopoRefuses};
+
+use crate::Status;
+use crate::topology::topology;
+use out_of_memory::OutOfMemory;
+use std::alloc::Global;
+use topo_tree::Topology;
+
+/// The tree of the description that a text tells, or its canonical text, or the status with which it is refused.
+pub fn topo_text(alloc: Global, export: bool, text: &[u8]) -> Result<Vec<u8>, Status>
+    ensures ok { IfOk result (λ printed. PrintsTopo export text.now printed.items) }
+    ensures err { IfErr result (λ status. (status ≡ Status.OutOfMemory) ⊎ TopoRefuses text.now status) }
+    ensures refused { (status : AnyStatus) → TopoRefuses text.now status → (result ≡ Err status) ⊎ (result ≡ Err Status.OutOfMemory) }
+    ensures complete { (printed : List ℕ) → PrintsTopo export text.now printed → IsOk result ⊎ (result ≡ Err Status.OutOfMemory) }
+{
+    match topology(alloc, text) {
+        Ok(topology) => match text_of(alloc, export, &topology) {
+            Ok(printed) => Ok(printed),
+            Err(OutOfMemory) => Err(Status::OutOfMemory),
+        },
+        Err(status) => Err(status),
+    }
+}
+
+// The tree of a topology, or its canonical text.
+fn text_of(alloc: Global, export: bool, topology: &Topology) -> Result<Vec<u8>, OutOfMemory>
+    ensures { IfOk result (λ printed. printed.items ≡ text_of export topology.now) }
+{
+    if export {
+        topology.export(alloc)
+    } else {
+        topology.show(alloc)
+    }
+}

@@ -1,0 +1,176 @@
+// What each command makes of the store.
+ghost use Rattle.std.specs.Prelude.{◌≡◌, IfOk, OnErr, OnOk};
+ghost use Rattle.std.specs.FinMap as map;
+ghost use Rattle.kv_history.specs.Answer.{counted, counting, deletion, kept, number_of, storage, touching};
+ghost use Rattle.kv_history.specs.Edits.{joining};
+ghost use Rattle.kv_history.specs.Lines.{fixed_line, written_line};
+ghost use Rattle.kv_history.specs.Views.{storing_view};
+ghost use Rattle.kv_history.specs.declared.reply_line.FixedLine.TheVariants.{Stored};
+ghost use Rattle.mc_text.specs.declared.command.How.TheVariants.{Cas};
+
+use crate::Store;
+use crate::item::{Edit, Side};
+use crate::reply_line::{FixedLine, ReplyLine};
+use crate::storing::Storing;
+use byte_text::number_up_to;
+use itoa::Buffer;
+use mc_text::How;
+use out_of_memory::OutOfMemory;
+
+// The greatest number of bytes of a value.
+const VALUE_LIMIT: usize = 1_048_576;
+
+// The greatest number of digits of a number that can be counted.
+const DIGIT_LIMIT: usize = 20;
+
+impl Store {
+    /// Stores an item as a storage command asks. Without memory the store stays.
+    pub(crate) fn store(&mut self, storing: &Storing<'_>) -> Result<FixedLine, OutOfMemory>
+        ensures line { IfOk result (λ line. fixed_line line ≡ (storage self.old (storing_view storing.now) storing.now.how
+            (map.get self.old.items storing.now.key.now)).reply) }
+        ensures store { OnOk result (self.new ≡ (storage self.old (storing_view storing.now) storing.now.how
+            (map.get self.old.items storing.now.key.now)).store) }
+        ensures err { OnErr result (self.new ≡ self.old) }
+    {
+        match storing.how {
+            How::Set => self.keep(storing),
+            How::Add => match self.items.get(storing.key) {
+                None => self.keep(storing),
+                Some(_) => Ok(FixedLine::NotStored),
+            },
+            How::Replace => match self.items.get(storing.key) {
+                None => Ok(FixedLine::NotStored),
+                Some(_) => self.keep(storing),
+            },
+            How::Append => self.join(storing.key, Side::Back, storing.block),
+            How::Prepend => self.join(storing.key, Side::Front, storing.block),
+            How::Cas => self.exchange(storing),
+        }
+    }
+
+    // Stores an item, or lets it expire at once, and uses the next unique up. Without memory the store stays.
+    fn keep(&mut self, storing: &Storing<'_>) -> Result<FixedLine, OutOfMemory>
+        ensures line { IfOk result (λ line. line ≡ Stored) }
+        ensures store { OnOk result (self.new ≡ kept self.old (storing_view storing.now)) }
+        ensures err { OnErr result (self.new ≡ self.old) }
+    {
+        if storing.exptime < 0 {
+            self.items.remove(storing.key);
+        } else {
+            self.items.put(storing.key, storing.flags, storing.block, self.next_unique)?;
+        }
+        self.next_unique = self.next_unique.wrapping_add(1);
+        Ok(FixedLine::Stored)
+    }
+
+    // Joins bytes to the block of the item that a key has. Without memory the store stays.
+    fn join(&mut self, key: &[u8], side: Side, more: &[u8]) -> Result<FixedLine, OutOfMemory>
+        ensures line { IfOk result (λ line. fixed_line line
+            ≡ (joining self.old key.now side more.now (map.get self.old.items key.now)).reply) }
+        ensures store { OnOk result (self.new ≡ (joining self.old key.now side more.now (map.get self.old.items key.now)).store) }
+        ensures err { OnErr result (self.new ≡ self.old) }
+    {
+        let Some(item) = self.items.get(key) else {
+            return Ok(FixedLine::NotStored);
+        };
+        if item.block.len().saturating_add(more.len()) > VALUE_LIMIT {
+            return Ok(FixedLine::TooLarge);
+        }
+        self.items
+            .edit(key, Edit::Join(side, more), self.next_unique)?;
+        self.next_unique = self.next_unique.wrapping_add(1);
+        Ok(FixedLine::Stored)
+    }
+
+    // Stores an item where the one that is present has the unique that is asked for. Without memory the store stays.
+    fn exchange(&mut self, storing: &Storing<'_>) -> Result<FixedLine, OutOfMemory>
+        ensures line { IfOk result (λ line. fixed_line line
+            ≡ (storage self.old (storing_view storing.now) Cas (map.get self.old.items storing.now.key.now)).reply) }
+        ensures store { OnOk result (self.new
+            ≡ (storage self.old (storing_view storing.now) Cas (map.get self.old.items storing.now.key.now)).store) }
+        ensures err { OnErr result (self.new ≡ self.old) }
+    {
+        let Some(item) = self.items.get(storing.key) else {
+            return Ok(FixedLine::NotFound);
+        };
+        if item.unique == storing.unique {
+            self.keep(storing)
+        } else {
+            Ok(FixedLine::Exists)
+        }
+    }
+
+    /// Removes a key's item.
+    pub(crate) fn delete(&mut self, key: &[u8]) -> FixedLine
+        ensures line { fixed_line result ≡ (deletion self.old key.now (map.get self.old.items key.now)).reply }
+        ensures store { self.new ≡ (deletion self.old key.now (map.get self.old.items key.now)).store }
+    {
+        if self.items.remove(key) {
+            FixedLine::Deleted
+        } else {
+            FixedLine::NotFound
+        }
+    }
+
+    /// Counts a key's number up or down. Without memory the store stays.
+    pub(crate) fn count(
+        &mut self,
+        up: bool,
+        key: &[u8],
+        delta: u64,
+    ) -> Result<ReplyLine, OutOfMemory>
+        ensures line { IfOk result (λ line. written_line line
+            ≡ (counting self.old up key.now delta (map.get self.old.items key.now)).reply) }
+        ensures store { OnOk result (self.new ≡ (counting self.old up key.now delta (map.get self.old.items key.now)).store) }
+        ensures err { OnErr result (self.new ≡ self.old) }
+    {
+        let Some(item) = self.items.get(key) else {
+            return Ok(ReplyLine::Fixed(FixedLine::NotFound));
+        };
+        let Some(number) = number_of(&item.block) else {
+            return Ok(ReplyLine::Fixed(FixedLine::NotNumber));
+        };
+        let number = counted(up, number, delta);
+        let mut buffer = Buffer::new();
+        let digits = buffer.format(number).as_bytes();
+        self.items.edit(key, Edit::Block(digits), self.next_unique)?;
+        self.next_unique = self.next_unique.wrapping_add(1);
+        Ok(ReplyLine::Number(number))
+    }
+
+    /// Lets a key's item expire at once, where the expiry time is negative.
+    pub(crate) fn touch(&mut self, key: &[u8], exptime: i32) -> FixedLine
+        ensures line { fixed_line result ≡ (touching self.old key.now exptime (map.get self.old.items key.now)).reply }
+        ensures store { self.new ≡ (touching self.old key.now exptime (map.get self.old.items key.now)).store }
+    {
+        if self.items.get(key).is_none() {
+            return FixedLine::NotFound;
+        }
+        if exptime < 0 {
+            self.items.remove(key);
+        }
+        FixedLine::Touched
+    }
+}
+
+// The number that a block is.
+fn number_of(block: &[u8]) -> Option<u64>
+    ensures { result ≡ number_of block.now }
+{
+    if block.len() <= DIGIT_LIMIT {
+        number_up_to(u64::MAX, block)
+    } else {
+        None
+    }
+}
+
+// A number counted up, round at 2^64, or down, to 0 at least.
+fn counted(up: bool, number: u64, delta: u64) -> u64
+    ensures { result ≡ counted up number delta }
+{
+    if up {
+        number.wrapping_add(delta)
+    } else {
+        number.saturating_sub(delta)
+    }
+}

@@ -1,0 +1,117 @@
+// Where callers stand.
+ghost use Rattle.std.specs.Prelude.{◌≡◌, ◌<◌, ◌≤◌, [], ◌∷◌, Some, None, IfOk, IfErr, length};
+ghost use Rattle.calc_query.specs.declared.query.Op.TheVariants as ops;
+ghost use Rattle.calc_query.specs.declared.query.Numbering.TheVariants as numberings;
+ghost use Rattle.calc_query.specs.Selection.{selected, HasLayers};
+ghost use Rattle.out_of_memory.specs.Memory.{UnlessMemory};
+ghost use Rattle.placed_runner.specs.declared.fault.SectionFault.TheVariants as faults;
+ghost use Rattle.placed_runner.specs.Places.{lone_pu, place_of, masks_of, first_pu, mask_pu, pu_on};
+
+use crate::fault::SectionFault;
+use calc_query::{CalcFault, Location, Numbering, Op, Term, read_location, select};
+use cpu_set::CpuSet;
+use distrib_rules::distrib;
+use out_of_memory::OutOfMemory;
+use std::alloc::Global;
+use topo_tree::Topology;
+
+/// Where a caller stands.
+#[derive(Clone, Copy, Debug, PartialEq, Eq)]
+pub enum Place {
+    /// On any PU: the callers are spread over the topology.
+    Anywhere,
+    /// On the PU with this logical number.
+    On(u32),
+}
+
+/// The place that a word names: any for `*`, and else the one PU of a location. `at` is where the head of the word begins.
+#[tactic(auto, unfolding(crate::specs::Places::place_of))]
+pub(crate) fn read_place(
+    alloc: Global,
+    topology: &Topology,
+    word: &[u8],
+    at: usize,
+) -> Result<Place, SectionFault>
+    ensures found { IfOk result (λ place. place_of topology.now word.now ≡ Some place) }
+    ensures refused { IfErr result (λ fault.
+        UnlessMemory faults.OutOfMemory fault ((fault ≡ faults.BadPlace at) × (place_of topology.now word.now ≡ None))) }
+{
+    if word == b"*".as_slice() {
+        return Ok(Place::Anywhere);
+    }
+    let location = match read_location(alloc, topology, word, 0) {
+        Ok(location) => location,
+        Err(CalcFault::OutOfMemory) => return Err(SectionFault::OutOfMemory),
+        Err(CalcFault::Location { .. } | CalcFault::NoSuchType { .. }) => {
+            return Err(SectionFault::BadPlace { at });
+        }
+    };
+    match located_pu(topology, location) {
+        Some(pu) => Ok(Place::On(pu)),
+        None => Err(SectionFault::BadPlace { at }),
+    }
+}
+
+// The PU of a location that is just one.
+fn located_pu(topology: &Topology, location: Location) -> Option<u32>
+    requires { HasLayers topology.now location }
+    ensures { result ≡ lone_pu topology.now (selected topology.now numberings.Logical (record { op = ops.Join; location = location } ∷ [])) }
+{
+    let terms = [Term {
+        op: Op::Join,
+        location,
+    }];
+    lone_pu(topology, &select(topology, &terms, Numbering::Logical))
+}
+
+// The PU of a set that is just the number of one.
+#[tactic(auto, unfolding(crate::specs::Places::lone_pu))]
+fn lone_pu(topology: &Topology, set: &CpuSet) -> Option<u32>
+    ensures { result ≡ lone_pu topology.now set.now }
+{
+    if set.weight() == 1 {
+        topology.leaf_of(set.first()?)
+    } else {
+        None
+    }
+}
+
+/// The masks over which so many callers are spread that may stand on any PU.
+pub(crate) fn masks(
+    alloc: Global,
+    topology: &Topology,
+    callers: u32,
+) -> Result<Vec<CpuSet>, OutOfMemory>
+    requires some { 0 < callers }
+    requires few { callers ≤ 4096 }
+    ensures masks { IfOk result (λ masks. masks.items ≡ masks_of topology.now callers) }
+    ensures count { IfOk result (λ masks. length masks.items ≡ callers) }
+{
+    let pus = topology.depths() - 1;
+    distrib(alloc, topology, callers, 0, pus, false).map_err(|_| OutOfMemory)
+}
+
+/// The PU of the caller with this number.
+pub(crate) fn pu_on(topology: &Topology, masks: &[CpuSet], caller: usize, place: Place) -> u32
+    requires { masks.now ≡ masks_of topology.now (length masks.now) }
+    ensures { result ≡ pu_on topology.now (length masks.now) caller place }
+{
+    match place {
+        Place::Anywhere => mask_pu(topology, masks, caller).unwrap_or(0),
+        Place::On(pu) => pu,
+    }
+}
+
+// The PU of the mask with this number.
+fn mask_pu(topology: &Topology, masks: &[CpuSet], caller: usize) -> Option<u32>
+    ensures { result ≡ mask_pu topology.now masks.now caller }
+{
+    first_pu(topology, masks.get(caller)?)
+}
+
+// The PU of a mask's first number.
+fn first_pu(topology: &Topology, mask: &CpuSet) -> Option<u32>
+    ensures { result ≡ first_pu topology.now mask.now }
+{
+    topology.leaf_of(mask.first()?)
+}
