@@ -36,7 +36,8 @@ module _ {B : Type 0} (tag : B → Tag) where
 
   -- a basic lock for each node, in the order of their numbers
   abbrev pub AreLocks : (Context → Type 0) → ℕ → Tag → List B → Type 0
-  AreLocks has high_level root_tag_is locks = (n : ℕ) (lock : B) → slice_get locks n ≡ Some lock → IsLockOf has high_level root_tag_is n lock
+  AreLocks has high_level root_tag_is locks = (n : ℕ) (lock : B) → slice_get locks n ≡ Some lock
+      → IsLockOf has high_level root_tag_is n lock
 
 module _ {B : Type 0} (name tag : B → Tag) where
   -- the context is one of the level: under its parent, with the pass of the node's basic lock that falls to it

@@ -38,6 +38,8 @@ pub(crate) fn keep_for_next<P: Payload, Pass: Resting, Held: Standing<P>>(
         (kept_stand Held.stand own.old.high).context.tag level keep own.old.node) }
     ensures node { own.new.node ≡ own.old.node }
     ensures said { own.new.said ≡ yes }
+    ensures raised { IfSome result (λ _. own.new.kept ≡ own.old.kept + 1) }
+    ensures not_raised { IfNone result (own.new.kept ≡ own.old.kept) }
     ensures context { (kept_stand Held.stand own.new.high).context ≡ (kept_stand Held.stand own.old.high).context }
     ensures stands { IsStanding Held.stands own.new.high }
     ensures kept { IfSome result (λ _. (yes ≡ true)
