@@ -1,0 +1,31 @@
+//! What a composed lock promises as a whole, as laws of its parts. Each is a function that does nothing, whose contract is the law.
+//!
+//! How often in a row a level keeps its high lock is a law of the trail, `keep_local::keeps_at_most`.
+#![tactic(auto)]
+
+ghost use Rattle.std.specs.Prelude.{Bool};
+ghost use Rattle.lock_rules.specs.declared.view.Phase.{Phase};
+ghost use Rattle.level_laws.specs.Laws.{AtMostOneHolds, ContextsAreApart, KeptIsWaitedFor};
+
+use clof_compose::{Composed, Own, Payload, Resting, Standing};
+use lock_rules::{Basic, Cargo, Held as Holds};
+
+/// Between any two atomic steps at most one pass holds a basic lock. So the root, which is the value of the top lock, has at most one holder.
+pub fn at_most_one_holds<V: Cargo>()
+    ensures { (holds : Phase → Bool) → AtMostOneHolds V.fit V.tag V.parked holds }
+{}
+
+/// The values of two nodes of a level over this lock never have the same context of it. So each context is used by the holder of one node
+/// alone.
+pub fn contexts_are_apart<
+    P: Payload,
+    H: Composed<P>,
+    B: Basic<Own<P, H::Pass, H::Held>, Held = Holds<Own<P, H::Pass, H::Held>>>,
+>(_high: &H)
+    ensures { ContextsAreApart H.Pass.rest H.Held.stand B.tag (H.has _high.now) (H.level _high.now) (H.tag _high.now) }
+{}
+
+/// Where the value of a node is at home with its high lock kept, somebody is queued at the node's basic lock.
+pub fn kept_is_waited_for<P: Payload, Pass: Resting, Held: Standing<P>>()
+    ensures { (holds : Phase → Bool) → KeptIsWaitedFor P.calls P.tag Pass.rest Held.stand Held.stands holds }
+{}

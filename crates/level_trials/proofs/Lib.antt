@@ -1,0 +1,5 @@
+pub mod Items
+pub mod Making
+pub mod Rooms
+pub mod Shares
+pub mod States

@@ -1,0 +1,145 @@
+//! Locks of several levels, made level by level.
+ghost use Rattle.std.specs.Prelude.{◌≡◌, ◌+◌, ◌^◌, ◌<◌, ◌≤◌, ℕ, All, length, sum, IfSome};
+ghost use Rattle.keep_local.specs.Shapes.{IsWellFormed, callers_of, top_of};
+ghost use Rattle.keep_local.specs.States.{IsTrail, new_shares, new_trail};
+ghost use Rattle.clof_compose.specs.Contexts.{AreContexts};
+ghost use Rattle.clof_compose.specs.Courses.{course_of};
+ghost use Rattle.clof_compose.specs.Passes.{AreAll};
+ghost use Rattle.clof_compose.specs.Roots.{IsFit, root_tag};
+ghost use Rattle.level_trials.specs.Rooms.{HasRoom, roll_tag};
+
+use crate::roll::Roll;
+use crate::shapes::copy_of;
+use crate::walks::walk;
+use clof_compose::{Composed, Own, Resting, Root, make_top};
+use keep_local::{Shape, Share, Trail};
+use lock_rules::{Basic, Held};
+use lock_shape::{add_level, contexts_at};
+use std::alloc::Global;
+use std::marker::PhantomData;
+use std::sync::Wait;
+use ticket_lock::Ticket;
+
+/// The value of a level over H.
+pub type Owned<H> = Own<Roll, <H as Composed<Roll>>::Pass, <H as Composed<Roll>>::Held>;
+
+/// What a lock still lacks: its lowest levels, each with its kind of basic lock. Each step is proved once, over any lock above.
+pub trait Lacking {
+    // how many levels are lacking
+    ghost levels: { ℕ };
+
+    /// Adds the levels that are lacking, and has all callers walk. The answer is the root, or `None` for want of memory.
+    fn walk_below<C: Composed<Roll> + Drop, R: Wait>(
+        rt: &R,
+        alloc: Global,
+        shape: &Shape,
+        level: u32,
+        lock: C,
+        passes: Vec<C::Pass>,
+        shares: Vec<Share>,
+    ) -> Option<Root<Roll>>
+        requires shaped { IsWellFormed shape.now }
+        requires few { callers_of shape.now < 2 ^ 32 }
+        requires lacking { level ≡ levels }
+        requires below { level ≤ top_of shape.now }
+        requires sound { C.sound lock }
+        requires level { C.level lock ≡ level }
+        requires same { (course_of (C.tag lock)).shape ≡ shape.now }
+        requires contexts { AreContexts shape.now level (C.count lock) }
+        requires all { AreAll (λ p. (C.Pass.rest p).context) (C.has lock) (C.level lock) (C.tag lock) (C.count lock) passes.items }
+        requires fresh { All (λ p. (C.Pass.rest p).tests ≡ 0) passes.items }
+        requires quotas { length (course_of (C.tag lock)).quotas ≡ callers_of shape.now }
+        requires shares { shares.items ≡ new_shares (course_of (C.tag lock)).name (course_of (C.tag lock)).quotas }
+        requires room { HasRoom (course_of (C.tag lock)) }
+        ensures fit { IfSome result (IsFit (λ r. r.callers.items)) }
+        ensures tagged { IfSome result (λ r. root_tag roll_tag r ≡ C.tag lock) };
+}
+
+/// No level is lacking.
+pub struct Whole;
+
+impl Lacking for Whole {
+    ghost levels = { 0 };
+
+    fn walk_below<C: Composed<Roll> + Drop, R: Wait>(
+        rt: &R,
+        alloc: Global,
+        shape: &Shape,
+        level: u32,
+        lock: C,
+        passes: Vec<C::Pass>,
+        shares: Vec<Share>,
+    ) -> Option<Root<Roll>> {
+        walk(rt, alloc, lock, passes, shares)
+    }
+}
+
+/// A level of `Ticket` is lacking above what K lacks.
+pub struct AboveTicket<K> {
+    rest: PhantomData<K>,
+}
+
+impl<K: Lacking> Lacking for AboveTicket<K> {
+    ghost levels = { K.levels + 1 };
+
+    fn walk_below<C: Composed<Roll> + Drop, R: Wait>(
+        rt: &R,
+        alloc: Global,
+        shape: &Shape,
+        level: u32,
+        lock: C,
+        passes: Vec<C::Pass>,
+        shares: Vec<Share>,
+    ) -> Option<Root<Roll>> {
+        let below = level - 1;
+        let (lock, passes) = add_level::<Roll, C, Ticket<Owned<C>>>(
+            alloc,
+            (),
+            below,
+            shape,
+            lock,
+            passes,
+        ).ok()?;
+        K::walk_below(rt, alloc, shape, below, lock, passes, shares)
+    }
+}
+
+/// All callers of a shape, each with as many turns as its quota, walk over a lock that has a top lock over B and the levels that K lacks.
+/// The answer is the root, or `None` for want of memory, and where the shape has no callers.
+pub fn walk_under<B: Basic<Root<Roll>, Held = Held<Root<Roll>>> + Drop, K: Lacking, R: Wait>(
+    rt: &R,
+    alloc: Global,
+    recipe: B::Recipe,
+    shape: Shape,
+    quotas: &[u32],
+) -> Option<Root<Roll>>
+    requires shaped { IsWellFormed shape }
+    requires few { callers_of shape < 2 ^ 32 }
+    requires lacking { top_of shape ≡ K.levels }
+    requires quotas { length quotas.now ≡ callers_of shape }
+    requires fits { sum quotas.now < 2 ^ 32 }
+    ensures fit { IfSome result (IsFit (λ r. r.callers.items)) }
+    ensures shape { IfSome result (λ r. r.trail.shape ≡ shape) }
+    ensures quotas { IfSome result (λ r. r.trail.quotas ≡ quotas.now) }
+{
+    let same = copy_of(alloc, &shape)?;
+    let top = shape.keeps.as_slice().len() as u32;
+    let Ok(contexts) = u32::try_from(contexts_at(&shape, top)) else {
+        return None;
+    };
+    if contexts == 0 {
+        return None;
+    }
+    let room: u32 = quotas.iter().sum();
+    let Ok(roll) = Roll::reserve(alloc, room as usize) else {
+        return None;
+    };
+    let Ok((trail, shares)) = Trail::reserve(alloc, shape, quotas) else {
+        return None;
+    };
+    let root = Root::new(trail, roll);
+    let Ok((lock, passes)) = make_top::<Roll, B>(alloc, recipe, top, contexts, root) else {
+        return None;
+    };
+    K::walk_below(rt, alloc, &same, top, lock, passes, shares)
+}

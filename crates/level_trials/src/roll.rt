@@ -1,0 +1,40 @@
+//! What the callers of the trials do while they hold the lock.
+ghost use Rattle.std.specs.Prelude.{◌≡◌, ◌+◌, ◌<◌, ◌≤◌, ◌++◌, ◌∷◌, [], length, vec_capacity, IfOk};
+ghost use Rattle.lock_rules.specs.Tag.{leaf};
+
+use clof_compose::{Payload, Root};
+use out_of_memory::OutOfMemory;
+use std::alloc::Global;
+
+/// A payload whose calls note their callers, for which it has room from the start. Its tag is how many it has room for.
+#[derive(Drop)]
+pub struct Roll {
+    pub callers: Vec<u32>,
+}
+
+impl Roll {
+    /// A roll without calls, with room for as many.
+    pub fn reserve(alloc: Global, calls: usize) -> Result<Roll, OutOfMemory>
+        ensures empty { IfOk result (λ r. r.callers.items ≡ []) }
+        ensures room { IfOk result (λ r. calls ≤ vec_capacity r.callers) }
+    {
+        let callers = Vec::with_capacity(alloc, calls)?;
+        Ok(Roll { callers })
+    }
+}
+
+impl Payload for Roll {
+    ghost calls = { λ r. r.callers.items };
+
+    ghost tag = { λ r. leaf (vec_capacity r.callers) };
+}
+
+/// Notes a call of this caller.
+pub(crate) fn call(root: &mut Root<Roll>, caller: u32)
+    requires room { length root.old.payload.callers.items < vec_capacity root.old.payload.callers }
+    ensures trail { root.new.trail ≡ root.old.trail }
+    ensures noted { root.new.payload.callers.items ≡ root.old.payload.callers.items ++ caller ∷ [] }
+    ensures room { vec_capacity root.new.payload.callers ≡ vec_capacity root.old.payload.callers }
+{
+    root.payload_mut().callers.push_reserved(caller);
+}
