@@ -1,21 +1,8 @@
 // Attributes of an item.
 ghost use Rattle.std.specs.Prelude.{◌≡◌, ◌==◌, ◌&&◌, ℕ, false, true, List, Result};
 ghost use Rattle.synth_text.specs.Flaws.{Gives, seen};
-ghost use Rattle.synth_text.specs.Attributes.{
-  key_of,
-  takes,
-  has,
-  is_empty,
-  no_attributes,
-  entry_in,
-  flaw_in_value,
-  flaw_in_word,
-  AreSaidBy,
-  Adds,
-  attributes_in,
-  enclosed,
-  attributes_of,
-};
+ghost use Rattle.synth_text.specs.Attributes.{key_of, takes, has, is_empty, no_attributes, entry_in, flaw_in_value, flaw_in_word};
+ghost use Rattle.synth_text.specs.Attributes.{AreSaidBy, Adds, attributes_in, enclosed, attributes_of};
 ghost use Rattle.byte_text.specs.Views.{text_at};
 
 use crate::description::Indexes;
