@@ -16,7 +16,7 @@ use crate::laws::ClhWords;
 use atomic_table::Seat;
 use crossbeam_utils::CachePadded;
 use lock_rules::{Cargo, Pass, Refused, View};
-use lock_tables::{LockTable, deal, gather, lay, put, take, take_out};
+use lock_tables::{LockTable, into_value, join_passes, new_table, put, split_passes, take};
 use std::alloc::{AllocError, Global};
 
 /// The word `tail` and the flags, each on a line of its own, and the slot.
@@ -76,8 +76,8 @@ impl<V: Cargo> Words<V> {
         let Ok(words) = open(alloc, passes) else {
             return Err(Refused { value });
         };
-        let (table, seat) = lay::<V, ClhWords>(alloc, &words, passes, value)?;
-        let list = deal(&table.shared, seat, passes, room);
+        let (table, seat) = new_table::<V, ClhWords>(alloc, &words, passes, value)?;
+        let list = split_passes(&table.shared, seat, passes, room);
         let table = CachePadded::new(table);
         Ok((Words { table }, list))
     }
@@ -92,8 +92,8 @@ impl<V: Cargo> Words<V> {
     {
         let Words { table } = self;
         let table = table.into_inner();
-        let seat = gather(&table.shared, passes);
-        take_out(table, seat)
+        let seat = join_passes(&table.shared, passes);
+        into_value(table, seat)
     }
 
     /// Makes the pass's own node pending, for the swap to come.
