@@ -63,7 +63,7 @@ impl<V: Cargo> Basic<V> for Clh<V> {
         ensures tagged { IfGot result (λ h. V.tag h.value ≡ V.tag (padded_value self.now.words.table).shared.key.value.value) }
         ensures untested { IfGot result (λ h. (holder_of h).tested ≡ Open) }
     {
-        let (mut seat, node) = pass.into_parts();
+        let (mut seat, node) = self.words.pass_parts(pass);
         self.words.store_pending(&mut seat, node);
         let predecessor = self.words.fetch_and_store_tail(&mut seat, node);
         Step::Not(Queue::of(seat, node, predecessor))
@@ -84,7 +84,7 @@ impl<V: Cargo> Basic<V> for Clh<V> {
         ensures tagged { IfGot result (λ h. V.tag h.value ≡ V.tag (padded_value self.now.words.table).shared.key.value.value) }
         ensures untested { IfGot result (λ h. (holder_of h).tested ≡ Open) }
     {
-        let (mut seat, node, predecessor) = queue.into_parts();
+        let (mut seat, node, predecessor) = self.words.queue_parts(queue);
         if self.words.load_watched(&mut seat, predecessor) != GRANTED {
             return Step::Not(Queue::of(seat, node, predecessor));
         }
@@ -123,7 +123,7 @@ impl<V: Cargo> Basic<V> for Clh<V> {
         ensures rests { IfNot result (λ _. Unit {0}) }
         ensures pass { IfGot result (λ p. badge_place p.badge ≡ (holder_of held).place) }
     {
-        let (mut seat, value, node, predecessor) = held.into_parts();
+        let (mut seat, value, node, predecessor) = self.words.held_parts(held);
         self.words.put(&mut seat, value);
         self.words.store_granted(&mut seat, node);
         Step::Got(Pass::of(seat, predecessor))
