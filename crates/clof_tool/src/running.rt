@@ -21,7 +21,8 @@ pub(crate) fn run_text(alloc: Global, topology: &Topology, input: &[u8]) -> Resu
     ensures early { IfErr result EndsEarly }
     ensures refused { (status : AnyStatus) → RefusesSections topology.now input.now status →
         (result ≡ Err status) ⊎ (result ≡ Err Status.OutOfMemory) }
-    ensures complete { (printed : List ℕ) → PrintsSections topology.now input.now printed → IsOk result ⊎ (result ≡ Err Status.OutOfMemory) }
+    ensures complete { (printed : List ℕ) → PrintsSections topology.now input.now printed →
+        IsOk result ⊎ (result ≡ Err Status.OutOfMemory) }
 {
     match read_sections(alloc, topology, input) {
         Ok(sections) => match text_in_order(alloc, &sections) {
