@@ -3,6 +3,7 @@
 
 ghost use Rattle.std.specs.Prelude.{◌≡◌, ◌≤◌, ◌^◌, ◌<◌, ℕ, length, sum, slice_get, Some, IfSome};
 ghost use Rattle.keep_local.specs.Shapes.{IsWellFormed, callers_of, top_of};
+ghost use Rattle.keep_local.specs.States.{new_shares};
 ghost use Rattle.clof_compose.specs.Contexts.{AreContexts};
 ghost use Rattle.clof_compose.specs.Courses.{course_of};
 ghost use Rattle.clof_compose.specs.Passes.{AreAll};
@@ -12,8 +13,8 @@ ghost use Rattle.level_trials.specs.Rooms.{HasRoom, roll_tag};
 ghost use Rattle.five_levels.specs.Shifts.{HasWorked, MayWork};
 
 use clof_compose::{Composed, Level, LevelPass, Resting, Root, Top, make_top};
-use keep_local::{Shape, Trail};
-use level_trials::{Job, Owned, Roll, Runs, copy_of, hold_all, hold_by_threads};
+use keep_local::{Shape, Share, Trail};
+use level_trials::{Job, Owned, Roll, close_ended, copy_of, deal, hold_all};
 use lock_rules::Pass;
 use lock_shape::{add_level, contexts_at};
 use lock_trials::{Works, by_all};
@@ -64,28 +65,53 @@ impl<'a, R: Wait> Works<Job<LevelPass<Pass>>> for Shift<'a, R> {
     }
 }
 
-/// The callers of a lock of five levels, each in a thread of its own.
-pub struct InThreads;
+// Each caller of a lock of five levels holds it in a thread of its own, once for each turn that it has left. The answer is `None` for want
+// of memory.
+fn run_in_threads<R: Threads + Wait + Sync>(
+    rt: &R,
+    lock: &Lock5,
+    jobs: Vec<Job<LevelPass<Pass>>>,
+) -> Option<Vec<Job<LevelPass<Pass>>>>
+    requires sound { ⟦<Lock5 as Composed<Roll>>⟧.sound lock.now }
+    requires lowest { ⟦<Lock5 as Composed<Roll>>⟧.level lock.now ≡ 0 }
+    requires room { HasRoom (course_of (⟦<Lock5 as Composed<Roll>>⟧.tag lock.now)) }
+    requires each { (k : ℕ) (j : _) → slice_get jobs.items k ≡ Some j → IsJob ⟦<LevelPass<Pass> as Resting>⟧.rest
+        (⟦<Lock5 as Composed<Roll>>⟧.has lock.now) (⟦<Lock5 as Composed<Roll>>⟧.level lock.now) (⟦<Lock5 as Composed<Roll>>⟧.tag lock.now) k j }
+    ensures many { IfSome result (λ ended. length ended.items ≡ length jobs.items) }
+    ensures each { IfSome result (λ ended. (k : ℕ) (j : _) → slice_get ended.items k ≡ Some j
+        → IsEnded ⟦<LevelPass<Pass> as Resting>⟧.rest (⟦<Lock5 as Composed<Roll>>⟧.has lock.now) (⟦<Lock5 as Composed<Roll>>⟧.level lock.now) (⟦<Lock5 as Composed<Roll>>⟧.tag lock.now) k j) }
+{
+    by_all(rt, &Shift { rt, lock }, jobs)
+}
 
-impl Runs<Lock5> for InThreads {
-    fn run<R: Threads + Wait + Sync>(
-        rt: &R,
-        lock: &Lock5,
-        jobs: Vec<Job<LevelPass<Pass>>>,
-    ) -> Option<Vec<Job<LevelPass<Pass>>>>
-        requires sound { ⟦<Lock5 as Composed<Roll>>⟧.sound lock.now }
-        requires lowest { ⟦<Lock5 as Composed<Roll>>⟧.level lock.now ≡ 0 }
-        requires room { HasRoom (course_of (⟦<Lock5 as Composed<Roll>>⟧.tag lock.now)) }
-        requires each { (k : ℕ) (j : _) → slice_get jobs.items k ≡ Some j → IsJob ⟦<LevelPass<Pass> as Resting>⟧.rest
-            (⟦<Lock5 as Composed<Roll>>⟧.has lock.now) (⟦<Lock5 as Composed<Roll>>⟧.level lock.now)
-            (⟦<Lock5 as Composed<Roll>>⟧.tag lock.now) k j }
-        ensures many { IfSome result (λ ended. length ended.items ≡ length jobs.items) }
-        ensures each { IfSome result (λ ended. (k : ℕ) (j : _) → slice_get ended.items k ≡ Some j
-            → IsEnded ⟦<LevelPass<Pass> as Resting>⟧.rest (⟦<Lock5 as Composed<Roll>>⟧.has lock.now)
-            (⟦<Lock5 as Composed<Roll>>⟧.level lock.now) (⟦<Lock5 as Composed<Roll>>⟧.tag lock.now) k j) }
-    {
-        by_all(rt, &Shift { rt, lock }, jobs)
-    }
+// All callers hold a lock of five levels that was made, and it is taken apart. The answer is `None` for want of memory.
+fn hold_made<R: Threads + Wait + Sync>(
+    rt: &R,
+    alloc: Global,
+    lock: Lock5,
+    passes: Vec<LevelPass<Pass>>,
+    shares: Vec<Share>,
+) -> Option<Root<Roll>>
+    requires sound { ⟦<Lock5 as Composed<Roll>>⟧.sound lock }
+    requires lowest { ⟦<Lock5 as Composed<Roll>>⟧.level lock ≡ 0 }
+    requires count { ⟦<Lock5 as Composed<Roll>>⟧.count lock ≡ callers_of (course_of (⟦<Lock5 as Composed<Roll>>⟧.tag lock)).shape }
+    requires all { AreAll (λ p. (⟦<LevelPass<Pass> as Resting>⟧.rest p).context) (⟦<Lock5 as Composed<Roll>>⟧.has lock)
+        (⟦<Lock5 as Composed<Roll>>⟧.level lock) (⟦<Lock5 as Composed<Roll>>⟧.tag lock) (⟦<Lock5 as Composed<Roll>>⟧.count lock) passes.items }
+    requires quotas { length (course_of (⟦<Lock5 as Composed<Roll>>⟧.tag lock)).quotas
+        ≡ callers_of (course_of (⟦<Lock5 as Composed<Roll>>⟧.tag lock)).shape }
+    requires shares { shares.items ≡ new_shares (course_of (⟦<Lock5 as Composed<Roll>>⟧.tag lock)).name
+        (course_of (⟦<Lock5 as Composed<Roll>>⟧.tag lock)).quotas }
+    requires room { HasRoom (course_of (⟦<Lock5 as Composed<Roll>>⟧.tag lock)) }
+    ensures fit { IfSome result (IsFit (λ r. r.callers.items)) }
+    ensures tagged { IfSome result (λ r. root_tag roll_tag r ≡ ⟦<Lock5 as Composed<Roll>>⟧.tag lock) }
+{
+    let Some((jobs, passes)) = deal(alloc, &lock, passes, shares) else {
+        return None;
+    };
+    let Some(jobs) = run_in_threads(rt, &lock, jobs) else {
+        return None;
+    };
+    Some(close_ended(lock, jobs, passes))
 }
 
 // A lock of five levels for a shape, with this root, and its passes. The answer is `None` for want of memory.
@@ -181,5 +207,5 @@ pub fn hold_in_five<R: Threads + Wait + Sync>(
     let Some((lock, passes)) = make_five(alloc, &same, contexts, root) else {
         return None;
     };
-    hold_by_threads::<Lock5, InThreads, R>(rt, alloc, lock, passes, shares)
+    hold_made(rt, alloc, lock, passes, shares)
 }

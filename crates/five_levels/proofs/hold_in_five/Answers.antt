@@ -11,27 +11,27 @@ pub make_five-requires-clause-same : goal.make_five-requires-clause-same
 make_five-requires-clause-same g c =
     ap (λ s. s.shape) (c.new-root.ensures.trail ∙ c.in-Ok-reserve-2.ensures.trail) ∙ sym c.in_ok-same.ensures
 
-pub hold_by_threads-requires-clause-count : goal.hold_by_threads-requires-clause-count
-hold_by_threads-requires-clause-count g c =
+pub hold_made-requires-clause-count : goal.hold_made-requires-clause-count
+hold_made-requires-clause-count g c =
     let trail = c.new-root.ensures.trail ∙ c.in-Ok-reserve-2.ensures.trail in
     c.in-Some.ensures.contexts.lowest refl ∙ ap callers_of (c.in_ok-same.ensures
     ∙ sym (shape_made _ _ _ _ c.new-root.result c.in-Some.ensures.tag trail))
 
-pub hold_by_threads-requires-clause-quotas : goal.hold_by_threads-requires-clause-quotas
-hold_by_threads-requires-clause-quotas g c =
+pub hold_made-requires-clause-quotas : goal.hold_made-requires-clause-quotas
+hold_made-requires-clause-quotas g c =
     let trail = c.new-root.ensures.trail ∙ c.in-Ok-reserve-2.ensures.trail in
     ap length (quotas_made _ _ _ _ c.new-root.result c.in-Some.ensures.tag trail) ∙ c.requires.quotas
     ∙ ap callers_of (sym (shape_made _ _ _ _ c.new-root.result c.in-Some.ensures.tag trail))
 
-pub hold_by_threads-requires-clause-shares : goal.hold_by_threads-requires-clause-shares
-hold_by_threads-requires-clause-shares g c =
+pub hold_made-requires-clause-shares : goal.hold_made-requires-clause-shares
+hold_made-requires-clause-shares g c =
     let trail = c.new-root.ensures.trail ∙ c.in-Ok-reserve-2.ensures.trail in
     let name = name_made _ _ _ _ c.new-root.result c.in-Some.ensures.tag trail in
     let quotas = quotas_made _ _ _ _ c.new-root.result c.in-Some.ensures.tag trail in
     c.in-Ok-reserve-2.ensures.shares ∙ (λ i. new_shares (sym name i) (sym quotas i))
 
-pub hold_by_threads-requires-clause-room : goal.hold_by_threads-requires-clause-room
-hold_by_threads-requires-clause-room g c =
+pub hold_made-requires-clause-room : goal.hold_made-requires-clause-room
+hold_made-requires-clause-room g c =
     let room : sum c.args.quotas.now ≤ vec_capacity c.in-Ok-reserve.roll.callers = search rules in
     room_made _ _ _ _ c.new-root.result c.in-Some.ensures.tag (c.new-root.ensures.trail ∙ c.in-Ok-reserve-2.ensures.trail)
     c.in-Ok-reserve.roll c.new-root.ensures.payload room

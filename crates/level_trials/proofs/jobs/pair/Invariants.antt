@@ -4,7 +4,7 @@ use Rattle.clof_compose.specs.Courses.{course_of}
 use Rattle.clof_compose.specs.Passes.{IsNumber}
 use Rattle.level_trials.specs.Jobs.{IsJob}
 use Rattle.level_trials.specs.Walkers.{IsShareIn}
-use Rattle.level_trials.proofs.threads.deal.Given as goal
+use Rattle.level_trials.proofs.jobs.pair.Given as goal
 
 -- the passes and the shares that have left their lists are in the jobs, the last one first
 abbrev pub invariant-loop-pass : goal.invariant-loop-pass

@@ -7,7 +7,7 @@ use Rattle.clof_compose.proofs.Lists.{length_more, one_before}
 use Rattle.level_trials.specs.Jobs.{IsJob}
 use Rattle.level_trials.specs.Walkers.{IsShareIn}
 use Rattle.level_trials.proofs.Items.{at_end, from_first, in_front}
-use Rattle.level_trials.proofs.threads.deal.Goals as goal
+use Rattle.level_trials.proofs.jobs.pair.Goals as goal
 
 pub loop-pass-preserved : goal.loop-pass-preserved
 loop-pass-preserved g c =

@@ -1,4 +1,4 @@
-//! Holds by all callers of a lock, each in a thread of its own.
+//! The jobs of all callers of a lock, for a run in which each has a thread of its own.
 ghost use Rattle.std.specs.Prelude.{◌≡◌, ◌≤◌, ℕ, [], length, slice_get, Some, IfSome, vec_capacity};
 ghost use Rattle.keep_local.specs.Shapes.{callers_of};
 ghost use Rattle.keep_local.specs.States.{new_shares};
@@ -6,7 +6,7 @@ ghost use Rattle.clof_compose.specs.Courses.{course_of};
 ghost use Rattle.clof_compose.specs.Passes.{AreAll, IsNumber};
 ghost use Rattle.clof_compose.specs.Roots.{IsFit, root_tag};
 ghost use Rattle.level_trials.specs.Jobs.{IsEnded, IsJob};
-ghost use Rattle.level_trials.specs.Rooms.{HasRoom, roll_tag};
+ghost use Rattle.level_trials.specs.Rooms.{roll_tag};
 ghost use Rattle.level_trials.specs.Walkers.{IsShareIn};
 
 use crate::holds::Job;
@@ -14,56 +14,52 @@ use crate::roll::Roll;
 use clof_compose::{Composed, Resting, Root};
 use keep_local::Share;
 use std::alloc::Global;
-use std::sync::Wait;
-use std::thread::Threads;
 
-/// How the callers of C hold it in threads of their own. The checker doesn't send a worker to a thread that is generic in a lock of several
-/// levels, so this is implemented at one type of lock, over `lock_trials`' `by_all`, and `hold_by_threads` serves all.
-pub trait Runs<C: Composed<Roll>> {
-    /// Each caller holds the lock once for each turn that it has left. The answer is `None` for want of memory.
-    fn run<R: Threads + Wait + Sync>(
-        rt: &R,
-        lock: &C,
-        jobs: Vec<Job<C::Pass>>,
-    ) -> Option<Vec<Job<C::Pass>>>
-        requires sound { C.sound lock.now }
-        requires lowest { C.level lock.now ≡ 0 }
-        requires room { HasRoom (course_of (C.tag lock.now)) }
-        requires each { (k : ℕ) (j : _) → slice_get jobs.items k ≡ Some j → IsJob C.Pass.rest (C.has lock.now) (C.level lock.now)
-            (C.tag lock.now) k j }
-        ensures many { IfSome result (λ ended. length ended.items ≡ length jobs.items) }
-        ensures each { IfSome result (λ ended. (k : ℕ) (j : _) → slice_get ended.items k ≡ Some j
-            → IsEnded C.Pass.rest (C.has lock.now) (C.level lock.now) (C.tag lock.now) k j) };
-}
-
-/// All callers hold the lock in threads of their own, each once for each turn of its share, and the lock is taken apart. The answer is its
-/// root, or `None` for want of memory.
-pub fn hold_by_threads<C: Composed<Roll> + Drop, T: Runs<C>, R: Threads + Wait + Sync>(
-    rt: &R,
+/// A job for each pass and each share of a lock of the lowest level, in order, and the emptied list of the passes. The answer is `None` for
+/// want of memory.
+pub fn deal<C: Composed<Roll>>(
     alloc: Global,
-    lock: C,
+    lock: &C,
     passes: Vec<C::Pass>,
     shares: Vec<Share>,
-) -> Option<Root<Roll>>
-    requires sound { C.sound lock }
-    requires lowest { C.level lock ≡ 0 }
-    requires count { C.count lock ≡ callers_of (course_of (C.tag lock)).shape }
-    requires all { AreAll (λ p. (C.Pass.rest p).context) (C.has lock) (C.level lock) (C.tag lock) (C.count lock) passes.items }
-    requires quotas { length (course_of (C.tag lock)).quotas ≡ callers_of (course_of (C.tag lock)).shape }
-    requires shares { shares.items ≡ new_shares (course_of (C.tag lock)).name (course_of (C.tag lock)).quotas }
-    requires room { HasRoom (course_of (C.tag lock)) }
-    ensures fit { IfSome result (IsFit (λ r. r.callers.items)) }
-    ensures tagged { IfSome result (λ r. root_tag roll_tag r ≡ C.tag lock) }
+) -> Option<(Vec<Job<C::Pass>>, Vec<C::Pass>)>
+    requires count { C.count lock.now ≡ callers_of (course_of (C.tag lock.now)).shape }
+    requires all { AreAll (λ p. (C.Pass.rest p).context) (C.has lock.now) (C.level lock.now) (C.tag lock.now) (C.count lock.now)
+        passes.items }
+    requires quotas { length (course_of (C.tag lock.now)).quotas ≡ callers_of (course_of (C.tag lock.now)).shape }
+    requires shares { shares.items ≡ new_shares (course_of (C.tag lock.now)).name (course_of (C.tag lock.now)).quotas }
+    ensures each { IfSome result (λ m. (k : ℕ) (j : _) → slice_get m.0.items k ≡ Some j → IsJob C.Pass.rest (C.has lock.now)
+        (C.level lock.now) (C.tag lock.now) k j) }
+    ensures many { IfSome result (λ m. length m.0.items ≡ C.count lock.now) }
+    ensures emptied { IfSome result (λ m. m.1.items ≡ []) }
+    ensures room { IfSome result (λ m. C.count lock.now ≤ vec_capacity m.1) }
 {
-    let jobs = Vec::with_capacity(alloc, passes.len()).ok()?;
-    let (jobs, passes) = deal(&lock, passes, shares, jobs);
-    let jobs = T::run(rt, &lock, jobs)?;
+    let Ok(jobs) = Vec::with_capacity(alloc, passes.len()) else {
+        return None;
+    };
+    Some(pair(lock, passes, shares, jobs))
+}
+
+/// Takes a lock apart once all its callers have made all their turns. The answer is its root. `passes` is an empty list with room for all.
+pub fn close_ended<C: Composed<Roll>>(
+    lock: C,
+    jobs: Vec<Job<C::Pass>>,
+    passes: Vec<C::Pass>,
+) -> Root<Roll>
+    requires sound { C.sound lock }
+    requires many { length jobs.items ≡ C.count lock }
+    requires each { (k : ℕ) (j : _) → slice_get jobs.items k ≡ Some j → IsEnded C.Pass.rest (C.has lock) (C.level lock) (C.tag lock) k j }
+    requires empty { passes.items ≡ [] }
+    requires room { C.count lock ≤ vec_capacity passes }
+    ensures fit { IsFit (λ r. r.callers.items) result }
+    ensures tagged { root_tag roll_tag result ≡ C.tag lock }
+{
     let passes = ended_passes(&lock, jobs, passes);
-    Some(lock.close(passes))
+    lock.close(passes)
 }
 
 // A job for each pass and each share, and the emptied list of the passes.
-fn deal<C: Composed<Roll>>(
+fn pair<C: Composed<Roll>>(
     _lock: &C,
     mut passes: Vec<C::Pass>,
     mut shares: Vec<Share>,

@@ -6,7 +6,7 @@ use Rattle.clof_compose.specs.Passes.{AreFrom, IsNumber}
 use Rattle.clof_compose.proofs.Lists.{from_none, length_more, one_before}
 use Rattle.level_trials.specs.Jobs.{IsEnded}
 use Rattle.level_trials.proofs.Items.{at_end, in_front}
-use Rattle.level_trials.proofs.threads.ended_passes.Goals as goal
+use Rattle.level_trials.proofs.jobs.ended_passes.Goals as goal
 
 pub loop-job-preserved : goal.loop-job-preserved
 loop-job-preserved g c =

@@ -2,7 +2,7 @@ use Rattle.std.proofs.Common.{◌≡◌, ℕ, ◌+◌, length, reverse, Some, ve
 use Rattle.std.specs.Prelude.{slice_get}
 use Rattle.clof_compose.specs.Passes.{AreFrom}
 use Rattle.level_trials.specs.Jobs.{IsEnded}
-use Rattle.level_trials.proofs.threads.ended_passes.Given as goal
+use Rattle.level_trials.proofs.jobs.ended_passes.Given as goal
 
 -- the jobs that have left the list have given their passes, the last one first
 abbrev pub invariant-loop-job : goal.invariant-loop-job
