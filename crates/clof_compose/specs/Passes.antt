@@ -18,4 +18,5 @@ pub record AreAll {P : Type 0} (context : P → Context) (has : Context → Type
 
 -- the passes are those of the contexts from one on, in order
 abbrev pub AreFrom : {P : Type 0} → (P → Context) → (Context → Type 0) → ℕ → Tag → ℕ → List P → Type 0
-AreFrom {P} context has level tag first passes = (k : ℕ) (p : P) → slice_get passes k ≡ Some p → IsNumber has level tag (first + k) (context p)
+AreFrom {P} context has level tag first passes = (k : ℕ) (p : P) → slice_get passes k ≡ Some p
+    → IsNumber has level tag (first + k) (context p)

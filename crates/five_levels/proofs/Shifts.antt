@@ -1,6 +1,6 @@
 -- What a thread has made of its job.
-use Rattle.std.proofs.Common.{◌≡◌, ℕ, ◌<◌, List, length, get_or, ap, sym, ◌∙◌, subst, arith, Some}
-use Rattle.std.specs.Prelude.{slice_get}
+use Rattle.std.proofs.Common.{◌≡◌, ℕ, ◌<◌, List, length, get_or, ap, sym, ◌∙◌, subst, arith, Option, Some, None}
+use Rattle.std.specs.Prelude.{IfSome, slice_get}
 use Rattle.std.proofs.lemmas.Option.{slice_get_within, slice_get-get_or}
 use Rattle.lock_rules.specs.Tag.{Tag}
 use Rattle.keep_local.specs.States.{ShareState}
@@ -48,3 +48,8 @@ module _ {P : Type 0} (rest : P → Rest) (has : Context → Type 0) (level : �
       let within = slice_get_within done k j' e in
       let at : slice_get jobs k ≡ Some (get_or jobs k j') = slice_get-get_or jobs k j' (omega (arith, within, many)) in
       ended k (get_or jobs k j') j' (each k (get_or jobs k j') at) (worked k (get_or jobs k j') j' at e)
+
+-- what follows from two things that a value is known for
+pub if_both : {A : Type 0} (P Q R : A → Type 0) (o : Option A) → ((a : A) → P a → Q a → R a) → IfSome o P → IfSome o Q → IfSome o R
+if_both P Q R None both p q = tt
+if_both P Q R (Some a) both p q = both a p q

@@ -23,9 +23,6 @@ use std::sync::Wait;
 use std::thread::Threads;
 use ticket_lock::Ticket;
 
-#[cfg(test)]
-mod tests;
-
 /// A level of Ticket over H.
 pub type LevelOver<H> = Level<Ticket<Owned<H>>, H, Pass, <H as Composed<Roll>>::Pass>;
 
@@ -76,10 +73,12 @@ fn run_in_threads<R: Threads + Wait + Sync>(
     requires lowest { ⟦<Lock5 as Composed<Roll>>⟧.level lock.now ≡ 0 }
     requires room { HasRoom (course_of (⟦<Lock5 as Composed<Roll>>⟧.tag lock.now)) }
     requires each { (k : ℕ) (j : _) → slice_get jobs.items k ≡ Some j → IsJob ⟦<LevelPass<Pass> as Resting>⟧.rest
-        (⟦<Lock5 as Composed<Roll>>⟧.has lock.now) (⟦<Lock5 as Composed<Roll>>⟧.level lock.now) (⟦<Lock5 as Composed<Roll>>⟧.tag lock.now) k j }
+        (⟦<Lock5 as Composed<Roll>>⟧.has lock.now) (⟦<Lock5 as Composed<Roll>>⟧.level lock.now)
+        (⟦<Lock5 as Composed<Roll>>⟧.tag lock.now) k j }
     ensures many { IfSome result (λ ended. length ended.items ≡ length jobs.items) }
     ensures each { IfSome result (λ ended. (k : ℕ) (j : _) → slice_get ended.items k ≡ Some j
-        → IsEnded ⟦<LevelPass<Pass> as Resting>⟧.rest (⟦<Lock5 as Composed<Roll>>⟧.has lock.now) (⟦<Lock5 as Composed<Roll>>⟧.level lock.now) (⟦<Lock5 as Composed<Roll>>⟧.tag lock.now) k j) }
+        → IsEnded ⟦<LevelPass<Pass> as Resting>⟧.rest (⟦<Lock5 as Composed<Roll>>⟧.has lock.now)
+        (⟦<Lock5 as Composed<Roll>>⟧.level lock.now) (⟦<Lock5 as Composed<Roll>>⟧.tag lock.now) k j) }
 {
     by_all(rt, &Shift { rt, lock }, jobs)
 }
@@ -96,7 +95,8 @@ fn hold_made<R: Threads + Wait + Sync>(
     requires lowest { ⟦<Lock5 as Composed<Roll>>⟧.level lock ≡ 0 }
     requires count { ⟦<Lock5 as Composed<Roll>>⟧.count lock ≡ callers_of (course_of (⟦<Lock5 as Composed<Roll>>⟧.tag lock)).shape }
     requires all { AreAll (λ p. (⟦<LevelPass<Pass> as Resting>⟧.rest p).context) (⟦<Lock5 as Composed<Roll>>⟧.has lock)
-        (⟦<Lock5 as Composed<Roll>>⟧.level lock) (⟦<Lock5 as Composed<Roll>>⟧.tag lock) (⟦<Lock5 as Composed<Roll>>⟧.count lock) passes.items }
+        (⟦<Lock5 as Composed<Roll>>⟧.level lock) (⟦<Lock5 as Composed<Roll>>⟧.tag lock)
+        (⟦<Lock5 as Composed<Roll>>⟧.count lock) passes.items }
     requires quotas { length (course_of (⟦<Lock5 as Composed<Roll>>⟧.tag lock)).quotas
         ≡ callers_of (course_of (⟦<Lock5 as Composed<Roll>>⟧.tag lock)).shape }
     requires shares { shares.items ≡ new_shares (course_of (⟦<Lock5 as Composed<Roll>>⟧.tag lock)).name

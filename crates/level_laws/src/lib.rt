@@ -10,7 +10,8 @@ ghost use Rattle.level_laws.specs.Laws.{AtMostOneHolds, ContextsAreApart, KeptIs
 use clof_compose::{Composed, Own, Payload, Resting, Standing};
 use lock_rules::{Basic, Cargo, Held as Holds};
 
-/// Between any two atomic steps at most one pass holds a basic lock. So the root, which is the value of the top lock, has at most one holder.
+/// Between any two atomic steps at most one pass holds a basic lock. So the root, which is the value of the top lock, has at most one
+/// holder.
 pub fn at_most_one_holds<V: Cargo>()
     ensures { (holds : Phase → Bool) → AtMostOneHolds V.fit V.tag V.parked holds }
 {}

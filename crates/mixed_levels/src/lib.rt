@@ -16,6 +16,8 @@ use std::sync::Wait;
 
 #[cfg(test)]
 mod tests;
+#[cfg(test)]
+mod threads;
 
 /// A level of MCS is lacking above what K lacks.
 pub struct AboveMcs<K> {

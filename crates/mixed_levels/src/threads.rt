@@ -1,4 +1,4 @@
-use crate::hold_in_five;
+use five_levels::hold_in_five;
 use keep_local::is_lawful;
 use level_trials::shape_of;
 
