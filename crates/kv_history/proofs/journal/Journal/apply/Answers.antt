@@ -61,6 +61,7 @@ invariant_of-self c =
     (record { spelling = c.spelling.result; end = c.len.result; caller = c.args.caller; void = c.is_err.result }) entry
     c.self.invariant.placed (record { caller = refl; void = void; spelling = c.spelling.ensures; end = end }) in
     record {
+      tallied = c.self.invariant.tallied;
       sound = subst (λ (entries : List Logged). IsSound (record { sections = log.sections; entries = entries })) (sym entries_are)
           (sound-void log c.args.caller command next c.self.invariant.sound);
       placed = subst (λ (records : List Record). ArePlaced 0 records (entries_from log.sections [] (map turn_of c.put.new.records.items)))
@@ -115,6 +116,7 @@ invariant_of-self-2 c =
     (record { spelling = c.spelling.result; end = c.len.result; caller = c.args.caller; void = c.is_err.result }) entry
     c.self.invariant.placed (record { caller = refl; void = void; spelling = c.spelling.ensures; end = end }) in
     record {
+      tallied = c.self.invariant.tallied;
       sound = subst (λ (entries : List Logged). IsSound (record { sections = log.sections; entries = entries })) (sym entries_are)
           (sound-applied log c.args.caller command next c.self.invariant.sound);
       placed = subst (λ (records : List Record). ArePlaced 0 records (entries_from log.sections [] (map turn_of c.put.new.records.items)))
