@@ -98,16 +98,17 @@ cut-from_lacks byte text h =
     cut-none (λ other. other == byte) text (λ k lt. ne_eqb _ _ (λ e. h (subst (Contains text) e (Contains-get_or text k 0 lt))))
 
 -- no place of a list has the byte, where neither its head nor a place of its rest has
-lacking : (byte first : ℕ) (more : List ℕ) → (first ≡ byte → ⊥) → ¬ (Contains more byte) → (k : ℕ) → k < length (first ∷ more)
+pub lacking : (byte first : ℕ) (more : List ℕ) → (first ≡ byte → ⊥) → ¬ (Contains more byte) → (k : ℕ) → k < length (first ∷ more)
     → get_or (first ∷ more) k byte ≡ byte → ⊥
 lacking byte first more other lacks zero within is = other is
 lacking byte first more other lacks (suc k) within is = lacks (k, omega arith, is)
 
-more_lacks : (byte first : ℕ) (more : List ℕ) → (first ≡ byte → ⊥) → ¬ (Contains more byte) → ¬ (Contains (first ∷ more) byte)
+-- a list lacks the byte, where its head and its rest do
+pub more_lacks : (byte first : ℕ) (more : List ℕ) → (first ≡ byte → ⊥) → ¬ (Contains more byte) → ¬ (Contains (first ∷ more) byte)
 more_lacks byte first more other lacks has = lacking byte first more other lacks has.0 has.1 has.2
 
 -- the parts of a cut at a byte, or that the text lacks it
-abbrev CutsAt : ℕ → List ℕ → Option (List ℕ × List ℕ) → Type 0
+abbrev pub CutsAt : ℕ → List ℕ → Option (List ℕ × List ℕ) → Type 0
 CutsAt byte text None = ¬ (Contains text byte)
 CutsAt byte text (Some parts) = IsCutAt byte text parts.0 parts.1
 
@@ -117,7 +118,8 @@ cuts_more byte first more None other lacks = more_lacks byte first more other la
 cuts_more byte first more (Some parts) other cuts =
     record { parts = ap (λ (rest : List ℕ). first ∷ rest) cuts.parts; first = more_lacks byte first parts.0 other cuts.first }
 
-cuts_of : (byte : ℕ) (text : List ℕ) → CutsAt byte text (cut (λ other. other == byte) text)
+-- the cut of a text at a byte is one, and a text that isn't cut lacks the byte
+pub cuts_of : (byte : ℕ) (text : List ℕ) → CutsAt byte text (cut (λ other. other == byte) text)
 cuts_of byte [] = λ has. absurd (omega (arith, has.1))
 cuts_of byte (first ∷ more) =
     elim (cases_Bool (first == byte)) [

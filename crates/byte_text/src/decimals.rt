@@ -1,5 +1,5 @@
 // Decimal numbers within limits.
-ghost use Rattle.std.specs.Prelude.{◌≡◌, ◌+◌, ◌≤◌, IfSome};
+ghost use Rattle.std.specs.Prelude.{◌≡◌, ◌+◌, ◌^◌, ◌≤◌, IfSome};
 ghost use Rattle.byte_text.specs.Numerals.{number_below, number_in, number_capped};
 
 use crate::numerals::{Numeral, read_numeral};
@@ -15,6 +15,15 @@ pub fn number_up_to(greatest: u64, text: &[u8]) -> Option<u64>
         Numeral::TooLarge => None,
         Numeral::NotNumeral => None,
     }
+}
+
+/// The number below 2^32 that a text writes in decimal digits, leading zeros among them. `None` for each greater number,
+/// and for a text that is empty or has a byte that is no digit.
+pub fn number32(text: &[u8]) -> Option<u32>
+    ensures { result ≡ number_below (2 ^ 32) text.now }
+{
+    let number = number_up_to(u64::from(u32::MAX), text)?;
+    Some(number as u32)
 }
 
 /// The number that a text writes in decimal digits, leading zeros among them, where it is from `low` to `high`. `None`

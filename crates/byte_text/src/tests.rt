@@ -1,7 +1,7 @@
 // Examples from outside the definitions.
 use crate::{
     Class, Numeral, are_all, cut, cut_at, first_part, first_piece, hex_digit, number_capped,
-    number_in, number_up_to, push_decimal, read_numeral, split_front,
+    number_in, number_up_to, number32, push_decimal, read_numeral, split_front,
 };
 use std::test::Fail;
 
@@ -73,6 +73,8 @@ fn reads_decimal_numbers_within_limits(rt: HostRuntime) {
     assert!(rt; number_up_to(u64::MAX, b"18446744073709551615") == Some(u64::MAX));
     assert!(rt; number_up_to(u64::MAX, b"18446744073709551616").is_none());
     assert!(rt; number_up_to(9, b"+5").is_none() && number_up_to(9, b"").is_none());
+    assert!(rt; number32(b"04294967295") == Some(u32::MAX) && number32(b"4294967296").is_none());
+    assert!(rt; number32(b"").is_none() && number32(b"-1").is_none());
     assert!(rt; number_in(1, 4096, b"0").is_none() && number_in(1, 4096, b"4097").is_none());
     assert!(rt; number_in(1, 4096, b"01") == Some(1) && number_in(1, 4096, b"4096") == Some(4096));
     assert!(rt; number_in(2, 1, b"1").is_none());

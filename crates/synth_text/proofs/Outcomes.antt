@@ -1,5 +1,5 @@
 -- What a text comes to, from what its items mean.
-use Rattle.std.proofs.Common.{◌≡◌, ℕ, List, Result, Ok, Err, refl, sym, ap, ◌∙◌}
+use Rattle.std.proofs.Common.{◌≡◌, ℕ, List, Result, Ok, Err, sym, ap, ◌∙◌}
 use Rattle.synth_text.specs.declared.description.Description.{Description}
 use Rattle.synth_text.specs.declared.fault.SynthRule.{SynthRule}
 use Rattle.synth_text.specs.declared.fault.SynthFault.{SynthFault}

@@ -1,5 +1,5 @@
 -- Which text describes what, and which rule a text breaks first.
-use Rattle.std.specs.Prelude.{◌≡◌, ℕ, ◌+◌, Bool, List, [], ◌∷◌, Result, Ok, Err, if◌then◌else◌}
+use Rattle.std.specs.Prelude.{◌≡◌, ℕ, ◌+◌, Bool, List, [], ◌∷◌, Result, Ok, if◌then◌else◌}
 use Rattle.synth_text.specs.declared.description.Description.{Description}
 use Rattle.synth_text.specs.declared.fault.Flaw.{Flaw}
 use Rattle.synth_text.specs.declared.fault.SynthRule.{SynthRule}

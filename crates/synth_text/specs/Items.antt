@@ -1,26 +1,5 @@
 -- How a text is cut into items. All places are offsets in the whole text.
-use Rattle.std.specs.Prelude.{
-  ◌≡◌,
-  ◌≢◌,
-  ◌⊎◌,
-  ℕ,
-  ◌+◌,
-  ◌-◌,
-  ◌<◌,
-  ◌≤◌,
-  Bool,
-  true,
-  false,
-  ◌||◌,
-  ◌==◌,
-  List,
-  [],
-  ◌∷◌,
-  length,
-  take,
-  drop,
-  slice_index,
-}
+use Rattle.std.specs.Prelude.{◌≡◌, ◌≢◌, ◌⊎◌, ℕ, ◌+◌, ◌-◌, ◌<◌, ◌≤◌, true, false, ◌||◌, ◌==◌, List, [], ◌∷◌, length, take, drop, slice_index}
 use Rattle.std.specs.Bool.{MatchBool}
 use Rattle.byte_text.specs.Classes.{is_white}
 use Rattle.synth_text.specs.declared.items.Item.{Item}

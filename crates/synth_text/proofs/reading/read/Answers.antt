@@ -1,7 +1,4 @@
-use Rattle.std.proofs.Common.{◌≡◌, Ok, Err, inl, inr, sym, ap, ◌∙◌}
-use Rattle.std.proofs.lemmas.Result.{err_from_is_err_and}
-use Rattle.synth_text.specs.Descriptions.{meaning}
-use Rattle.synth_text.specs.Faults.{fault_of}
+use Rattle.std.proofs.Common.{Ok, Err, inl, ap, ◌∙◌}
 use Rattle.synth_text.proofs.SoundRules.{meaning_sound}
 use Rattle.synth_text.proofs.Outcomes.{described_by, refused_by, only_description, no_refusal, no_description, only_refusal}
 use Rattle.synth_text.proofs.reading.read.Goals as goal
