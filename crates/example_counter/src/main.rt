@@ -1,6 +1,7 @@
 //! Four threads add to one counter under a Ticket lock, and the sum is printed.
 #![tactic(auto)]
 
+ghost use Rattle.std.specs.Prelude.{◌≡◌};
 ghost use Rattle.lock_rules.specs.Passes.{IsOf};
 
 use anyhow::Context;
@@ -25,6 +26,9 @@ impl<'a, R: Wait> Works<Pass> for Adder<'a, R> {
     // a thread works with a pass of this lock
     ghost allows = { λ s p. IsOf (⟦<Counter as Basic<Plain<u64>>>⟧.name s.counter.now) (⟦<Counter as Basic<Plain<u64>>>⟧.tag s.counter.now)
         (⟦<Pass as Placed>⟧.place p) };
+
+    // and gives the same pass back
+    ghost gives = { λ _ p q. ⟦<Pass as Placed>⟧.place q ≡ ⟦<Pass as Placed>⟧.place p };
 
     /// Adds 1 a thousand times. The pass is handed over and comes back, so nobody can use it twice at a time.
     fn work(&self, mut pass: Pass) -> Pass {

@@ -41,6 +41,8 @@ struct Count<'a, B, R> {
 impl<'a, B: Basic<Plain<u64>>, R: Wait> Works<B::Pass> for Count<'a, B, R> {
     ghost allows = { λ s p. IsOf (B.name s.lock.now) (B.tag s.lock.now) (B.Pass.place p) × (B.tag s.lock.now ≡ leaf 0) };
 
+    ghost gives = { λ _ p q. B.Pass.place q ≡ B.Pass.place p };
+
     fn work(&self, pass: B::Pass) -> B::Pass {
         count_often(self.rt, self.lock, pass, self.holds)
     }

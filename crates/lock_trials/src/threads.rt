@@ -1,5 +1,5 @@
 //! Holds by four threads.
-ghost use Rattle.std.specs.Prelude.{◌≡◌, true, false, [], IfSome};
+ghost use Rattle.std.specs.Prelude.{◌≡◌, ℕ, true, false, [], length, slice_get, Some, IfSome};
 ghost use Rattle.std.specs.Thread.{IsSync};
 ghost use Rattle.lock_rules.specs.Tag.{leaf};
 ghost use Rattle.lock_rules.specs.Passes.{IsOf, AreAll};
@@ -7,10 +7,10 @@ ghost use Rattle.lock_rules.specs.declared.step.Answer.TheVariants.{Yes};
 ghost use Rattle.lock_trials.specs.Tokens.{AreFour};
 
 use crate::parcel::Parcel;
-use lock_rules::{Basic, Cargo, Placed};
+use lock_rules::{Basic, Cargo};
 use std::alloc::Global;
 use std::sync::Wait;
-use std::thread::{Threads, join};
+use std::thread::{Threads, join, map_vec};
 
 /// How often each thread holds the lock in the tests of the locks.
 pub const HOLDS: u32 = 100;
@@ -59,14 +59,18 @@ fn hold_often<B: Basic<Parcel>, R: Wait>(
     pass
 }
 
-/// What a thread does with its pass. The checker doesn't yet send a closure to a thread whose body rests on a trait like `Basic`, where an
-/// associated type has a bound with a type argument, so the closures rest on this trait.
-pub trait Works<P: Placed> {
-    ghost allows: { Self → P → Type 0 };
+/// What a thread does with its job, such as a pass. The checker doesn't yet send a closure to a thread whose body rests on a trait like
+/// `Basic`, where an associated type has a bound with a type argument, so the closures rest on this trait.
+pub trait Works<J> {
+    // This job may be done.
+    ghost allows: { Self → J → Type 0 };
 
-    fn work(&self, pass: P) -> P
-        requires { allows self.now pass }
-        ensures { P.place result ≡ P.place pass };
+    // This is what may come of this job.
+    ghost gives: { Self → J → J → Type 0 };
+
+    fn work(&self, job: J) -> J
+        requires { allows self.now job }
+        ensures { gives self.now job result };
 }
 
 /// The holds of one thread.
@@ -81,71 +85,91 @@ struct Shift<'a, B, R> {
 impl<'a, B: Basic<Parcel>, R: Wait> Works<B::Pass> for Shift<'a, B, R> {
     ghost allows = { λ s p. IsOf (B.name s.lock.now) (B.tag s.lock.now) (B.Pass.place p) × (B.tag s.lock.now ≡ leaf 0) };
 
+    ghost gives = { λ _ p q. B.Pass.place q ≡ B.Pass.place p };
+
     fn work(&self, pass: B::Pass) -> B::Pass {
         hold_often(self.rt, self.lock, pass, self.holds, self.parks)
     }
 }
 
-/// Each pass works in a thread of its own.
-pub fn by_two<P: Placed + Send, W: Works<P> + Sync, R: Threads + Sync>(
+/// Each job is done by a thread of its own.
+pub fn by_two<J: Send + Drop, W: Works<J> + Sync, R: Threads + Sync>(
     rt: &R,
-    shift: &W,
-    first: P,
-    second: P,
-) -> (P, P)
-    requires first { W.allows shift.now first }
-    requires second { W.allows shift.now second }
-    ensures first { P.place result.0 ≡ P.place first }
-    ensures second { P.place result.1 ≡ P.place second }
+    worker: &W,
+    first: J,
+    second: J,
+) -> (J, J)
+    requires first { W.allows worker.now first }
+    requires second { W.allows worker.now second }
+    ensures first { W.gives worker.now first result.0 }
+    ensures second { W.gives worker.now second result.1 }
 {
     join(
         rt,
-        move || -> P
-            requires { W.allows shift.now first }
-            ensures { P.place result ≡ P.place first }
-        { shift.work(first) },
-        move || -> P
-            requires { W.allows shift.now second }
-            ensures { P.place result ≡ P.place second }
-        { shift.work(second) },
+        move || -> J
+            requires { W.allows worker.now first }
+            ensures { W.gives worker.entry.now first result }
+        { worker.work(first) },
+        move || -> J
+            requires { W.allows worker.now second }
+            ensures { W.gives worker.entry.now second result }
+        { worker.work(second) },
     )
 }
 
-/// Each pass works in a thread of its own.
-pub fn by_four<P: Placed + Send, W: Works<P> + Sync, R: Threads + Sync>(
+/// Each job is done by a thread of its own.
+pub fn by_four<J: Send + Drop, W: Works<J> + Sync, R: Threads + Sync>(
     rt: &R,
-    shift: &W,
-    front: (P, P),
-    back: (P, P),
-) -> ((P, P), (P, P))
-    requires first { W.allows shift.now front.0 }
-    requires second { W.allows shift.now front.1 }
-    requires third { W.allows shift.now back.0 }
-    requires fourth { W.allows shift.now back.1 }
-    ensures first { P.place result.0.0 ≡ P.place front.0 }
-    ensures second { P.place result.0.1 ≡ P.place front.1 }
-    ensures third { P.place result.1.0 ≡ P.place back.0 }
-    ensures fourth { P.place result.1.1 ≡ P.place back.1 }
+    worker: &W,
+    front: (J, J),
+    back: (J, J),
+) -> ((J, J), (J, J))
+    requires first { W.allows worker.now front.0 }
+    requires second { W.allows worker.now front.1 }
+    requires third { W.allows worker.now back.0 }
+    requires fourth { W.allows worker.now back.1 }
+    ensures first { W.gives worker.now front.0 result.0.0 }
+    ensures second { W.gives worker.now front.1 result.0.1 }
+    ensures third { W.gives worker.now back.0 result.1.0 }
+    ensures fourth { W.gives worker.now back.1 result.1.1 }
 {
     let (first, second) = front;
     let (third, fourth) = back;
     join(
         rt,
-        move || -> (P, P)
+        move || -> (J, J)
             requires threads { IsSync R.row }
-            requires first { W.allows shift.now first }
-            requires second { W.allows shift.now second }
-            ensures first { P.place result.0 ≡ P.place first }
-            ensures second { P.place result.1 ≡ P.place second }
-        { by_two(rt, shift, first, second) },
-        move || -> (P, P)
+            requires first { W.allows worker.now first }
+            requires second { W.allows worker.now second }
+            ensures first { W.gives worker.entry.now first result.0 }
+            ensures second { W.gives worker.entry.now second result.1 }
+        { by_two(rt, worker, first, second) },
+        move || -> (J, J)
             requires threads { IsSync R.row }
-            requires third { W.allows shift.now third }
-            requires fourth { W.allows shift.now fourth }
-            ensures third { P.place result.0 ≡ P.place third }
-            ensures fourth { P.place result.1 ≡ P.place fourth }
-        { by_two(rt, shift, third, fourth) },
+            requires third { W.allows worker.now third }
+            requires fourth { W.allows worker.now fourth }
+            ensures third { W.gives worker.entry.now third result.0 }
+            ensures fourth { W.gives worker.entry.now fourth result.1 }
+        { by_two(rt, worker, third, fourth) },
     )
+}
+
+/// Each job is done by a thread of its own. The answer has what came of each, in order, or is `None` for want of memory.
+pub fn by_all<J: Send + Drop, W: Works<J> + Sync, R: Threads + Sync>(
+    rt: &R,
+    worker: &W,
+    jobs: Vec<J>,
+) -> Option<Vec<J>>
+    requires allowed { (i : ℕ) (job : J) → slice_get jobs.items i ≡ Some job → W.allows worker.now job }
+    ensures many { IfSome result (λ done. length done.items ≡ length jobs.items) }
+    ensures each { IfSome result (λ done. (i : ℕ) (job left : J) → slice_get jobs.items i ≡ Some job
+        → slice_get done.items i ≡ Some left → W.gives worker.now job left) }
+{
+    let work = |job: J| -> J
+        requires { W.allows worker.now job }
+        ensures { W.gives worker.entry.now job result }
+    { worker.work(job) };
+    map_vec(rt, jobs, &work).ok()
 }
 
 /// Takes the four passes of a lock out of their list, which is then empty.
