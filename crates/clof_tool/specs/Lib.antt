@@ -1,3 +1,4 @@
 pub mod Outcome
 pub mod Process
 pub mod Run
+pub mod Laws

@@ -111,11 +111,13 @@ impl<'a> Journal<'a> {
         self.callers[caller].tally
     }
 
-    /// The number of entries. Each caller's are the first commands of its section, in its order.
+    /// The number of entries. Each caller's are the first commands of its section, in its order; the replies of a journal
+    /// without void entries are those of one thread.
     pub fn entries(&self) -> u32
         ensures count { result ≡ length self.now.entries }
         ensures callers { EachHasSection self.now }
         ensures own_first { EachOwnFirst self.now }
+        ensures one_thread { NoneVoid self.now.entries → IsOneThread self.now.entries }
     {
         self.records.len() as u32
     }

@@ -10,6 +10,7 @@ mod place;
 mod printing;
 mod running;
 mod sections;
+mod size;
 
 pub use fault::SectionFault;
 pub use laws::one_answer;

@@ -1,5 +1,5 @@
 // The lines of a printed run.
-ghost use Rattle.std.specs.Prelude.{◌≡◌, ◌<◌, ◌^◌, ◌++◌, OnOk, length, map};
+ghost use Rattle.std.specs.Prelude.{◌≡◌, ◌++◌, OnOk, Some, map, slice_get};
 ghost use Rattle.placed_runner.specs.Text.{labelled, turn_line, caller_line, pu_of};
 ghost use Rattle.placed_runner.specs.Views.{part_view, section_view, line_view};
 
@@ -7,7 +7,7 @@ use crate::escape::push_quoted;
 use crate::sections::Section;
 use byte_text::push_decimal;
 use keep_local::Turn;
-use mc_text::{count, rest_of};
+use kv_history::Journal;
 use std::alloc::AllocError;
 
 /// A turn, with its command and its reply.
@@ -45,8 +45,8 @@ pub(crate) fn push_turn(
     out.extend_from_slice(b"\n")
 }
 
-// The PU of a caller.
-fn pu_of(sections: &[Section<'_>], caller: u32) -> u32
+/// The PU of a caller.
+pub(crate) fn pu_of(sections: &[Section<'_>], caller: u32) -> u32
     ensures { result ≡ pu_of (map section_view sections.now) caller }
 {
     match sections.get(caller as usize) {
@@ -61,17 +61,19 @@ pub(crate) fn push_caller(
     out: &mut Vec<u8>,
     caller: usize,
     section: &Section<'_>,
+    journal: &Journal<'_>,
 ) -> Result<(), AllocError>
-    requires { length section.now.bytes.now < 2 ^ 32 }
+    requires { slice_get journal.now.sections caller ≡ Some section.now.bytes.now }
     ensures { OnOk result (out.new.items ≡ out.old.items ++ caller_line caller (section_view section.now)) }
 {
+    let tally = journal.tally(caller);
     push_labelled(
         out,
         &[
             (b"caller ", caller as u64),
             (b" pu ", u64::from(section.pu)),
-            (b" commands ", u64::from(count(section.bytes))),
-            (b" rest ", rest_of(section.bytes).len() as u64),
+            (b" commands ", u64::from(tally.commands)),
+            (b" rest ", tally.rest.len() as u64),
         ],
     )?;
     out.extend_from_slice(b"\n")
