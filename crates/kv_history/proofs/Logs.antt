@@ -33,7 +33,7 @@ use Rattle.std.proofs.lemmas.List.Sums.{sum_by-cons}
 use Rattle.std.proofs.lemmas.List.Elements.{filter-append, All-nil, All-push, recursion_from_All}
 use Rattle.std.proofs.lemmas.Option.{slice_get_within}
 use Rattle.std.proofs.lemmas.Bool.Decides.{Decides-eqb}
-use Rattle.std.specs.Prelude.{map, filter, not, sum_by, Some, slice_get, ◌==◌}
+use Rattle.std.specs.Prelude.{filter, not, Some, slice_get, ◌==◌}
 use Rattle.std.specs.List.{AllByRecursion}
 use Rattle.mc_text.specs.Request.{WholeCommand}
 use Rattle.mc_text.specs.Reading.{commands_of}

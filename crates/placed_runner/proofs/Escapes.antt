@@ -3,7 +3,7 @@ use Rattle.std.proofs.Common.{◌≡◌, ℕ, ◌+◌, ◌<◌, Bool, true, fals
 use Rattle.std.proofs.Common.{append_assoc, add-one, arith}
 use Rattle.std.specs.Prelude.{◌==◌}
 use Rattle.std.proofs.Math.Seq.{drop-cons}
-use Rattle.std.proofs.lemmas.Bool.{and_parts, ltb-true, ne_eqb, eqb-false}
+use Rattle.std.proofs.lemmas.Bool.{and_parts, ltb-true, ne_eqb}
 use Rattle.std.proofs.lemmas.List.{take_more}
 use Rattle.placed_runner.specs.Text.{escaped, escaped_byte}
 

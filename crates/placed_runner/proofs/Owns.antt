@@ -1,5 +1,5 @@
 -- Each caller's own commands among the calls of all sections.
-use Rattle.std.proofs.Common.{◌≡◌, ◌≢◌, ℕ, zero, suc, ◌+◌, ◌<◌, Bool, true, false, cond, List, [], ◌∷◌, ◌++◌, map, Option, Some, None, refl, sym, ap, ◌∙◌, subst, arith, append-nil}
+use Rattle.std.proofs.Common.{◌≡◌, ◌≢◌, ℕ, zero, suc, ◌+◌, ◌<◌, Bool, true, false, cond, List, [], ◌∷◌, ◌++◌, map, Option, Some, None, refl, sym, ap, ◌∙◌, arith, zero-add, append-nil}
 use Rattle.std.specs.Prelude.{filter, slice_get, option_map, ◌==◌}
 use Rattle.std.specs.List.{flat_map, enumerate_from}
 use Rattle.std.proofs.lemmas.Bool.{ne_eqb, eq-eqb}
@@ -21,15 +21,15 @@ own_of all caller = map (λ (call : Call). call.command) (filter (λ (call : Cal
 -- those of entries are those of their calls
 own-calls : (entries : List Logged) (caller : ℕ) → own entries caller ≡ own_of (calls entries) caller
 own-calls [] caller = refl
-own-calls (entry ∷ entries) caller = chosen (entry.caller == caller)
+own-calls (entry ∷ entries) caller = chosen (entry.caller == caller) (own-calls entries caller)
   where
-    chosen : (b : Bool)
+    chosen : (b : Bool) → own entries caller ≡ own_of (calls entries) caller
         → commands (cond b (entry ∷ filter (λ (e : Logged). e.caller == caller) entries) (filter (λ (e : Logged). e.caller == caller) entries))
         ≡ map (λ (call : Call). call.command)
         (cond b (record { caller = entry.caller; command = entry.command } ∷ filter (λ (call : Call). call.caller == caller) (calls entries))
         (filter (λ (call : Call). call.caller == caller) (calls entries)))
-    chosen true = ap (λ more. entry.command ∷ more) (own-calls entries caller)
-    chosen false = own-calls entries caller
+    chosen true later = ap (λ more. entry.command ∷ more) later
+    chosen false later = later
 
 own_of-append : (caller : ℕ) (xs ys : List Call) → own_of (xs ++ ys) caller ≡ own_of xs caller ++ own_of ys caller
 own_of-append caller xs ys =
@@ -103,5 +103,6 @@ own_in_order sections log same called caller bytes place =
     ∙ ap (λ (all : List (List ℕ)). slice_get all caller) (sym same) ∙ place) in
     own-calls log.entries caller
     ∙ ap (λ (all : List Call). own_of all caller) called
+    ∙ ap (own_of (calls_from 0 sections)) (sym (zero-add caller))
     ∙ own_of-place 0 caller sections found.0 found.1
     ∙ ap commands_of found.2

@@ -27,8 +27,8 @@ pub fn text(
         (holds_of (map (λ entry. entry.caller) journal.now.entries))) }
 
     // What is printed is a history of one thread.
-    ensures callers { EachHasSection journal.now }
-    ensures one_thread { IsOneThread journal.now.entries }
+    ensures callers { OnOk result (EachHasSection journal.now) }
+    ensures one_thread { OnOk result (IsOneThread journal.now.entries) }
 {
     let mut out = Vec::with_capacity(alloc, text_size(sections, journal))?;
     for number in 0..journal.entries() {

@@ -11,7 +11,8 @@ use kv_history::Journal;
 use mc_text::Commands;
 
 /// Applies every command of every section, section by section, and answers whether one was refused, which is for want of
-/// memory alone. Where none was, each caller's own entries are the commands of its section, once and in order. The journal is one without entries, for these sections.
+/// memory alone. Where none was, each caller's own entries are the commands of its section, once and in order. The journal
+/// is one without entries, for these sections.
 pub fn run_in_order<'a>(sections: &[Section<'a>], journal: &mut Journal<'a>) -> bool
     requires few { length sections.now < 2 ^ 32 }
     requires sections { journal.old.sections ≡ map (λ section. section.bytes.now) sections.now }

@@ -1,6 +1,5 @@
-use Rattle.std.proofs.Common.{◌≡◌, ◌++◌, [], ◌∷◌, Some, ◌<◌, List, ℕ, map, get_or, take, length, refl, sym, ap, ◌∙◌, append_assoc, arith}
+use Rattle.std.proofs.Common.{◌≡◌, ◌++◌, [], Some, ◌<◌, List, ℕ, map, get_or, take, length, refl, sym, ap, ◌∙◌, append_assoc, arith}
 use Rattle.std.specs.Prelude.{option_map, slice_get}
-use Rattle.placed_runner.specs.Sections.{Placed}
 use Rattle.placed_runner.proofs.Texts.{IsPrinted, text_is}
 use Rattle.std.proofs.lemmas.Option.{slice_get_within, slice_get-map, slice_get-get_or, get_or_from_slice_get}
 use Rattle.placed_runner.specs.declared.sections.Section.{Section}
@@ -12,16 +11,17 @@ use Rattle.placed_runner.proofs.Owns.{bytes_of}
 use Rattle.placed_runner.proofs.printing.text.Goals as goal
 
 -- the section of the caller at a place
-section_at : (sections : List Section) (all : List (List ℕ)) (place : ℕ) (section : Section) → all ≡ map (λ section. section.bytes.now) sections
-    → place < length sections → section ≡ get_or sections place section → slice_get all place ≡ Some section.bytes.now
-section_at sections all place section same within is =
+section_at : (sections : List Section) (all : List (List ℕ)) (place : ℕ) (none : Section) → all ≡ map (λ section. section.bytes.now) sections
+    → place < length sections → slice_get all place ≡ Some (get_or sections place none).bytes.now
+section_at sections all place none same within =
     ap (λ (xs : List (List ℕ)). slice_get xs place) same
     ∙ slice_get-map (λ (s : Section). s.bytes.now) sections place
-    ∙ ap (option_map (λ (s : Section). s.bytes.now)) (slice_get-get_or sections place section within ∙ ap Some (sym is))
+    ∙ ap (option_map (λ (s : Section). s.bytes.now)) (slice_get-get_or sections place none within)
 
 pub push_caller-requires : goal.push_caller-requires
 push_caller-requires c =
-    section_at c.args.sections.now c.args.journal.now.sections c.loop-caller.caller _ c.requires.same (omega arith) refl
+    let none : Section = record { pu = 0; bytes = record { ref_ptr = (0, 0); now = [] } } in
+    section_at c.args.sections.now c.args.journal.now.sections c.loop-caller.caller none c.requires.same (omega arith)
 
 pub loop-number-preserved : goal.loop-number-preserved
 loop-number-preserved c =

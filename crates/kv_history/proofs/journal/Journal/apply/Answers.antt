@@ -1,12 +1,12 @@
-use Rattle.std.proofs.Common.{◌≡◌, List, Bool, true, false, ◌+◌, ◌∙◌, ◌++◌, ◌∷◌, [], length, refl, ap, sym, subst, arith, append-nil, length-append}
+use Rattle.std.proofs.Common.{◌≡◌, List, true, false, ◌+◌, ◌∙◌, ◌++◌, ◌∷◌, [], length, refl, ap, sym, subst, arith, append-nil, length-append}
 use Rattle.std.proofs.lemmas.Grind.{flat_map-append}
 use Rattle.std.proofs.lemmas.List.{map-append}
 use Rattle.std.specs.Prelude.{map}
 use Rattle.mc_text.specs.Request.{view}
 use Rattle.kv_history.specs.declared.record.Record.{Record}
 use Rattle.kv_history.specs.Answer.{reply_of, store_after}
-use Rattle.kv_history.specs.Log.{Logged, IsNext, IsSound, Log, Turn, all_replies, applied_entry, entries_from, void_entry, store_now}
-use Rattle.kv_history.specs.Journal.{ArePlaced, IsPlaced, log_of, sections_of, turn_of, turns_of}
+use Rattle.kv_history.specs.Log.{Logged, IsNext, IsSound, Turn, all_replies, applied_entry, entries_from, void_entry, store_now}
+use Rattle.kv_history.specs.Journal.{ArePlaced, log_of, sections_of, turn_of, turns_of}
 use Rattle.kv_history.proofs.Keyed.{on_err}
 use Rattle.kv_history.proofs.Logs.{entries-below, sound-applied, sound-void, store_now-applied, store_now-void}
 use Rattle.kv_history.proofs.Places.{length-kept, placed-push}

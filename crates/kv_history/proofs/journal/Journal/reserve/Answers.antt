@@ -43,9 +43,9 @@ invariant_of-result c =
       replies = c.new.ensures.items ∙ ap all_replies (sym none);
       store = c.new-2.ensures ∙ ap store_now (sym none);
       small = omega (
-          arith,
-          few callers c.args.sections.now c.in_ok-callers.ensures.tallied c.in_ok-callers.ensures.sections,
-          sum-tallied callers c.in_ok-callers.ensures.tallied,
+        arith,
+        few callers c.args.sections.now c.in_ok-callers.ensures.tallied c.in_ok-callers.ensures.sections,
+        sum-tallied callers c.in_ok-callers.ensures.tallied,
       );
       room = omega (arith, count_is, c.in_ok-with_capacity.ensures.capacity);
     }
