@@ -54,7 +54,7 @@ impl<V: Cargo> Basic<V> for Clh<V> {
     fn begin(&self, pass: Pass) -> Step<Queue, Held<V>>
         requires own { IsOwn V.tag clh_algorithm (padded_value self.now.words.table).shared.table_id
             (padded_value self.now.words.table).shared.key (badge_place pass.badge) }
-        ensures always { IsNot result }
+        ensures only_queues { IsNot result }
         ensures did { IfNot result (λ q. HasEntered V.fit V.tag V.parked pass.badge q.badge) }
         ensures queue { IfNot result (λ q. (badge_waiting q.badge).place ≡ badge_place pass.badge) }
         ensures entered { IfNot result (λ q. (view_of q.badge).entries ≡ (view_of pass.badge).entries + 1) }
@@ -63,7 +63,7 @@ impl<V: Cargo> Basic<V> for Clh<V> {
         ensures tagged { IfGot result (λ h. V.tag h.value ≡ V.tag (padded_value self.now.words.table).shared.key.value.value) }
         ensures untested { IfGot result (λ h. (holder_of h).tested ≡ Open) }
     {
-        let (mut seat, node) = pass.into_parts();
+        let (mut seat, node) = self.words.pass_parts(pass);
         self.words.store_pending(&mut seat, node);
         let predecessor = self.words.fetch_and_store_tail(&mut seat, node);
         Step::Not(Queue::of(seat, node, predecessor))
@@ -84,7 +84,7 @@ impl<V: Cargo> Basic<V> for Clh<V> {
         ensures tagged { IfGot result (λ h. V.tag h.value ≡ V.tag (padded_value self.now.words.table).shared.key.value.value) }
         ensures untested { IfGot result (λ h. (holder_of h).tested ≡ Open) }
     {
-        let (mut seat, node, predecessor) = queue.into_parts();
+        let (mut seat, node, predecessor) = self.words.queue_parts(queue);
         if self.words.load_watched(&mut seat, predecessor) != GRANTED {
             return Step::Not(Queue::of(seat, node, predecessor));
         }
@@ -115,7 +115,7 @@ impl<V: Cargo> Basic<V> for Clh<V> {
         requires tagged { V.tag held.value ≡ V.tag (padded_value self.now.words.table).shared.key.value.value }
         requires relied_on { V.parked held.value ≡ true → (holder_of held).tested ≡ Yes }
         requires said { V.said held.value ≢ Open → V.said held.value ≡ (holder_of held).tested }
-        ensures never { IsGot result }
+        ensures leaves_at_once { IsGot result }
         ensures did { IfGot result (λ p. HasLeft V.fit V.tag V.parked held p.badge) }
         ensures leave { IfNot result (λ l. (badge_waiting l.pass.badge).place ≡ (holder_of held).place) }
         ensures loaded { IfNot result (λ l. (badge_waiting l.pass.badge).loads ≡ (holder_of held).loads + 1) }
@@ -123,7 +123,7 @@ impl<V: Cargo> Basic<V> for Clh<V> {
         ensures rests { IfNot result (λ _. Unit {0}) }
         ensures pass { IfGot result (λ p. badge_place p.badge ≡ (holder_of held).place) }
     {
-        let (mut seat, value, node, predecessor) = held.into_parts();
+        let (mut seat, value, node, predecessor) = self.words.held_parts(held);
         self.words.put(&mut seat, value);
         self.words.store_granted(&mut seat, node);
         Step::Got(Pass::of(seat, predecessor))
@@ -133,7 +133,7 @@ impl<V: Cargo> Basic<V> for Clh<V> {
     fn poll_release(&self, leave: Left) -> Step<Left, Pass>
         requires own { IsOwn V.tag clh_algorithm (padded_value self.now.words.table).shared.table_id
             (padded_value self.now.words.table).shared.key (badge_waiting leave.pass.badge).place }
-        ensures never { IsGot result }
+        ensures leaves_at_once { IsGot result }
         ensures leave { IfNot result (λ l. (badge_waiting l.pass.badge).place ≡ (badge_waiting leave.pass.badge).place) }
         ensures loaded { IfNot result (λ l. (badge_waiting l.pass.badge).loads ≡ (badge_waiting leave.pass.badge).loads + 1) }
         ensures unready { IfNot result (λ l. (badge_waiting l.pass.badge).ready ≡ false) }

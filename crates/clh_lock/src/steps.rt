@@ -1,13 +1,14 @@
 //! The lock's words, and the atomic steps on them, by their names in the published pseudo-code. Nothing else reaches the words.
 ghost use Rattle.std.specs.Prelude.{◌≡◌, ◌≢◌, ◌<◌, ◌≤◌, ◌^◌, [], ◌∷◌, true, false, Some, None, IfOk, IfErr};
 ghost use Rattle.crossbeam_utils.specs.Padded.{padded_value};
+ghost use Rattle.lock_rules.specs.Holders.{holder_of};
 ghost use Rattle.lock_rules.specs.Passes.{AreAll};
-ghost use Rattle.lock_rules.specs.Tokens.{badge_place};
-ghost use Rattle.lock_rules.specs.Views.{lock_name};
+ghost use Rattle.lock_rules.specs.Tokens.{view_of, badge_place, badge_waiting};
+ghost use Rattle.lock_rules.specs.Views.{lock_name, mark_of};
 ghost use Rattle.lock_rules.specs.declared.view.Algorithm.TheVariants.{Clh as clh_algorithm};
 ghost use Rattle.lock_rules.specs.declared.view.Phase.TheVariants.{Idle, Queued, Holding};
 ghost use Rattle.lock_tables.specs.Happened.{MayRest};
-ghost use Rattle.lock_tables.specs.Seats.{IsSized, seat_as};
+ghost use Rattle.lock_tables.specs.Seats.{IsOwn, IsSized, seat_as};
 ghost use Rattle.clh_lock.specs.Kinds.{Raised, Entered, Took, Missed, Tested, Left};
 ghost use Rattle.clh_lock.specs.Rule.{flag, granted, opens};
 
@@ -15,8 +16,8 @@ use crate::kinds::{FetchAndStoreTail, LoadTail, LoadWatched, StoreGranted, Store
 use crate::laws::ClhWords;
 use atomic_table::Seat;
 use crossbeam_utils::CachePadded;
-use lock_rules::{Cargo, Pass, Refused, View};
-use lock_tables::{LockTable, deal, gather, lay, put, take, take_out};
+use lock_rules::{Cargo, Held, Pass, Queue, Refused, View};
+use lock_tables::{LockTable, into_value, join_passes, new_table, put, split_passes, take};
 use std::alloc::{AllocError, Global};
 
 /// The word `tail` and the flags, each on a line of its own, and the slot.
@@ -76,8 +77,8 @@ impl<V: Cargo> Words<V> {
         let Ok(words) = open(alloc, passes) else {
             return Err(Refused { value });
         };
-        let (table, seat) = lay::<V, ClhWords>(alloc, &words, passes, value)?;
-        let list = deal(&table.shared, seat, passes, room);
+        let (table, seat) = new_table::<V, ClhWords>(alloc, &words, passes, value)?;
+        let list = split_passes(&table.shared, seat, passes, room);
         let table = CachePadded::new(table);
         Ok((Words { table }, list))
     }
@@ -92,8 +93,52 @@ impl<V: Cargo> Words<V> {
     {
         let Words { table } = self;
         let table = table.into_inner();
-        let seat = gather(&table.shared, passes);
-        take_out(table, seat)
+        let seat = join_passes(&table.shared, passes);
+        into_value(table, seat)
+    }
+
+    /// The seat of a pass of this lock, and its own node.
+    pub(crate) fn pass_parts(&self, pass: Pass) -> (Seat<Option<V>, View>, u64)
+        requires of { IsOwn V.tag clh_algorithm (padded_value self.now.table).shared.table_id (padded_value self.now.table).shared.key
+            (badge_place pass.badge) }
+        ensures table { result.0.table_id ≡ (padded_value self.now.table).shared.table_id }
+        ensures seat { result.0.table_id ≡ pass.badge.table_id }
+        ensures view { result.0.me ≡ (view_of pass.badge, []) }
+        ensures own { result.1 ≡ result.0.me.0.node }
+        ensures marked { result.1 ≡ mark_of result.0.me.0 }
+        ensures within { result.1 ≤ (padded_value self.now.table).shared.key.passes }
+    {
+        pass.into_parts()
+    }
+
+    /// The seat of a queued pass of this lock, its own node and the one that it watches.
+    pub(crate) fn queue_parts(&self, queue: Queue) -> (Seat<Option<V>, View>, u64, u64)
+        requires of { IsOwn V.tag clh_algorithm (padded_value self.now.table).shared.table_id (padded_value self.now.table).shared.key
+            (badge_waiting queue.badge).place }
+        ensures table { result.0.table_id ≡ (padded_value self.now.table).shared.table_id }
+        ensures seat { result.0.table_id ≡ queue.badge.table_id }
+        ensures view { result.0.me ≡ (view_of queue.badge, []) }
+        ensures own { result.1 ≡ result.0.me.0.node }
+        ensures marked { result.1 ≡ mark_of result.0.me.0 }
+        ensures watched { result.2 ≡ result.0.me.0.predecessor }
+        ensures within { result.2 ≤ (padded_value self.now.table).shared.key.passes }
+    {
+        queue.into_parts()
+    }
+
+    /// The seat of the holder of this lock, its value, its own node and the one that it watched.
+    pub(crate) fn held_parts(&self, held: Held<V>) -> (Seat<Option<V>, View>, V, u64, u64)
+        requires of { IsOwn V.tag clh_algorithm (padded_value self.now.table).shared.table_id (padded_value self.now.table).shared.key
+            (holder_of held).place }
+        ensures table { result.0.table_id ≡ (padded_value self.now.table).shared.table_id }
+        ensures seat { result.0 ≡ held.seat.seat }
+        ensures value { result.1 ≡ held.value }
+        ensures own { result.2 ≡ result.0.me.0.node }
+        ensures watched { result.3 ≡ result.0.me.0.predecessor }
+        ensures within { result.2 ≤ (padded_value self.now.table).shared.key.passes }
+        ensures algorithm { result.0.me.0.algorithm ≡ clh_algorithm }
+    {
+        held.into_parts()
     }
 
     /// Makes the pass's own node pending, for the swap to come.
@@ -104,6 +149,7 @@ impl<V: Cargo> Words<V> {
         requires own { node ≡ seat.old.me.0.node }
         requires within { node ≤ (padded_value self.now.table).shared.key.passes }
         ensures table { seat.new.table_id ≡ seat.old.table_id }
+        ensures own { seat.new.me.0.node ≡ seat.old.me.0.node }
         ensures step { Raised V.fit V.tag V.parked seat.old.me seat.new.me }
     {
         self.table

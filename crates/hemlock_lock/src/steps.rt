@@ -20,7 +20,7 @@ use crate::laws::HemlockWords;
 use atomic_table::Seat;
 use crossbeam_utils::CachePadded;
 use lock_rules::{Cargo, Pass, Refused, View};
-use lock_tables::{LockTable, deal, gather, lay, put, take, take_out};
+use lock_tables::{LockTable, into_value, join_passes, new_table, put, split_passes, take};
 use std::alloc::Global;
 
 /// The word `tail`, a grant for each pass, each on a line of its own, and the slot.
@@ -64,8 +64,8 @@ impl<V: Cargo> Words<V> {
         let Ok(words) = vec![in alloc; 0; 16 * (passes as usize + 2)] else {
             return Err(Refused { value });
         };
-        let (table, seat) = lay::<V, HemlockWords>(alloc, &words, passes, value)?;
-        let list = deal(&table.shared, seat, passes, room);
+        let (table, seat) = new_table::<V, HemlockWords>(alloc, &words, passes, value)?;
+        let list = split_passes(&table.shared, seat, passes, room);
         let table = CachePadded::new(table);
         Ok((Words { table }, list))
     }
@@ -80,8 +80,8 @@ impl<V: Cargo> Words<V> {
     {
         let Words { table } = self;
         let table = table.into_inner();
-        let seat = gather(&table.shared, passes);
-        take_out(table, seat)
+        let seat = join_passes(&table.shared, passes);
+        into_value(table, seat)
     }
 
     /// Swaps the own name into `tail`, by which the pass enters the queue. Where the word was 0, the pass takes the slot.

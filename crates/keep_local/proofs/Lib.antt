@@ -2,7 +2,7 @@ pub mod Sums
 pub mod Counts
 pub mod Tied
 pub mod Seated
-pub mod Dealt
+pub mod Splits
 pub mod Runs
 pub mod Trails
 pub mod Logs

@@ -16,7 +16,7 @@ use std::mem;
 
 type Words = Shared<(), View, Sequence<u32>, TieRule>;
 
-type Laid = Table<(), View, Sequence<u32>, TieRule, Global>;
+type TieTable = Table<(), View, Sequence<u32>, TieRule, Global>;
 
 // The one word counts the turns. Its number is told to proofs alone.
 const TURNS: usize = 0;
@@ -24,7 +24,7 @@ const TURNS: usize = 0;
 /// The table with its home seat, as a trail keeps it. Contracts see its name, the quotas, and the callers of all turns.
 #[derive(Drop)]
 pub(crate) struct Tie {
-    table: Laid,
+    table: TieTable,
     home: Seat<(), View>,
 }
 
@@ -45,13 +45,13 @@ impl Tie {
     pub(crate) fn make(alloc: Global, quotas: &[u32]) -> Result<(Tie, Vec<Share>), OutOfMemory>
         requires few { length quotas.now < 2 ^ 32 }
         requires fits { sum quotas.now < 2 ^ 32 }
-        ensures quotas { IfOk result (λ made. made.0.quotas ≡ quotas.now) }
-        ensures callers { IfOk result (λ made. made.0.callers ≡ []) }
-        ensures shares { IfOk result (λ made. made.1.items ≡ new_shares made.0.name quotas.now) }
+        ensures quotas { IfOk result (λ m. m.0.quotas ≡ quotas.now) }
+        ensures callers { IfOk result (λ m. m.0.callers ≡ []) }
+        ensures shares { IfOk result (λ m. m.1.items ≡ new_shares m.0.name quotas.now) }
     {
         let room = Vec::with_capacity(alloc, quotas.len())?;
-        let (table, mut home) = lay(alloc, quotas)?;
-        let shares = deal(&table.shared, &mut home, quotas, room);
+        let (table, mut home) = new_table(alloc, quotas)?;
+        let shares = split_shares(&table.shared, &mut home, quotas, room);
         Ok((Tie { table, home }, shares))
     }
 
@@ -90,19 +90,24 @@ impl Tie {
 }
 
 // The table with its word at 0, and its first seat, which has all tallies.
-fn lay(alloc: Global, quotas: &[u32]) -> Result<(Laid, Seat<(), View>), OutOfMemory>
+fn new_table(alloc: Global, quotas: &[u32]) -> Result<(TieTable, Seat<(), View>), OutOfMemory>
     requires fits { sum quotas.now < 2 ^ 32 }
-    ensures table { IfOk result (λ made. made.0.shared.key ≡ quotas.now) }
-    ensures word { IfOk result (λ made. made.0.shared.table_id.words ≡ 1) }
-    ensures own { IfOk result (λ made. made.1.table_id ≡ made.0.shared.table_id) }
-    ensures seat { IfOk result (λ made. made.1.me ≡ (first_view quotas.now, [])) }
+    ensures table { IfOk result (λ m. m.0.shared.key ≡ quotas.now) }
+    ensures word { IfOk result (λ m. m.0.shared.table_id.words ≡ 1) }
+    ensures own { IfOk result (λ m. m.1.table_id ≡ m.0.shared.table_id) }
+    ensures seat { IfOk result (λ m. m.1.me ≡ (first_view quotas.now, [])) }
 {
     let about = Sequence::from_vec(quotas.to_vec(alloc)?);
     Ok(Table::of_words(alloc, &[0], &about)?)
 }
 
 // Splits off a share for each quota.
-fn deal(words: &Words, home: &mut Seat<(), View>, quotas: &[u32], room: Vec<Share>) -> Vec<Share>
+fn split_shares(
+    words: &Words,
+    home: &mut Seat<(), View>,
+    quotas: &[u32],
+    room: Vec<Share>,
+) -> Vec<Share>
     requires word { words.now.table_id.words ≡ 1 }
     requires own { home.old.table_id ≡ words.now.table_id }
     requires seat { home.old.me ≡ (first_view quotas.now, []) }

@@ -59,9 +59,9 @@ impl Trail {
         requires few { callers_of shape < 2 ^ 32 }
         requires quotas { length quotas.now ≡ callers_of shape }
         requires fits { sum quotas.now < 2 ^ 32 }
-        ensures trail { IfOk result (λ made. made.0 ≡ new_trail made.0.name shape quotas.now) }
-        ensures shares { IfOk result (λ made. made.1.items ≡ new_shares made.0.name quotas.now) }
-        ensures lawful { IfOk result (λ made. IsTrail made.0) }
+        ensures trail { IfOk result (λ m. m.0 ≡ new_trail m.0.name shape quotas.now) }
+        ensures shares { IfOk result (λ m. m.1.items ≡ new_shares m.0.name quotas.now) }
+        ensures lawful { IfOk result (λ m. IsTrail m.0) }
     {
         let room: u32 = quotas.iter().sum();
         let turns = Vec::with_capacity(alloc, room as usize)?;

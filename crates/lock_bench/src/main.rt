@@ -8,8 +8,7 @@
 use anyhow::{Context, bail};
 use clh_lock::Clh;
 use hemlock_lock::Hemlock;
-use lock_rules::Plain;
-use lock_trials::{count_alone, count_by_four, count_by_two};
+use lock_trials::{BoundedCount, count_alone, count_by_four, count_by_two};
 use mcs_lock::Mcs;
 use std::env;
 use std::sync::atomic::{AtomicU64, Ordering};
@@ -33,18 +32,18 @@ fn main(rt: HostRuntime) -> anyhow::Result<()> {
     let alloc = rt.alloc();
     let count = match (lock.as_str(), threads) {
         ("adds", 1) => Some(add_often(holds)),
-        ("ticket", 1) => count_alone::<Ticket<Plain<u64>>, _>(&rt, alloc, (), holds),
-        ("ticket", 2) => count_by_two::<Ticket<Plain<u64>>, _>(&rt, alloc, (), holds),
-        ("ticket", 4) => count_by_four::<Ticket<Plain<u64>>, _>(&rt, alloc, (), holds),
-        ("mcs", 1) => count_alone::<Mcs<Plain<u64>>, _>(&rt, alloc, (), holds),
-        ("mcs", 2) => count_by_two::<Mcs<Plain<u64>>, _>(&rt, alloc, (), holds),
-        ("mcs", 4) => count_by_four::<Mcs<Plain<u64>>, _>(&rt, alloc, (), holds),
-        ("clh", 1) => count_alone::<Clh<Plain<u64>>, _>(&rt, alloc, (), holds),
-        ("clh", 2) => count_by_two::<Clh<Plain<u64>>, _>(&rt, alloc, (), holds),
-        ("clh", 4) => count_by_four::<Clh<Plain<u64>>, _>(&rt, alloc, (), holds),
-        ("hemlock", 1) => count_alone::<Hemlock<Plain<u64>>, _>(&rt, alloc, (), holds),
-        ("hemlock", 2) => count_by_two::<Hemlock<Plain<u64>>, _>(&rt, alloc, (), holds),
-        ("hemlock", 4) => count_by_four::<Hemlock<Plain<u64>>, _>(&rt, alloc, (), holds),
+        ("ticket", 1) => count_alone::<Ticket<BoundedCount>, _>(&rt, alloc, (), holds),
+        ("ticket", 2) => count_by_two::<Ticket<BoundedCount>, _>(&rt, alloc, (), holds),
+        ("ticket", 4) => count_by_four::<Ticket<BoundedCount>, _>(&rt, alloc, (), holds),
+        ("mcs", 1) => count_alone::<Mcs<BoundedCount>, _>(&rt, alloc, (), holds),
+        ("mcs", 2) => count_by_two::<Mcs<BoundedCount>, _>(&rt, alloc, (), holds),
+        ("mcs", 4) => count_by_four::<Mcs<BoundedCount>, _>(&rt, alloc, (), holds),
+        ("clh", 1) => count_alone::<Clh<BoundedCount>, _>(&rt, alloc, (), holds),
+        ("clh", 2) => count_by_two::<Clh<BoundedCount>, _>(&rt, alloc, (), holds),
+        ("clh", 4) => count_by_four::<Clh<BoundedCount>, _>(&rt, alloc, (), holds),
+        ("hemlock", 1) => count_alone::<Hemlock<BoundedCount>, _>(&rt, alloc, (), holds),
+        ("hemlock", 2) => count_by_two::<Hemlock<BoundedCount>, _>(&rt, alloc, (), holds),
+        ("hemlock", 4) => count_by_four::<Hemlock<BoundedCount>, _>(&rt, alloc, (), holds),
         _ => bail!(
             "there is no {lock} with {threads} threads: name a lock with 1, 2 or 4, or adds with 1"
         ),

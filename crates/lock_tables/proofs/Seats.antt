@@ -24,7 +24,7 @@ fresh_mark Mcs n tag k from to spent = refl
 fresh_mark Clh n tag k from to spent = refl
 fresh_mark Hemlock n tag k from to spent = refl
 
--- a pass as it is dealt
+-- a pass as it is split off
 pub fresh_plain : (a : Algorithm) (n : ℕ) (tag : Tag) (k from to : ℕ) → from ≡ to → k < n → IsPlain (fresh_view a n tag k from to false)
 fresh_plain a n tag k from to split below = record {
   unspent = refl;

@@ -11,4 +11,4 @@ pub use cuts::{Cut, Glue};
 pub use rule::{Disciplined, QueueRule, rule_is_basic};
 pub use ruled::Ruled;
 pub use slot::{put, take};
-pub use table::{LockTable, Words, deal, gather, lay, take_out};
+pub use table::{LockTable, Words, into_value, join_passes, new_table, split_passes};

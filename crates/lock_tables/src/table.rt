@@ -21,7 +21,7 @@ pub type Words<V, D> = Shared<Option<V>, View, Opening<V>, QueueRule<D>>;
 pub type LockTable<V, D> = Table<Option<V>, View, Opening<V>, QueueRule<D>, Global>;
 
 /// The table with the value at home and its words as at the start, and its first seat.
-pub fn lay<V: Cargo, D: Disciplined>(
+pub fn new_table<V: Cargo, D: Disciplined>(
     alloc: Global,
     words: &[u64],
     passes: u32,
@@ -62,7 +62,7 @@ pub fn lay<V: Cargo, D: Disciplined>(
 }
 
 /// Splits off the passes in the order of their numbers. The first seat is that of the last one.
-pub fn deal<V: Cargo, D: Disciplined>(
+pub fn split_passes<V: Cargo, D: Disciplined>(
     words: &Words<V, D>,
     mut seat: Seat<Option<V>, View>,
     passes: u32,
@@ -92,7 +92,7 @@ pub fn deal<V: Cargo, D: Disciplined>(
 }
 
 /// Joins all passes into one seat.
-pub fn gather<V: Cargo, D: Disciplined>(
+pub fn join_passes<V: Cargo, D: Disciplined>(
     words: &Words<V, D>,
     mut passes: Vec<Pass>,
 ) -> Seat<Option<V>, View>
@@ -117,7 +117,10 @@ pub fn gather<V: Cargo, D: Disciplined>(
 }
 
 /// Takes the value out of a table whose passes are all in one seat.
-pub fn take_out<V: Cargo, D: Disciplined>(table: LockTable<V, D>, seat: Seat<Option<V>, View>) -> V
+pub fn into_value<V: Cargo, D: Disciplined>(
+    table: LockTable<V, D>,
+    seat: Seat<Option<V>, View>,
+) -> V
     requires table { seat.table_id ≡ table.shared.table_id }
     requires size { IsSized D.discipline.algorithm table.shared.key.passes table.shared.table_id }
     requires idle { seat.me.0.phase ≡ Idle }

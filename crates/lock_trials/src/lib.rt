@@ -4,12 +4,14 @@
 //! hold the lock in turn. What these answer is compared by the tests of the locks; no clause says how threads take turns.
 #![tactic(auto)]
 
+mod bounded;
 mod counts;
 mod parcel;
 mod script;
 mod slow;
 mod threads;
 
+pub use bounded::BoundedCount;
 pub use counts::{count_alone, count_by_four, count_by_two};
 pub use parcel::Parcel;
 pub use script::{Call, Holder, Move, Outcome, START, Token, Told, Who, carry_out, first, second};

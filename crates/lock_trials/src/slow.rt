@@ -8,8 +8,8 @@ use crate::parcel::Parcel;
 use lock_rules::{Basic, Departing, Holding, Queueing, Refused, Step};
 use std::alloc::Global;
 
-/// A lock over another one. Each `poll` of a pass, and each call that releases it, answers `Not` for the first `rounds` times, and only then
-/// asks the lock inside. So `acquire` and `release` meet as many `Not`s as a test wants, whichever lock is inside.
+/// A lock over another one. Each `poll` of a pass, and each call that releases it, answers `Not` for the first `rounds` times, and only
+/// then asks the lock inside. So `acquire` and `release` meet as many `Not`s as a test wants, whichever lock is inside.
 #[derive(Drop)]
 pub struct Slow<B> {
     lock: B,

@@ -19,7 +19,7 @@ use crate::laws::McsWords;
 use atomic_table::Seat;
 use crossbeam_utils::CachePadded;
 use lock_rules::{Cargo, Pass, Refused, View};
-use lock_tables::{LockTable, deal, gather, lay, put, take, take_out};
+use lock_tables::{LockTable, into_value, join_passes, new_table, put, split_passes, take};
 use std::alloc::Global;
 
 /// The word `tail` on a line of its own, the words `next` and `locked` of each pass on one line, and the slot.
@@ -70,8 +70,8 @@ impl<V: Cargo> Words<V> {
         let Ok(room) = Vec::with_capacity(alloc, passes as usize) else {
             return Err(Refused { value });
         };
-        let (table, seat) = lay::<V, McsWords>(alloc, opening.as_slice(), passes, value)?;
-        let list = deal(&table.shared, seat, passes, room);
+        let (table, seat) = new_table::<V, McsWords>(alloc, opening.as_slice(), passes, value)?;
+        let list = split_passes(&table.shared, seat, passes, room);
         let table = CachePadded::new(table);
         Ok((Words { table }, list))
     }
@@ -85,8 +85,8 @@ impl<V: Cargo> Words<V> {
     {
         let Words { table } = self;
         let table = table.into_inner();
-        let seat = gather(&table.shared, passes);
-        take_out(table, seat)
+        let seat = join_passes(&table.shared, passes);
+        into_value(table, seat)
     }
 
     /// `I->next := nil`, before the swap.

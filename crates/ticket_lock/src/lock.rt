@@ -54,7 +54,7 @@ impl<V: Cargo> Basic<V> for Ticket<V> {
     fn begin(&self, pass: Pass) -> Step<Queue, Held<V>>
         requires own { IsOwn V.tag ticket_algorithm (padded_value self.now.words.table).shared.table_id
             (padded_value self.now.words.table).shared.key (badge_place pass.badge) }
-        ensures always { IsNot result }
+        ensures only_queues { IsNot result }
         ensures did { IfNot result (λ q. HasEntered V.fit V.tag V.parked pass.badge q.badge) }
         ensures queue { IfNot result (λ q. (badge_waiting q.badge).place ≡ badge_place pass.badge) }
         ensures entered { IfNot result (λ q. (view_of q.badge).entries ≡ (view_of pass.badge).entries + 1) }
@@ -112,7 +112,7 @@ impl<V: Cargo> Basic<V> for Ticket<V> {
         requires tagged { V.tag held.value ≡ V.tag (padded_value self.now.words.table).shared.key.value.value }
         requires relied_on { V.parked held.value ≡ true → (holder_of held).tested ≡ Yes }
         requires said { V.said held.value ≢ Open → V.said held.value ≡ (holder_of held).tested }
-        ensures never { IsGot result }
+        ensures leaves_at_once { IsGot result }
         ensures did { IfGot result (λ p. HasLeft V.fit V.tag V.parked held p.badge) }
         ensures leave { IfNot result (λ l. (badge_waiting l.pass.badge).place ≡ (holder_of held).place) }
         ensures loaded { IfNot result (λ l. (badge_waiting l.pass.badge).loads ≡ (holder_of held).loads + 1) }
@@ -131,7 +131,7 @@ impl<V: Cargo> Basic<V> for Ticket<V> {
     fn poll_release(&self, leave: Left) -> Step<Left, Pass>
         requires own { IsOwn V.tag ticket_algorithm (padded_value self.now.words.table).shared.table_id
             (padded_value self.now.words.table).shared.key (badge_waiting leave.pass.badge).place }
-        ensures never { IsGot result }
+        ensures leaves_at_once { IsGot result }
         ensures leave { IfNot result (λ l. (badge_waiting l.pass.badge).place ≡ (badge_waiting leave.pass.badge).place) }
         ensures loaded { IfNot result (λ l. (badge_waiting l.pass.badge).loads ≡ (badge_waiting leave.pass.badge).loads + 1) }
         ensures unready { IfNot result (λ l. (badge_waiting l.pass.badge).ready ≡ false) }

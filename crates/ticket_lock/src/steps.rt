@@ -15,7 +15,7 @@ use crate::laws::TicketWords;
 use atomic_table::Seat;
 use crossbeam_utils::CachePadded;
 use lock_rules::{Cargo, Pass, Refused, View};
-use lock_tables::{LockTable, deal, gather, lay, put, take, take_out};
+use lock_tables::{LockTable, into_value, join_passes, new_table, put, split_passes, take};
 use std::alloc::Global;
 
 /// The words `next` and `serving`, each on a line of its own, and the slot.
@@ -51,8 +51,8 @@ impl<V: Cargo> Words<V> {
         let Ok(room) = Vec::with_capacity(alloc, passes as usize) else {
             return Err(Refused { value });
         };
-        let (table, seat) = lay::<V, TicketWords>(alloc, &OPENING, passes, value)?;
-        let list = deal(&table.shared, seat, passes, room);
+        let (table, seat) = new_table::<V, TicketWords>(alloc, &OPENING, passes, value)?;
+        let list = split_passes(&table.shared, seat, passes, room);
         let table = CachePadded::new(table);
         Ok((Words { table }, list))
     }
@@ -67,8 +67,8 @@ impl<V: Cargo> Words<V> {
     {
         let Words { table } = self;
         let table = table.into_inner();
-        let seat = gather(&table.shared, passes);
-        take_out(table, seat)
+        let seat = join_passes(&table.shared, passes);
+        into_value(table, seat)
     }
 
     /// Draws the next ticket, by which the pass enters the queue.

@@ -1,9 +1,9 @@
 use crate::Ticket;
-use lock_rules::{Basic, Plain};
+use lock_rules::Basic;
 use lock_trials::Told::{Got, No, Not, Yes};
 use lock_trials::{
-    Call, HOLDS, Parcel, START, Slow, carry_out, count_alone, count_by_four, count_by_two, first,
-    hold_alone, hold_by_four, hold_by_two, second,
+    BoundedCount, Call, HOLDS, Parcel, START, Slow, carry_out, count_alone, count_by_four,
+    count_by_two, first, hold_alone, hold_by_four, hold_by_two, second,
 };
 
 #[test]
@@ -123,10 +123,10 @@ fn every_hold_is_made(rt: HostRuntime) {
 #[test]
 fn every_count_is_made(rt: HostRuntime) {
     let holds = u64::from(HOLDS);
-    let alone = count_alone::<Ticket<Plain<u64>>, _>(&rt, rt.alloc(), (), HOLDS);
+    let alone = count_alone::<Ticket<BoundedCount>, _>(&rt, rt.alloc(), (), HOLDS);
     assert!(rt; alone == Some(holds));
-    let by_two = count_by_two::<Ticket<Plain<u64>>, _>(&rt, rt.alloc(), (), HOLDS);
+    let by_two = count_by_two::<Ticket<BoundedCount>, _>(&rt, rt.alloc(), (), HOLDS);
     assert!(rt; by_two == Some(2 * holds));
-    let by_four = count_by_four::<Ticket<Plain<u64>>, _>(&rt, rt.alloc(), (), HOLDS);
+    let by_four = count_by_four::<Ticket<BoundedCount>, _>(&rt, rt.alloc(), (), HOLDS);
     assert!(rt; by_four == Some(4 * holds));
 }

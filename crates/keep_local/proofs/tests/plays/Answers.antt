@@ -1,6 +1,6 @@
 use Rattle.std.proofs.Common.{◌≡◌, sym, subst}
 use Rattle.std.specs.Prelude.{All}
-use Rattle.keep_local.proofs.Dealt.{shares_named}
+use Rattle.keep_local.proofs.Splits.{shares_named}
 use Rattle.keep_local.proofs.tests.plays.Goals as goal
 
 pub loop-turn-init : goal.loop-turn-init

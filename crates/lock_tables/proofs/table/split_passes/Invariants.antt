@@ -2,7 +2,7 @@ use Rattle.std.proofs.Common.{◌≡◌, ◌≤◌, [], vec_capacity}
 use Rattle.lock_rules.specs.Passes.{AreAll}
 use Rattle.lock_rules.specs.Tokens.{badge_place}
 use Rattle.lock_rules.specs.Views.{first_view, lock_name}
-use Rattle.lock_tables.proofs.table.deal.Given as goal
+use Rattle.lock_tables.proofs.table.split_passes.Given as goal
 
 -- the passes below the counter are in the list, and the first seat has the others
 abbrev pub invariant-loop-number : goal.invariant-loop-number

@@ -4,7 +4,7 @@ use Rattle.lock_rules.specs.Tokens.{badge_place}
 use Rattle.lock_rules.specs.Views.{lock_name}
 use Rattle.lock_rules.specs.declared.view.Phase.TheVariants.{Idle}
 use Rattle.lock_tables.specs.Numbers.{passes_of}
-use Rattle.lock_tables.proofs.table.gather.Given as goal
+use Rattle.lock_tables.proofs.table.join_passes.Given as goal
 
 -- the seat has the numbers of the passes that have left the list
 abbrev pub invariant-loop-pass : goal.invariant-loop-pass

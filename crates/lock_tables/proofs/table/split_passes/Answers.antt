@@ -1,6 +1,6 @@
 use Rattle.std.proofs.Common.{◌≡◌, ◌-◌, ap, arith}
 use Rattle.lock_tables.proofs.Steps.{splits}
-use Rattle.lock_tables.proofs.table.deal.Goals as goal
+use Rattle.lock_tables.proofs.table.split_passes.Goals as goal
 
 pub split_seat-next-requires : goal.split_seat-next-requires
 split_seat-next-requires g c =

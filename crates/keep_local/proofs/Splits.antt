@@ -22,10 +22,10 @@ tallies_first i quotas h = ap (λ (qs : List ℕ). map new_tally (enumerate_from
     ∙ ap (λ (n : ℕ). new_tally (i, slice_index quotas i) ∷ map new_tally (enumerate_from (i + 1) (drop n quotas))) (sym (add-one i))
 
 -- the home seat after its first tally was split off, and the seat of that tally
-pub home_dealt : (before after : Seated) (i : ℕ) (quotas : List ℕ) → i < length quotas
+pub home_split : (before after : Seated) (i : ℕ) (quotas : List ℕ) → i < length quotas
     → before ≡ (home_view quotas [] (tallies_from i quotas), []) → after ≡ (without_first before.0, before.1)
     → after ≡ (home_view quotas [] (tallies_from (i + 1) quotas), [])
-home_dealt before after i quotas h b a = a ∙ ap (λ (m : Seated). (without_first m.0, m.1)) b
+home_split before after i quotas h b a = a ∙ ap (λ (m : Seated). (without_first m.0, m.1)) b
     ∙ ap (λ (ts : List Tally). (home_view quotas [] (behind_first ts), [])) (tallies_first i quotas h)
 
 enumerate_push : (n : ℕ) (xs : List ℕ) (x : ℕ) → enumerate_from n (xs ++ x ∷ []) ≡ enumerate_from n xs ++ (n + length xs, x) ∷ []
@@ -38,9 +38,9 @@ shares_push z xs x = ap (map (new_share z)) (enumerate_push 0 xs x)
     ∙ map-append (new_share z) (enumerate_from 0 xs) ((0 + length xs, x) ∷ [])
 
 -- one more share was given out
-pub shares_dealt : (z : TableId) (i : ℕ) (quotas : List ℕ) → i < length quotas
+pub shares_split : (z : TableId) (i : ℕ) (quotas : List ℕ) → i < length quotas
     → new_shares z (take (i + 1) quotas) ≡ new_shares z (take i quotas) ++ new_share z (i, slice_index quotas i) ∷ []
-shares_dealt z i quotas h =
+shares_split z i quotas h =
     let more = take_more quotas i 0 h in
     let long : 0 + length (take i quotas) ≡ i = let within : i ≤ length quotas = omega arith in
     omega (arith, length-take-le i quotas within) in

@@ -1,7 +1,7 @@
 use Rattle.std.proofs.Common.{◌≡◌, [], ◌∷◌, Some, ap, sym, arith}
 use Rattle.std.proofs.lemmas.Grind.{common_steps}
 use Rattle.lock_tables.proofs.Steps.{starts}
-use Rattle.lock_tables.proofs.table.lay.Goals as goal
+use Rattle.lock_tables.proofs.table.new_table.Goals as goal
 
 pub new-requires : goal.new-requires
 new-requires g c =

@@ -1,7 +1,7 @@
 use Rattle.std.proofs.Common.{◌^◌, ◌<◌, ◌≡◌, List, ℕ, sym, subst, rules}
 use Rattle.std.specs.Prelude.{sum}
 use Rattle.keep_local.proofs.Tied.{opens}
-use Rattle.keep_local.proofs.tie.lay.Goals as goal
+use Rattle.keep_local.proofs.tie.new_table.Goals as goal
 
 pub of_words-requires : goal.of_words-requires
 of_words-requires c =

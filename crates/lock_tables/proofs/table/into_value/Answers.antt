@@ -2,7 +2,7 @@ use Rattle.std.proofs.Common.{◌≡◌, ap, sym, ◌∙◌, subst}
 use mathlib.Core.Option.{some-injective}
 use Rattle.lock_tables.proofs.Seats.{taken}
 use Rattle.lock_tables.proofs.Steps.{ends}
-use Rattle.lock_tables.proofs.table.take_out.Goals as goal
+use Rattle.lock_tables.proofs.table.into_value.Goals as goal
 
 pub unreachable-requires : goal.unreachable-requires
 unreachable-requires g c =

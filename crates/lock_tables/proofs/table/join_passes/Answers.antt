@@ -5,7 +5,7 @@ use Rattle.lock_rules.proofs.Passes.{one_less}
 use Rattle.lock_tables.specs.Numbers.{passes_of}
 use Rattle.lock_tables.proofs.Numbers.{plain_size, joined_size}
 use Rattle.lock_tables.proofs.Steps.{joins}
-use Rattle.lock_tables.proofs.table.gather.Goals as goal
+use Rattle.lock_tables.proofs.table.join_passes.Goals as goal
 
 pub loop-pass-init : goal.loop-pass-init
 loop-pass-init g c =

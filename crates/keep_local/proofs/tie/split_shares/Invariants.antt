@@ -1,8 +1,8 @@
 use Rattle.std.proofs.Common.{◌≡◌, ◌≤◌, [], length, take, vec_capacity}
 use Rattle.keep_local.specs.States.{new_shares}
 use Rattle.keep_local.specs.Views.{home_view}
-use Rattle.keep_local.proofs.Dealt.{tallies_from}
-use Rattle.keep_local.proofs.tie.deal.Given as goal
+use Rattle.keep_local.proofs.Splits.{tallies_from}
+use Rattle.keep_local.proofs.tie.split_shares.Given as goal
 
 -- the quotas below the counter have their shares, and the home seat has the tallies of the others
 abbrev pub invariant-loop-caller : goal.invariant-loop-caller
