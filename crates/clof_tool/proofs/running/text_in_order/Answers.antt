@@ -1,5 +1,6 @@
-use Rattle.std.proofs.Common.{◌≡◌, ℕ, List, [], ◌∷◌, length, map, refl, sym, ap, ◌∙◌, arith}
+use Rattle.std.proofs.Common.{◌≡◌, ℕ, List, [], ◌∷◌, length, map, Ok, Err, refl, sym, ap, ◌∙◌, arith}
 use Rattle.std.specs.List.{sum_by}
+use Rattle.std.specs.Prelude.{Result, IfOk, OnOk}
 use Rattle.std.proofs.lemmas.List.Sums.{sum_by-cons}
 use Rattle.placed_runner.specs.declared.sections.Section.{Section}
 use Rattle.std.specs.Borrow.{Bor}
@@ -67,18 +68,25 @@ same_text sections entries printed is =
     is ∙ ap (λ (n : ℕ). run_text (map section_view sections) (one_lock n) (holds_of (map (λ (entry : Logged). entry.caller) entries)))
     (sym (length-map sections section_view))
 
+-- what follows of a value, where facts hold beside it
+with_facts : {T E : Type 0} (made : Result T E) (P Q : Type 0) (R S : T → Type 0) → OnOk made P → OnOk made Q
+    → (P → Q → (value : T) → R value → S value) → IfOk made R → IfOk made S
+with_facts (Ok value) P Q R S p q follows r = follows p q value r
+with_facts (Err error) P Q R S p q follows r = tt
+
 pub returns-clause-run : goal.returns-clause-run
 returns-clause-run c =
     let sections = c.args.sections.now in
     let log : Log = c.run_in_order.new.journal in
-    let same = text-requires-clause-same c in
-    IfOk-weaker c.text.result _ _
-    (λ printed is. record {
+    let lent = ap (map (λ (one : Bor (List ℕ)). one.now)) c.deref.ensures.value in
+    let same = c.run_in_order.ensures.sections ∙ c.in_ok-journal.ensures.sections ∙ lent ∙ c.in_ok-bytes.ensures in
+    with_facts c.text.result _ _ _ _ c.text.ensures.callers c.text.ensures.one_thread
+    (λ callers one_thread printed is. record {
       log = log;
       sections_are = same ∙ bytes_of sections;
-      callers = c.text.ensures.callers;
+      callers = callers;
       each_own = c.if-run_in_order.ensures.own;
-      one_thread = c.text.ensures.one_thread;
+      one_thread = one_thread;
       printed_is = same_text sections log.entries printed.items is;
     })
     c.text.ensures.text
