@@ -1,5 +1,6 @@
 pub mod Cuts
 pub mod Escapes
+pub mod Histories
 pub mod Numbered
 pub mod Owns
 pub mod Runs

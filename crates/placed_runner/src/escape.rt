@@ -21,11 +21,21 @@ fn push_escaped(out: &mut Vec<u8>, text: &[u8]) -> Result<(), AllocError>
 {
     let mut rest = text;
     while let Some((plain, byte, behind)) = split_plain(rest) {
-        out.extend_from_slice(plain)?;
+        push_plain(out, plain)?;
         push_escape(out, byte)?;
         rest = behind;
     }
-    out.extend_from_slice(rest)
+    push_plain(out, rest)
+}
+
+// Appends bytes that stand for themselves, of which there are often none.
+fn push_plain(out: &mut Vec<u8>, text: &[u8]) -> Result<(), AllocError>
+    ensures { OnOk result (out.new.items ≡ out.old.items ++ text.now) }
+{
+    if text.is_empty() {
+        return Ok(());
+    }
+    out.extend_from_slice(text)
 }
 
 // The bytes in front that stand for themselves, the first other byte, and what stands behind it.

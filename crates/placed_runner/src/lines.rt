@@ -59,8 +59,8 @@ fn push_levels(out: &mut Vec<u8>, turn: Turn) -> Result<(), AllocError>
     push_labelled(out, b" left ", u64::from(turn.left))
 }
 
-/// The PU of a caller.
-pub(crate) fn pu_of(sections: &[Section<'_>], caller: u32) -> u32
+// The PU of a caller.
+fn pu_of(sections: &[Section<'_>], caller: u32) -> u32
     ensures { result ≡ pu_of (map section_view sections.now) caller }
 {
     match sections.get(caller as usize) {

@@ -1,13 +1,13 @@
-// How many bytes the printed text of a run has, so that its buffer is made once, of that size. These numbers are hints: where
-// one were too small, the buffer would grow.
+// How many bytes the printed text of a run has, so that its buffer is made once, of that size. These numbers are hints: they are
+// exact where each caller has given all its commands, and where one were too small, the buffer would grow.
 ghost use Rattle.std.specs.Prelude.{◌≡◌, ◌<◌, length, map};
 
-use crate::lines::pu_of;
 use crate::sections::Section;
 use kv_history::Journal;
 
-// The bytes of a turn's line beside its numbers and texts: its six names, a space and quotes for two texts, and its end.
-const TURN_BYTES: usize = 44;
+// The bytes of a turn's line beside its number, its caller's and its PU's digits and its texts: its six names, a digit for each
+// of the three levels, a space and quotes for each text, and its end.
+const TURN_BYTES: usize = 47;
 
 // Those of a caller's line: its four names and its end.
 const CALLER_BYTES: usize = 28;
@@ -16,39 +16,49 @@ const CALLER_BYTES: usize = 28;
 pub(crate) fn text_size(sections: &[Section<'_>], journal: &Journal<'_>) -> usize
     requires { journal.now.sections ≡ map (λ section. section.bytes.now) sections.now }
 {
-    let mut size: usize = 0;
-    for number in 0..journal.entries() {
-        size = size.wrapping_add(turn_size(sections, journal, number));
-    }
+    let mut size = counting_size(journal.entries()).wrapping_add(escaped_size(journal.replies()));
     for (caller, section) in sections.iter().enumerate() {
         size = size.wrapping_add(caller_size(caller, section, journal));
     }
     size
 }
 
-// How many bytes the line of an entry has. It climbs to level 0, has no tests and leaves at level 0: a digit each.
-fn turn_size(sections: &[Section<'_>], journal: &Journal<'_>, number: u32) -> usize
-    requires { number < length journal.now.entries }
-{
-    let entry = journal.entry(number);
-    (TURN_BYTES + 3)
-        .wrapping_add(digits(u64::from(number)))
-        .wrapping_add(digits(u64::from(entry.caller)))
-        .wrapping_add(digits(u64::from(pu_of(sections, entry.caller))))
-        .wrapping_add(escaped_size(entry.spelling))
-        .wrapping_add(escaped_size(journal.reply(number)))
+// How many digits the numbers below a count have, one behind the other: one each, and one more from each power of ten on.
+fn counting_size(count: u32) -> usize {
+    let count = count as usize;
+    let mut size = count;
+    for power in POWERS {
+        size = size.wrapping_add(count.saturating_sub(power));
+    }
+    size
 }
 
-// How many bytes the line of a caller has.
+const POWERS: [usize; 9] = [
+    10,
+    100,
+    1_000,
+    10_000,
+    100_000,
+    1_000_000,
+    10_000_000,
+    100_000_000,
+    1_000_000_000,
+];
+
+// How many bytes the line of a caller has, and those of its turns, but for their numbers and replies.
 fn caller_size(caller: usize, section: &Section<'_>, journal: &Journal<'_>) -> usize
     requires { caller < length journal.now.sections }
 {
     let tally = journal.tally(caller);
+    let place = digits(caller as u64).wrapping_add(digits(u64::from(section.pu)));
+    let turns = (tally.commands as usize).wrapping_mul(TURN_BYTES.wrapping_add(place));
+    let spelled = section.bytes.len().saturating_sub(tally.rest.len());
     CALLER_BYTES
-        .wrapping_add(digits(caller as u64))
-        .wrapping_add(digits(u64::from(section.pu)))
+        .wrapping_add(place)
         .wrapping_add(digits(u64::from(tally.commands)))
         .wrapping_add(digits(tally.rest.len() as u64))
+        .wrapping_add(turns)
+        .wrapping_add(escaped_size(&section.bytes[..spelled]))
 }
 
 // How many digits a number has.
@@ -59,20 +69,16 @@ fn digits(number: u64) -> usize {
     }
 }
 
-// How many bytes a text has between quotes.
+// How many bytes a text has between quotes: four for each that has no sign of its own, two for each sign with a backslash.
 fn escaped_size(text: &[u8]) -> usize {
     let mut size = text.len();
     for byte in text {
-        size = size.wrapping_add(extra(*byte));
+        let hidden = usize::from(*byte < b' ') + usize::from(*byte > b'~');
+        let line_end = usize::from(*byte == b'\r') + usize::from(*byte == b'\n');
+        let sign = usize::from(*byte == b'"') + usize::from(*byte == b'\\');
+        size = size
+            .wrapping_add(3 * hidden + sign)
+            .wrapping_sub(2 * line_end);
     }
     size
-}
-
-// How many bytes more than one a byte has between quotes.
-fn extra(byte: u8) -> usize {
-    match byte {
-        b'\r' | b'\n' | b'\\' | b'"' => 1,
-        b' '..=b'~' => 0,
-        _ => 3,
-    }
 }
