@@ -2,7 +2,7 @@
 """Times clof run beside memcached, over loopback, on the same bytes (Debian's package memcached 1.6.18).
 
 Run from anywhere, with a built program (./clof):   bench/memcached_speed.py [ROW ..]
-clof is timed as a whole process that prints its text into a file; memcached with one thread, from the first byte that is
+clof is timed as a whole process that prints its text into a file in memory; memcached with one thread, from the first byte that is
 sent on one connection to the last reply. Each row is the median of three. Rows: set, get, incr, lines, keys, growth.
 """
 import os
@@ -51,7 +51,7 @@ def commands_of(row, limit=LIMIT):
 
 def run(text):
     """Seconds and the greatest resident memory, in MB, of the program on one section."""
-    with tempfile.TemporaryDirectory() as folder:
+    with tempfile.TemporaryDirectory(dir="/dev/shm") as folder:
         place = pathlib.Path(folder)
         (place / "in").write_bytes(b"worker * %d\n%s\n" % (len(text), text))
         with open(place / "in") as source, open(place / "out", "wb") as out:

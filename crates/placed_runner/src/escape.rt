@@ -5,14 +5,22 @@ ghost use Rattle.placed_runner.specs.Text.{escaped, escaped_byte, quoted};
 use byte_text::hex_digit;
 use std::alloc::AllocError;
 
-/// Appends a text between quotes, behind a space.
+/// Appends a text between quotes, behind a space. Most texts end with `\r\n`.
 #[tactic(auto, unfolding(crate::specs::Text::quoted))]
 pub(crate) fn push_quoted(out: &mut Vec<u8>, text: &[u8]) -> Result<(), AllocError>
     ensures { OnOk result (out.new.items ≡ out.old.items ++ quoted text.now) }
 {
     out.extend_from_slice(b" \"")?;
-    push_escaped(out, text)?;
-    out.extend_from_slice(b"\"")
+    match text.strip_suffix(b"\r\n".as_slice()) {
+        Some(line) => {
+            push_escaped(out, line)?;
+            out.extend_from_slice(b"\\r\\n\"")
+        }
+        None => {
+            push_escaped(out, text)?;
+            out.extend_from_slice(b"\"")
+        }
+    }
 }
 
 // Appends a text as it is printed between quotes.
@@ -21,21 +29,11 @@ fn push_escaped(out: &mut Vec<u8>, text: &[u8]) -> Result<(), AllocError>
 {
     let mut rest = text;
     while let Some((plain, byte, behind)) = split_plain(rest) {
-        push_plain(out, plain)?;
+        out.extend_from_slice(plain)?;
         push_escape(out, byte)?;
         rest = behind;
     }
-    push_plain(out, rest)
-}
-
-// Appends bytes that stand for themselves, of which there are often none.
-fn push_plain(out: &mut Vec<u8>, text: &[u8]) -> Result<(), AllocError>
-    ensures { OnOk result (out.new.items ≡ out.old.items ++ text.now) }
-{
-    if text.is_empty() {
-        return Ok(());
-    }
-    out.extend_from_slice(text)
+    out.extend_from_slice(rest)
 }
 
 // The bytes in front that stand for themselves, the first other byte, and what stands behind it.
