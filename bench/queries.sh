@@ -2,10 +2,13 @@
 # Times clof calc and clof distrib beside hwloc-calc and hwloc-distrib (Debian's hwloc-nox), whole processes, in turn, and prints a table: the
 # query, milliseconds a process (the median of eleven) of each, and the ratio. It needs a built program (./clof, or rt run in crates/clof).
 #
-#   bench/queries.sh [PROGRAM]
+#   bench/queries.sh [PROGRAM [WORD]]
+#
+# With a WORD only the rows whose name has it.
 set -eu
 cd "$(dirname "$0")/.."
 ours=${1:-crates/clof/out/clof}
+only=${2:-}
 [ -x "$ours" ] || { echo "there is no $ours: run ./clof first" >&2; exit 1; }
 command -v hwloc-calc > /dev/null || { echo "there is no hwloc-calc: install hwloc-nox" >&2; exit 1; }
 
@@ -23,6 +26,7 @@ median() { sort -n | sed -n 6p; }
 # NAME, then the words behind clof, then -- and the words of the other program
 row() {
   local name=$1 here there words=()
+  [[ $name == *"$only"* ]] || return 0
   shift
   while [ "$1" != -- ]; do words+=("$1"); shift; done
   shift

@@ -1,6 +1,6 @@
 -- Locations and terms, by what their parts say.
 use Rattle.std.proofs.Common.{◌≡◌, ℕ, suc, ◌-◌, ◌<◌, ◌≤◌, true, false, cond, ◌==◌, List, [], ◌∷◌, length, drop, get_or, Ok, Err}
-use Rattle.std.proofs.Common.{refl, sym, ap, ◌∙◌, arith}
+use Rattle.std.proofs.Common.{refl, sym, ap, ◌∙◌, arith, inl, inr}
 use Rattle.std.specs.Prelude.{Result}
 use Rattle.std.specs.Char.{is_ascii_digit}
 use Rattle.std.specs.List.{slice_split}
@@ -19,14 +19,7 @@ use Rattle.calc_query.specs.Readings.{parts_from, numbers_location, set_or_parts
 -- what fails still fails where more was to be read
 pub fails_after : {A B : Type 0} (fault : CalcFault) (reading : Result A CalcFault) (next : A → Result B CalcFault)
     → FailsWith fault reading → FailsWith fault (reading >>= next)
-fails_after faults.OutOfMemory reading next fails = tt
-fails_after (faults.Location word at) reading next fails = ap (λ r. r >>= next) fails
-fails_after (faults.NoSuchType word) reading next fails = ap (λ r. r >>= next) fails
-
-pub fails_by : {A : Type 0} (fault : CalcFault) (reading : Result A CalcFault) → reading ≡ Err fault → FailsWith fault reading
-fails_by faults.OutOfMemory reading is = tt
-fails_by (faults.Location word at) reading is = is
-fails_by (faults.NoSuchType word) reading is = is
+fails_after fault reading next fails = elim fails [ inl is ↦ inl (ap (λ r. r >>= next) is) | inr memory ↦ inr memory ]
 
 -- a word is as long as its operator
 pub op_fits : (text : List ℕ) → op_len (op_of text) ≤ length text

@@ -1,12 +1,13 @@
 -- What words say as locations and terms, and which fault they have (after hwloc-calc's locations). 46 is a dot, 58 a
 -- colon, 45 a dash; 126, 120 and 94 are the operators `~`, `x` and `^`.
-use Rattle.std.specs.Prelude.{◌≡◌, ℕ, ◌+◌, ◌-◌, ◌^◌, ◌==◌, ◌||◌, Bool, if◌then◌else◌, List, [], ◌∷◌, length, drop, codes, Option, Some}
+use Rattle.std.specs.Prelude.{◌≡◌, ℕ, ◌+◌, ◌^◌, ◌==◌, ◌||◌, Bool, if◌then◌else◌, List, [], ◌∷◌, length, drop, codes, Option, Some}
 use Rattle.std.specs.Prelude.{None, option_map, Result, Ok, Err}
 use Rattle.std.specs.Char.{is_ascii_digit}
 use Rattle.std.specs.List.{slice_split}
 use Rattle.std.specs.Option.{option_and_then}
 use Rattle.std.specs.Str.{bytes_eq}
-use Rattle.byte_text.specs.Numerals.{number_in}
+use Rattle.out_of_memory.specs.Memory.{UnlessMemory}
+use Rattle.byte_text.specs.Numerals.{number_below}
 use Rattle.cpu_set.specs.declared.fault.SetFault.{SetFault}
 use Rattle.cpu_set.specs.Sets.{numbers_where}
 use Rattle.cpu_set.specs.Readings.{hex_fault, is_in_hex}
@@ -29,8 +30,8 @@ use Rattle.calc_query.specs.declared.query.Term.{Term}
 -- ---- indexes
 
 -- a decimal number below 2^32
-unfoldable pub index_number : List ℕ → Option ℕ
-index_number text = number_in 0 (2 ^ 32 - 1) text
+abbrev pub index_number : List ℕ → Option ℕ
+index_number text = number_below (2 ^ 32) text
 
 -- `a-b`, or `a-` where nothing stands behind the dash
 abbrev pub span_from : List ℕ → ℕ → Option Pick
@@ -125,12 +126,11 @@ term_of described word text =
 
 -- ---- answers
 
--- the fault that the reading has, or want of memory
+-- the fault that the reading has, unless memory was refused
 abbrev pub FailsWith : {A : Type 0} → CalcFault → Result A CalcFault → Type 0
-FailsWith faults.OutOfMemory reading = Unit {0}
-FailsWith fault reading = reading ≡ Err fault
+FailsWith fault reading = UnlessMemory faults.OutOfMemory fault (reading ≡ Err fault)
 
--- a function's result is what the reading says, unless memory ran out
+-- a function's result is what the reading says, unless memory was refused
 abbrev pub Answers : {A : Type 0} → Result A CalcFault → Result A CalcFault → Type 0
 Answers (Ok x) reading = reading ≡ Ok x
 Answers (Err fault) reading = FailsWith fault reading

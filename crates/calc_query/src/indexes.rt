@@ -4,7 +4,7 @@ ghost use Rattle.std.specs.Option.{option_and_then};
 ghost use Rattle.calc_query.specs.Readings.{index_number, span_from, wrap_from, pick_of};
 
 use crate::query::Pick;
-use byte_text::{Class, cut, number_in};
+use byte_text::{Class, cut, number32};
 
 /// What an index says; `None` where it has none of the forms.
 #[tactic(auto, unfolding(crate::specs::Readings::pick_of))]
@@ -25,7 +25,7 @@ pub fn read_pick(text: &[u8]) -> Option<Pick>
     }
     match cut(text, Class::Byte(b'-')) {
         Some((first, last)) => read_span(first, last),
-        None => Some(Pick::One(read_number(text)?)),
+        None => Some(Pick::One(number32(text)?)),
     }
 }
 
@@ -33,8 +33,8 @@ pub fn read_pick(text: &[u8]) -> Option<Pick>
 fn read_wrap(first: &[u8], count: &[u8]) -> Option<Pick>
     ensures { result ≡ option_and_then (wrap_from count.now) (index_number first.now) }
 {
-    let first = read_number(first)?;
-    let count = read_number(count)?;
+    let first = number32(first)?;
+    let count = number32(count)?;
     Some(Pick::Wrap { first, count })
 }
 
@@ -42,19 +42,10 @@ fn read_wrap(first: &[u8], count: &[u8]) -> Option<Pick>
 fn read_span(first: &[u8], last: &[u8]) -> Option<Pick>
     ensures { result ≡ option_and_then (span_from last.now) (index_number first.now) }
 {
-    let first = read_number(first)?;
+    let first = number32(first)?;
     if last.is_empty() {
         return Some(Pick::From(first));
     }
-    let last = read_number(last)?;
+    let last = number32(last)?;
     Some(Pick::Span { first, last })
-}
-
-// A decimal number below 2^32.
-#[tactic(auto, unfolding(crate::specs::Readings::index_number))]
-fn read_number(text: &[u8]) -> Option<u32>
-    ensures { result ≡ index_number text.now }
-{
-    let number = number_in(0, u64::from(u32::MAX), text)?;
-    Some(number as u32)
 }

@@ -1,11 +1,10 @@
 -- Terms, read one after another.
-use Rattle.std.proofs.Common.{◌≡◌, ℕ, ◌+◌, List, [], ◌∷◌, ◌++◌, Ok, Err, refl, sym, ap, ◌∙◌, append_assoc}
+use Rattle.std.proofs.Common.{◌≡◌, ℕ, ◌+◌, List, [], ◌∷◌, ◌++◌, Ok, Err, refl, sym, ap, ◌∙◌, append_assoc, inl, inr}
 use Rattle.std.specs.Prelude.{Result}
 use Rattle.std.proofs.lemmas.List.{append-nil}
 use Rattle.synth_text.specs.declared.description.Description.{Description}
 use Rattle.synth_text.specs.Flaws.{◌>>=◌}
 use Rattle.calc_query.specs.declared.fault.CalcFault.{CalcFault}
-use Rattle.calc_query.specs.declared.fault.CalcFault.TheVariants as faults
 use Rattle.calc_query.specs.declared.query.Term.{Term}
 use Rattle.calc_query.specs.Readings.{term_of, FailsWith}
 use Rattle.calc_text.specs.Reading.{terms_from}
@@ -38,9 +37,7 @@ module _ (described : Description) (number : ℕ) (terms : List Term) (word : Li
   -- the first bad term
   pub term_fails : (fault : CalcFault) → FailsWith fault (term_of described number word)
       → FailsWith fault (after terms (terms_from described number (word ∷ words)))
-  term_fails faults.OutOfMemory fails = tt
-  term_fails (faults.Location at place) fails = stops (faults.Location at place) fails
-  term_fails (faults.NoSuchType at) fails = stops (faults.NoSuchType at) fails
+  term_fails fault fails = elim fails [ inl says ↦ inl (stops fault says) | inr memory ↦ inr memory ]
 
 pub all_read : (terms : List Term) (described : Description) (number : ℕ) → after terms (terms_from described number []) ≡ Ok terms
 all_read terms described number = ap Ok (append-nil terms)

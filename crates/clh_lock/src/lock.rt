@@ -102,8 +102,8 @@ impl<V: Cargo> Basic<V> for Clh<V> {
         ensures loaded { (holder_of held.new).loads ≡ (holder_of held.old).loads + 1 }
         ensures noted { (holder_of held.new).tested ≡ answer_of result }
     {
-        let tail = self.words.load_tail(&mut held.seat.seat);
-        tail != held.seat.mark
+        let node = self.words.held_node(held);
+        self.words.load_tail(&mut held.seat.seat) != node
     }
 
     /// The answer is never `Not`: the value is put back, the holder's node is granted, and the node that it watched is its own from then

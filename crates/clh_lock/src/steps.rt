@@ -1,7 +1,7 @@
 //! The lock's words, and the atomic steps on them, by their names in the published pseudo-code. Nothing else reaches the words.
 ghost use Rattle.std.specs.Prelude.{◌≡◌, ◌≢◌, ◌<◌, ◌≤◌, ◌^◌, [], ◌∷◌, true, false, Some, None, IfOk, IfErr};
 ghost use Rattle.crossbeam_utils.specs.Padded.{padded_value};
-ghost use Rattle.lock_rules.specs.Holders.{holder_of};
+ghost use Rattle.lock_rules.specs.Holders.{held_view, holder_of};
 ghost use Rattle.lock_rules.specs.Passes.{AreAll};
 ghost use Rattle.lock_rules.specs.Tokens.{view_of, badge_place, badge_waiting};
 ghost use Rattle.lock_rules.specs.Views.{lock_name, mark_of};
@@ -139,6 +139,16 @@ impl<V: Cargo> Words<V> {
         ensures algorithm { result.0.me.0.algorithm ≡ clh_algorithm }
     {
         held.into_parts()
+    }
+
+    /// The own node of the holder of this lock.
+    pub(crate) fn held_node(&self, held: &Held<V>) -> u64
+        requires of { IsOwn V.tag clh_algorithm (padded_value self.now.table).shared.table_id (padded_value self.now.table).shared.key
+            (holder_of held.now).place }
+        ensures table { held.now.seat.seat.table_id ≡ (padded_value self.now.table).shared.table_id }
+        ensures own { result ≡ (held_view held.now).node }
+    {
+        held.seat.mark
     }
 
     /// Makes the pass's own node pending, for the swap to come.

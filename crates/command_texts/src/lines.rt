@@ -1,7 +1,8 @@
 // The line that tells of a status, in room on the stack.
 ghost use Rattle.std.specs.Prelude.{◌≡◌, ◌≤◌, ◌+◌, ◌++◌, codes, length};
 ghost use Rattle.arrayvec.specs.ArrayString.{array_string_len};
-ghost use Rattle.command_texts.specs.Line.{with_number, set_message, synth_message, build_message, calc_message, type_message, distrib_message};
+ghost use Rattle.command_texts.specs.Line.{with_number, set_message, synth_message, build_message, calc_message, type_message};
+ghost use Rattle.command_texts.specs.Line.{distrib_message};
 ghost use Rattle.command_texts.specs.Line.{section_message};
 ghost use Rattle.command_texts.specs.Line.{fault_message, line_with, line_of};
 

@@ -1,5 +1,6 @@
 -- What the words of `calc` ask for. The letters are those of `-I`, `-N`, `-H`, `-p` and `-l`.
-use Rattle.std.specs.Prelude.{◌^◌, Bool, false, true, List, [], ◌∷◌, length, nat_lt, Option, Some, None, codes, option_map, option_and_then, if◌then◌else◌}
+use Rattle.std.specs.Prelude.{◌^◌, Bool, false, true, List, [], ◌∷◌, length, nat_lt, codes, if◌then◌else◌}
+use Rattle.std.specs.Prelude.{Option, Some, None, option_map, option_and_then}
 use Rattle.clap.specs.Words.{App, Row, Rule, Text, first_of}
 use Rattle.command_words.specs.Commands.{command_of, flag_rule, is_given, matched, option_rule, taken_by, word_rule, words_rule}
 use Rattle.command_words.specs.Asked.{Asked, Calc, Calculation, Question, TheSet, Intersect, NumberOf, Hierarchical, Largest}

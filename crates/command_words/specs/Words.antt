@@ -1,6 +1,7 @@
 -- The words of the command line.
-use Rattle.std.specs.Prelude.{◌≡◌, Bool, false, true, List, [], ◌∷◌, Option, Some, None, IsTrue, codes, map, string_bytes, if◌then◌else◌}
-use Rattle.std.specs.List.{list_any}
+use Rattle.std.specs.Prelude.{◌≡◌, ◌^◌, ◌&&◌, Bool, false, true, nat_lt, List, [], ◌∷◌, length, Option, Some, None, IsTrue, codes, map}
+use Rattle.std.specs.Prelude.{string_bytes, if◌then◌else◌}
+use Rattle.std.specs.List.{list_all, list_any}
 use Rattle.std.specs.Str.{bytes_eq}
 use Rattle.std.specs.declared.string.String.{String}
 use Rattle.std.specs.declared.alloc.Global.{Global}
@@ -12,15 +13,23 @@ use Rattle.command_words.specs.RunWords.{run_asked}
 use Rattle.command_words.specs.SetWords.{set_asked}
 use Rattle.command_words.specs.TopoWords.{topo_asked}
 
--- What words ask for. The first one names the command, which reads them.
-unfoldable pub asked_of : List Text → Option Asked
-asked_of [] = None
-asked_of (name ∷ words) =
+-- fewer than 2^32 words, each of fewer than 2^32 bytes
+abbrev pub are_short : List Text → Bool
+are_short words = nat_lt (length words) (2 ^ 32) && list_all (λ word. nat_lt (length word) (2 ^ 32)) words
+
+-- What words ask of the command that the first one names, which reads them.
+unfoldable pub command_asked : List Text → Option Asked
+command_asked [] = None
+command_asked (name ∷ words) =
     if bytes_eq name (codes "run") then run_asked (name ∷ words)
     else (if bytes_eq name (codes "set") then set_asked (name ∷ words)
     else (if bytes_eq name (codes "topo") then topo_asked (name ∷ words)
     else (if bytes_eq name (codes "calc") then calc_asked (name ∷ words)
     else (if bytes_eq name (codes "distrib") then distrib_asked (name ∷ words) else None))))
+
+-- what words ask for
+unfoldable pub asked_of : List Text → Option Asked
+asked_of words = if are_short words then command_asked words else None
 
 abbrev pub Says : List (String Global) → Asked → Type 0
 Says words asked = asked_of (map string_bytes words) ≡ Some asked

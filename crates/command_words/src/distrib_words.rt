@@ -1,6 +1,5 @@
 // The words of `distrib`.
-ghost use Rattle.std.specs.Prelude.{◌≡◌, ◌⊎◌, ◌^◌, Some, None, map, string_bytes, IfOk, IfErr, option_map};
-ghost use Rattle.byte_text.specs.Numerals.{number_below};
+ghost use Rattle.std.specs.Prelude.{◌≡◌, ◌⊎◌, Some, None, map, string_bytes, IfOk, IfErr, option_map};
 ghost use Rattle.clap.specs.Words.{found_of, rows_of};
 ghost use Rattle.command_words.specs.Commands.{rule_of};
 ghost use Rattle.command_words.specs.Plain.{plain, plain_text, plain_depths, plain_distribution};
@@ -9,7 +8,7 @@ ghost use Rattle.command_words.specs.DistribWords.{distrib_rules, depths_of, dis
 use crate::asked::{Asked, Depths, Distribution};
 use crate::command::{Argument, is_given, matches, value};
 use crate::fault::WordsFault;
-use byte_text::number_up_to;
+use byte_text::number32;
 use clap::ArgMatches;
 use std::alloc::Global;
 
@@ -49,7 +48,7 @@ fn arguments() -> &'static [Argument]
 fn distribution_of<'a>(matches: &ArgMatches<'a>) -> Option<Distribution<'a>>
     ensures { option_map plain_distribution result ≡ distribution_of (rows_of (found_of matches.now)) }
 {
-    let masks = number(value(matches, "N")?)?;
+    let masks = number32(value(matches, "N")?)?;
     let depths = start_and_end(
         value(matches, "from"),
         value(matches, "to"),
@@ -64,14 +63,6 @@ fn distribution_of<'a>(matches: &ArgMatches<'a>) -> Option<Distribution<'a>>
         taskset: is_given(matches, "taskset"),
         description,
     })
-}
-
-// A decimal number below 2^32.
-fn number(text: &[u8]) -> Option<u32>
-    ensures { result ≡ number_below (2 ^ 32) text.now }
-{
-    let number = number_up_to(u64::from(u32::MAX), text)?;
-    Some(number as u32)
 }
 
 // Where a distribution starts and ends.

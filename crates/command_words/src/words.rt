@@ -1,7 +1,7 @@
 // The words of the command line.
-ghost use Rattle.std.specs.Prelude.{◌≡◌, ◌⊎◌, map, string_bytes, IfOk, IfErr};
+ghost use Rattle.std.specs.Prelude.{◌≡◌, ◌⊎◌, Some, None, map, string_bytes, IfOk, IfErr};
 ghost use Rattle.command_words.specs.Plain.{plain};
-ghost use Rattle.command_words.specs.Words.{asked_of, Says, IsUsage, IsTabled};
+ghost use Rattle.command_words.specs.Words.{are_short, command_asked, asked_of, Says, IsUsage, IsTabled};
 
 use crate::asked::Asked;
 use crate::calc_words::read_calc;
@@ -12,6 +12,9 @@ use crate::set_words::read_set;
 use crate::topo_words::read_topo;
 use std::alloc::Global;
 
+// One more than the greatest number of words, and of bytes of a word.
+const SHORT: usize = 4_294_967_296;
+
 /// What the words behind the program's name ask for. Usage: they are no command line of the program. OutOfMemory: the
 /// words of a command that `clap` reads want memory.
 #[tactic(auto, unfolding(crate::specs::Words::asked_of))]
@@ -19,6 +22,35 @@ pub fn read_words<'a>(alloc: Global, words: &'a [String]) -> Result<Asked<'a>, W
     ensures asked { IfOk result (λ asked. Says words.entry.now (plain asked)) }
     ensures refused { IfErr result (λ fault. ((fault ≡ WordsFault.OutOfMemory) × IsTabled words.entry.now)
         ⊎ ((fault ≡ WordsFault.Usage) × IsUsage words.entry.now)) }
+{
+    if are_short(words) {
+        read_command(alloc, words)
+    } else {
+        Err(WordsFault::Usage)
+    }
+}
+
+// Whether there are fewer than 2^32 words, each of fewer than 2^32 bytes.
+fn are_short(words: &[String]) -> bool
+    ensures { result ≡ are_short (map string_bytes words.now) }
+{
+    if words.len() >= SHORT {
+        return false;
+    }
+    for word in words {
+        if word.len() >= SHORT {
+            return false;
+        }
+    }
+    true
+}
+
+// What words ask of the command that the first one names.
+#[tactic(auto, unfolding(crate::specs::Words::command_asked))]
+fn read_command<'a>(alloc: Global, words: &'a [String]) -> Result<Asked<'a>, WordsFault>
+    ensures asked { IfOk result (λ asked. command_asked (map string_bytes words.entry.now) ≡ Some (plain asked)) }
+    ensures refused { IfErr result (λ fault. ((fault ≡ WordsFault.OutOfMemory) × IsTabled words.entry.now)
+        ⊎ ((fault ≡ WordsFault.Usage) × (command_asked (map string_bytes words.entry.now) ≡ None))) }
 {
     let Some(first) = words.first() else {
         return Err(WordsFault::Usage);

@@ -1,5 +1,5 @@
 -- Why masks are not shared out.
-use Rattle.std.specs.Prelude.{◌≡◌, ℕ, ◌==◌, nat_lt, Option, Some, None, if◌then◌else◌}
+use Rattle.std.specs.Prelude.{ℕ, ◌==◌, nat_lt, Option, Some, None, if◌then◌else◌}
 use Rattle.distrib_rules.specs.declared.fault.DistribFault.{DistribFault}
 use Rattle.distrib_rules.specs.declared.fault.DistribFault.TheVariants as faults
 
@@ -9,8 +9,3 @@ fault_of n from to =
     if n == 0 then Some faults.ZeroMasks
     else (if nat_lt 4096 n then Some faults.TooManyMasks
     else (if nat_lt to from then Some faults.Reversed else None))
-
--- this is the first broken rule, or memory ran out
-abbrev pub IsFaultUnlessMemory : Option DistribFault → DistribFault → Type 0
-IsFaultUnlessMemory first faults.OutOfMemory = Unit {0}
-IsFaultUnlessMemory first fault = first ≡ Some fault

@@ -6,7 +6,8 @@ ghost use Rattle.topo_tree.specs.Objects.{depth_count, count_at};
 ghost use Rattle.distrib_rules.specs.Shares.{shared, in_order};
 ghost use Rattle.distrib_rules.specs.Expansion.{is_final, expansion};
 ghost use Rattle.distrib_rules.specs.Masks.{with_pairs, distribution};
-ghost use Rattle.distrib_rules.specs.Faults.{fault_of, IsFaultUnlessMemory};
+ghost use Rattle.out_of_memory.specs.Memory.{UnlessMemory};
+ghost use Rattle.distrib_rules.specs.Faults.{fault_of};
 
 use crate::fault::DistribFault;
 use crate::masks::push_share;
@@ -36,7 +37,7 @@ pub fn distrib(
     ensures masks { IfOk result (λ masks. masks.items ≡ distribution topology.now (record { to = to; backwards = reverse }) n from) }
     ensures count { IfOk result (λ masks. vec_len masks ≡ n) }
     ensures accepted { OnOk result (fault_of n from to ≡ None) }
-    ensures refused { IfErr result (IsFaultUnlessMemory (fault_of n from to)) }
+    ensures refused { IfErr result (λ fault. UnlessMemory DistribFault.OutOfMemory fault (fault_of n from to ≡ Some fault)) }
 {
     if n == 0 {
         return Err(DistribFault::ZeroMasks);

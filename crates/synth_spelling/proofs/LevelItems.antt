@@ -42,7 +42,7 @@ use Rattle.std.proofs.lemmas.Slice.Eq.{bytes_eq-Decides}
 use Rattle.byte_text.specs.Classes.{is_white}
 use Rattle.byte_text.specs.Cuts.{IsCutAt, cut, with_byte, piece_or, first_piece}
 use Rattle.byte_text.specs.Numerals.{number_in, is_decimal}
-use Rattle.byte_text.proofs.CutLaws.{cut-from_IsCutAt, cut-from_lacks}
+use Rattle.byte_text.proofs.CutLaws.{CutsAt, cuts_of, cut-from_IsCutAt, cut-from_lacks}
 use Rattle.byte_text.proofs.NumeralLaws.{Decides-is_decimal, in_range}
 use Rattle.synth_text.specs.declared.kind.Kind.{Kind}
 use Rattle.synth_text.specs.declared.kind.Kind.TheVariants.{Machine, Package, Die, Group, L5, L4, L3, L2, L1d, L1i, Core, Pu, NumaNode}
@@ -93,36 +93,6 @@ use Rattle.synth_spelling.specs.Spelling.{
   SpellsLevel,
 }
 use Rattle.synth_text.proofs.Bound.{ok_is, some_is, bind_ok, or_flaw-ok, guard_ok, guard_some, option_map_some}
-
--- ---- cuts at a byte
-
--- no place of a list has the byte, where neither its head nor a place of its rest has
-lacking : (byte first : ℕ) (more : List ℕ) → (first ≡ byte → ⊥) → ¬ (Contains more byte) → (k : ℕ) → k < length (first ∷ more)
-    → get_or (first ∷ more) k byte ≡ byte → ⊥
-lacking byte first more other lacks zero within is = other is
-lacking byte first more other lacks (suc k) within is = lacks (k, omega arith, is)
-
--- the parts of a cut, or that there is no such byte
-abbrev pub CutsAt : ℕ → List ℕ → Option (List ℕ × List ℕ) → Type 0
-CutsAt byte text None = ¬ (Contains text byte)
-CutsAt byte text (Some parts) = IsCutAt byte text parts.0 parts.1
-
-cuts_more : (byte first : ℕ) (more : List ℕ) (o : Option (List ℕ × List ℕ)) → (first ≡ byte → ⊥) → CutsAt byte more o
-    → CutsAt byte (first ∷ more) (option_map (with_byte first) o)
-cuts_more byte first more None other lacks = λ has. lacking byte first more other lacks has.0 has.1 has.2
-cuts_more byte first more (Some parts) other cuts = record {
-  parts = ap (λ (rest : List ℕ). first ∷ rest) cuts.parts;
-  first = λ has. lacking byte first parts.0 other cuts.first has.0 has.1 has.2;
-}
-
-pub cuts_of : (byte : ℕ) (text : List ℕ) → CutsAt byte text (cut (λ b. b == byte) text)
-cuts_of byte [] = λ has. absurd (omega (arith, has.1))
-cuts_of byte (first ∷ more) =
-    elim (cases_Bool (first == byte)) [
-      | inl passes ↦
-          rw passes (record { parts = ap (λ b. b ∷ more) (eqb-true first byte passes); first = λ has. absurd (omega (arith, has.1)) })
-      | inr fails ↦ rw fails (cuts_more byte first more (cut (λ b. b == byte) more) (eqb-false first byte fails) (cuts_of byte more))
-    ]
 
 -- ---- numbers and names
 

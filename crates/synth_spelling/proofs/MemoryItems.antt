@@ -41,7 +41,7 @@ use Rattle.std.proofs.lemmas.List.{take-append-drop}
 use Rattle.std.proofs.lemmas.List.Sums.{take_while-cons}
 use Rattle.byte_text.specs.Classes.{is_white}
 use Rattle.byte_text.specs.Cuts.{cut, piece_or, first_piece, without_front}
-use Rattle.byte_text.proofs.CutLaws.{cut-from_IsCutAt}
+use Rattle.byte_text.proofs.CutLaws.{CutsAt, cuts_of, cut-from_IsCutAt}
 use Rattle.synth_text.specs.declared.kind.Kind.{Kind}
 use Rattle.synth_text.specs.declared.kind.Kind.TheVariants.{Machine, Package, Die, Group, L5, L4, L3, L2, L1d, L1i, Core, Pu, NumaNode}
 use Rattle.synth_text.specs.declared.name.Name.{Name}
@@ -55,7 +55,7 @@ use Rattle.synth_text.specs.Attributes.{attributes_of}
 use Rattle.synth_text.specs.Parts.{node_name, opened, memory_part, named_memory, memory_in_brackets, cut_memory, memory_of}
 use Rattle.synth_text.proofs.Bound.{ok_is, bind_ok}
 use Rattle.synth_spelling.specs.Spelling.{Stops, Opens, SpellsMemory}
-use Rattle.synth_spelling.proofs.LevelItems.{CutsAt, cuts_of, given_spelled, given_read}
+use Rattle.synth_spelling.proofs.LevelItems.{given_spelled, given_read}
 
 -- ---- the bytes in front that pass a test
 

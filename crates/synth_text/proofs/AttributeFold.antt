@@ -62,8 +62,11 @@ use Rattle.synth_text.specs.Attributes.{
   unless_flawed,
   attributes_in,
   no_attributes,
+  are_given,
+  has,
+  AreSaidBy,
 }
-use Rattle.synth_text.specs.AttributeSteps.{are_given, has, with_value, with_word, with_next, with_words, with_first}
+use Rattle.synth_text.proofs.AttributeSteps.{with_value, with_word, with_next, with_words, with_first}
 use Rattle.synth_text.proofs.Bound.{some_is}
 
 -- ---- the value of a key, with one more word
@@ -106,11 +109,6 @@ value_new key words word value e new = rw (value_of-one_more key words word, is_
 
 -- ---- the attributes of one more word
 
--- what words say is these attributes, which have the keys that the words have
-record Hold (a : Attributes) (words : List (List ℕ)) : Type 0 where
-  pub said : said_by words ≡ a
-  pub keyed : (key : Key) → is_some (value_of key words) ≡ has a key
-
 given_of : (test : Bool) (loops : Option (List Loop)) (numbers : Option (List ℕ)) (given : Indexes)
     → cond test (option_map indexes.Loops loops) (option_map indexes.List numbers) ≡ Some given → are_given given ≡ true
 given_of true None numbers given e = absurd cc
@@ -122,9 +120,9 @@ indexes_given : (value : List ℕ) (given : Indexes) → indexes_of value ≡ So
 unfolding indexes_of
 indexes_given value given e = given_of _ _ _ given e
 
-size_holds : (a : Attributes) (words : List (List ℕ)) (word value : List ℕ) (size : ℕ) → Hold a words
+size_holds : (a : Attributes) (words : List (List ℕ)) (word value : List ℕ) (size : ℕ) → AreSaidBy a words
     → entry_in word ≡ Some (keys.Size, value) → has a keys.Size ≡ false → size_of value ≡ Some size
-    → Hold (record a { size = Some size }) (words ++ word ∷ [])
+    → AreSaidBy (record a { size = Some size }) (words ++ word ∷ [])
 size_holds a words word value size h e new read =
     let mine = value_new keys.Size words word value e (h.keyed keys.Size ∙ new) in
     let memory = value_old keys.Size keys.Memory words word value e refl in
@@ -144,9 +142,9 @@ size_holds a words word value size h e new read =
     keyed_by mine memory indexes keys.Memory = rw memory (h.keyed keys.Memory)
     keyed_by mine memory indexes keys.Indexes = rw indexes (h.keyed keys.Indexes)
 
-memory_holds : (a : Attributes) (words : List (List ℕ)) (word value : List ℕ) (size : ℕ) → Hold a words
+memory_holds : (a : Attributes) (words : List (List ℕ)) (word value : List ℕ) (size : ℕ) → AreSaidBy a words
     → entry_in word ≡ Some (keys.Memory, value) → has a keys.Memory ≡ false → size_of value ≡ Some size
-    → Hold (record a { memory = Some size }) (words ++ word ∷ [])
+    → AreSaidBy (record a { memory = Some size }) (words ++ word ∷ [])
 memory_holds a words word value size h e new read =
     let mine = value_new keys.Memory words word value e (h.keyed keys.Memory ∙ new) in
     let sizes = value_old keys.Memory keys.Size words word value e refl in
@@ -166,9 +164,9 @@ memory_holds a words word value size h e new read =
     keyed_by mine sizes indexes keys.Memory = rw mine refl
     keyed_by mine sizes indexes keys.Indexes = rw indexes (h.keyed keys.Indexes)
 
-indexes_hold : (a : Attributes) (words : List (List ℕ)) (word value : List ℕ) (given : Indexes) → Hold a words
+indexes_hold : (a : Attributes) (words : List (List ℕ)) (word value : List ℕ) (given : Indexes) → AreSaidBy a words
     → entry_in word ≡ Some (keys.Indexes, value) → has a keys.Indexes ≡ false → indexes_of value ≡ Some given
-    → Hold (record a { indexes = given }) (words ++ word ∷ [])
+    → AreSaidBy (record a { indexes = given }) (words ++ word ∷ [])
 indexes_hold a words word value given h e new read =
     let mine = value_new keys.Indexes words word value e (h.keyed keys.Indexes ∙ new) in
     let sizes = value_old keys.Indexes keys.Size words word value e refl in
@@ -188,6 +186,32 @@ indexes_hold a words word value given h e new read =
     keyed_by mine sizes memory keys.Memory = rw memory (h.keyed keys.Memory)
     keyed_by mine sizes memory keys.Indexes = rw mine (sym (indexes_given value given read))
 
+-- ---- a value that is read, and has no flaw
+
+abbrev Added : Key → List ℕ → List (List ℕ) → List ℕ → Attributes → Type 0
+Added key value words word a = (flaw_in_value key value ≡ None) × AreSaidBy a (words ++ word ∷ [])
+
+pub size_added : (a : Attributes) (words : List (List ℕ)) (word value : List ℕ) (key : Key) (size : ℕ) → key ≡ keys.Size → AreSaidBy a words
+    → entry_in word ≡ Some (key, value) → has a key ≡ false → size_of value ≡ Some size
+    → Added key value words word (record a { size = Some size })
+size_added a words word value keys.Size size is h e new read = (rw read refl, size_holds a words word value size h e new read)
+size_added a words word value keys.Memory size is h e new read = absurd cc
+size_added a words word value keys.Indexes size is h e new read = absurd cc
+
+pub memory_added : (a : Attributes) (words : List (List ℕ)) (word value : List ℕ) (key : Key) (size : ℕ) → key ≡ keys.Memory
+    → AreSaidBy a words → entry_in word ≡ Some (key, value) → has a key ≡ false → size_of value ≡ Some size
+    → Added key value words word (record a { memory = Some size })
+memory_added a words word value keys.Memory size is h e new read = (rw read refl, memory_holds a words word value size h e new read)
+memory_added a words word value keys.Size size is h e new read = absurd cc
+memory_added a words word value keys.Indexes size is h e new read = absurd cc
+
+pub indexes_added : (a : Attributes) (words : List (List ℕ)) (word value : List ℕ) (key : Key) (given : Indexes) → key ≡ keys.Indexes
+    → AreSaidBy a words → entry_in word ≡ Some (key, value) → has a key ≡ false → indexes_of value ≡ Some given
+    → Added key value words word (record a { indexes = given })
+indexes_added a words word value keys.Indexes given is h e new read = (rw read refl, indexes_hold a words word value given h e new read)
+indexes_added a words word value keys.Size given is h e new read = absurd cc
+indexes_added a words word value keys.Memory given is h e new read = absurd cc
+
 -- ---- reading one word
 
 -- A step fails with a flaw where there is one, else it gives attributes of which something holds.
@@ -196,9 +220,9 @@ Steps step None next = (a : Attributes) × (step ≡ Ok a) × next a
 Steps step (Some flaw) next = step ≡ Err flaw
 
 abbrev HoldWith : List (List ℕ) → List ℕ → Attributes → Type 0
-HoldWith words word a = Hold a (words ++ word ∷ [])
+HoldWith words word a = AreSaidBy a (words ++ word ∷ [])
 
-value_steps : (a : Attributes) (words : List (List ℕ)) (word value : List ℕ) (key : Key) → Hold a words → entry_in word ≡ Some (key, value)
+value_steps : (a : Attributes) (words : List (List ℕ)) (word value : List ℕ) (key : Key) → AreSaidBy a words → entry_in word ≡ Some (key, value)
     → has a key ≡ false
     → Steps (with_value a key value) (flaw_in_value key value) (HoldWith words word)
 value_steps a words word value keys.Size h e new = by (size_of value) refl
@@ -223,7 +247,7 @@ value_steps a words word value keys.Indexes h e new = by (indexes_of value) refl
     by (Some given) read = (record a { indexes = given }, refl, indexes_hold a words word value given h e new read)
 
 -- a key that the kind takes and that isn't there yet
-guarded : (taken there : Bool) (a : Attributes) (words : List (List ℕ)) (word value : List ℕ) (key : Key) → Hold a words
+guarded : (taken there : Bool) (a : Attributes) (words : List (List ℕ)) (word value : List ℕ) (key : Key) → AreSaidBy a words
     → entry_in word ≡ Some (key, value) → has a key ≡ there
     → Steps (cond (taken && not there) (with_value a key value) (Err flaws.Attribute))
     (cond (taken && not there) (flaw_in_value key value) (Some flaws.Attribute)) (HoldWith words word)
@@ -231,7 +255,7 @@ guarded true false a words word value key h e new = value_steps a words word val
 guarded true true a words word value key h e new = refl
 guarded false there a words word value key h e new = refl
 
-word_steps : (kind : Kind) (a : Attributes) (words : List (List ℕ)) (word : List ℕ) → Hold a words
+word_steps : (kind : Kind) (a : Attributes) (words : List (List ℕ)) (word : List ℕ) → AreSaidBy a words
     → Steps (with_word kind a word) (flaw_in_word kind words (entry_in word)) (HoldWith words word)
 unfolding with_word entry_in
 word_steps kind a words word h = cuts (cut (λ byte. byte == 61) word) refl
@@ -265,7 +289,7 @@ then_reads kind before word words pieces step None s k =
     rw s.1 (k s.0 s.2 ∙ ap (λ (all : List (List ℕ)). unless_flawed (first_flaw kind (before ++ word ∷ []) words) (said_by all))
     (append_assoc before (word ∷ []) words))
 
-words_read : (kind : Kind) (a : Attributes) (before pieces : List (List ℕ)) → Hold a before
+words_read : (kind : Kind) (a : Attributes) (before pieces : List (List ℕ)) → AreSaidBy a before
     → Reads kind before (words_behind pieces) (with_words kind a pieces)
 unfolding with_next
 words_read kind a before [] h = rw append-nil (ap Ok (sym h.said))
@@ -278,7 +302,7 @@ words_read kind a before (piece ∷ pieces) h =
           (λ b k. words_read kind b (before ++ piece ∷ []) pieces k))
     ]
 
-none_hold : Hold no_attributes []
+pub none_hold : AreSaidBy no_attributes []
 none_hold = record { said = refl; keyed = λ key. none key }
   where
     none : (key : Key) → is_some (value_of key []) ≡ has no_attributes key

@@ -1,7 +1,7 @@
 -- What a reading that succeeded has read on its way.
 use Rattle.std.proofs.Common.{◌≡◌, ℕ, Bool, true, false, cond, Option, Some, None, Result, Ok, Err, refl}
 use Rattle.std.specs.Prelude.{option_map}
-use Rattle.std.specs.Option.{option_and_then}
+use Rattle.std.specs.Option.{option_and_then, ok_or}
 use Rattle.synth_text.specs.declared.fault.Flaw.{Flaw}
 use Rattle.synth_text.specs.Flaws.{◌>>=◌, or_flaw, placed}
 
@@ -26,6 +26,11 @@ bind_ok (Err d) next y e = absurd cc
 pub or_flaw-ok : {A : Type 0} (flaw : Flaw) (o : Option A) (x : A) → or_flaw flaw o ≡ Ok x → o ≡ Some x
 or_flaw-ok flaw None x e = absurd cc
 or_flaw-ok flaw (Some y) x e = cc
+
+-- the value of an option that is there, behind `ok_or`
+pub ok_or-ok : {A E : Type 0} (o : Option A) (e : E) (x : A) → done x ≡ ok_or o e → o ≡ Some x
+ok_or-ok None e x is = absurd cc
+ok_or-ok (Some y) e x is = cc
 
 pub placed-ok : {A : Type 0} (at : ℕ) (r : Result A Flaw) (x : A) → placed at r ≡ Ok x → r ≡ Ok x
 placed-ok at (Ok y) x e = cc

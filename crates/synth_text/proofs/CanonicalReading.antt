@@ -58,7 +58,7 @@ use Rattle.byte_text.specs.Cuts.{cut, first_piece, without_front}
 use Rattle.synth_text.specs.Sizes.{size_of}
 use Rattle.synth_text.specs.IndexTexts.{index_of, loop_of, entries_of, indexes_of}
 use Rattle.synth_text.specs.Attributes.{key_of, takes, no_attributes, enclosed, attributes_of}
-use Rattle.synth_text.specs.AttributeSteps.{with_word, with_next, with_first}
+use Rattle.synth_text.proofs.AttributeSteps.{with_word, with_next, with_first}
 use Rattle.synth_text.specs.Parts.{level_name, head_of, level_part, level_of, memory_in_brackets, memory_of}
 use Rattle.synth_text.specs.Canonical.{loop_text, size_texts, indexes_text, indexes_texts, in_parentheses, level_text, memory_text}
 use Rattle.synth_text.specs.Sound.{IsSoundLoop, AreSoundIndexes, IsSoundLevel, IsSoundMemory}

@@ -1,4 +1,5 @@
 pub mod Entries
+pub mod AttributeSteps
 pub mod AttributeFold
 pub mod AttributeLaws
 pub mod RuleLaws

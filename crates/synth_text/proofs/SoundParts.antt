@@ -62,8 +62,8 @@ use Rattle.byte_text.specs.Cuts.{cut, first_piece, without_front}
 use Rattle.synth_text.specs.Flaws.{◌>>=◌, or_flaw}
 use Rattle.synth_text.specs.Sizes.{small_size, size_of}
 use Rattle.synth_text.specs.IndexTexts.{index_of, loop_of, entries_of, indexes_of}
-use Rattle.synth_text.specs.Attributes.{key_of, takes, no_attributes, is_empty, attributes_in, enclosed, attributes_of}
-use Rattle.synth_text.specs.AttributeSteps.{has, with_value, with_word, with_next, with_words, with_first}
+use Rattle.synth_text.specs.Attributes.{key_of, takes, has, no_attributes, is_empty, attributes_in, enclosed, attributes_of}
+use Rattle.synth_text.proofs.AttributeSteps.{with_value, with_word, with_next, with_words, with_first}
 use Rattle.synth_text.specs.Parts.{
   untyped_kind,
   level_name,

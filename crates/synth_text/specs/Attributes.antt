@@ -1,5 +1,6 @@
 -- Attributes of an item: `key=value` words in parentheses, with white space between them.
 use Rattle.std.specs.Prelude.{
+  ◌≡◌,
   ℕ,
   Bool,
   true,
@@ -34,6 +35,8 @@ use Rattle.synth_text.specs.declared.attributes.Key.{Key}
 use Rattle.synth_text.specs.declared.attributes.Key.TheVariants as keys
 use Rattle.synth_text.specs.declared.fault.Flaw.{Flaw}
 use Rattle.synth_text.specs.declared.fault.Flaw.TheVariants as flaws
+use Rattle.synth_text.specs.declared.fault.Unread.{Unread}
+use Rattle.synth_text.specs.declared.fault.Unread.TheVariants as unread
 use Rattle.synth_text.specs.Kinds.{is_cache}
 use Rattle.byte_text.specs.Classes.{is_white}
 use Rattle.byte_text.specs.Cuts.{cut}
@@ -144,6 +147,31 @@ unless_flawed (Some flaw) attributes = Err flaw
 unfoldable pub attributes_in : Kind → List ℕ → Result Attributes Flaw
 attributes_in kind text =
     unless_flawed (first_flaw kind [] (words_of (slice_split is_white text))) (said_by (words_of (slice_split is_white text)))
+
+-- ---- words, one behind the other
+
+-- whether indexes are given
+abbrev pub are_given : Indexes → Bool
+are_given indexes.Ordered = false
+are_given (indexes.List numbers) = true
+are_given (indexes.Loops loops) = true
+
+-- whether a key is among attributes
+abbrev pub has : Attributes → Key → Bool
+has attributes keys.Size = is_some attributes.size
+has attributes keys.Memory = is_some attributes.memory
+has attributes keys.Indexes = are_given attributes.indexes
+
+-- words give these attributes, which have the words' keys
+pub record AreSaidBy (attributes : Attributes) (words : List (List ℕ)) : Type 0 where
+  pub said : said_by words ≡ attributes
+  pub keyed : (key : Key) → is_some (value_of key words) ≡ has attributes key
+
+-- With one more word the words give the new attributes, unless the word has a flaw or memory was refused.
+abbrev pub Adds : List (List ℕ) → List ℕ → Option Flaw → Result Attributes (Unread Flaw) → Type 0
+Adds before word flaw (Ok attributes) = (flaw ≡ None) × AreSaidBy attributes (before ++ word ∷ [])
+Adds before word flaw (Err (unread.Fault found)) = flaw ≡ Some found
+Adds before word flaw (Err unread.OutOfMemory) = Unit {0}
 
 -- ---- the parentheses
 

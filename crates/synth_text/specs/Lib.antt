@@ -7,7 +7,6 @@ pub mod Flaws
 pub mod Sizes
 pub mod IndexTexts
 pub mod Attributes
-pub mod AttributeSteps
 pub mod Parts
 pub mod Rules
 pub mod Descriptions

@@ -1,9 +1,8 @@
 // Attributes of an item.
-ghost use Rattle.std.specs.Prelude.{◌≡◌, ◌==◌, Result};
-ghost use Rattle.synth_text.specs.declared.fault.Flaw.TheVariants as flaws;
+ghost use Rattle.std.specs.Prelude.{◌≡◌, ◌==◌, ◌&&◌, ℕ, false, true, List, Result};
 ghost use Rattle.synth_text.specs.Flaws.{Gives, seen};
-ghost use Rattle.synth_text.specs.Attributes.{key_of, takes, no_attributes, attributes_in, enclosed, attributes_of};
-ghost use Rattle.synth_text.specs.AttributeSteps.{has, with_value, with_word, with_next};
+ghost use Rattle.synth_text.specs.Attributes.{key_of, takes, has, is_empty, no_attributes, entry_in, flaw_in_value, flaw_in_word};
+ghost use Rattle.synth_text.specs.Attributes.{AreSaidBy, Adds, attributes_in, enclosed, attributes_of};
 ghost use Rattle.byte_text.specs.Views.{text_at};
 
 use crate::description::Indexes;
@@ -76,7 +75,6 @@ fn read_words(alloc: Global, kind: Kind, text: &[u8]) -> Result<Attributes, Unre
 }
 
 // The attributes with a word behind the first. An empty one with more behind it lies in a gap of several white bytes.
-#[tactic(auto, unfolding(crate::specs::AttributeSteps::with_next))]
 fn with_next(
     alloc: Global,
     kind: Kind,
@@ -84,7 +82,9 @@ fn with_next(
     word: &[u8],
     is_more: bool,
 ) -> Result<Attributes, Unread<Flaw>>
-    ensures { Gives result (with_next kind attributes word.now is_more) }
+    ensures gap { (is_empty word.now && is_more) ≡ true → result ≡ Ok attributes }
+    ensures word { (is_empty word.now && is_more) ≡ false → (before : List (List ℕ)) → AreSaidBy attributes before
+        → Adds before word.now (flaw_in_word kind before (entry_in word.now)) result }
 {
     if word.is_empty() && is_more {
         return Ok(attributes);
@@ -92,15 +92,16 @@ fn with_next(
     with_word(alloc, kind, attributes, word)
 }
 
-// The attributes with one more word.
-#[tactic(auto, unfolding(crate::specs::AttributeSteps::with_word))]
+// The attributes with one more word behind others.
+#[tactic(auto, unfolding(crate::specs::Attributes::entry_in))]
 fn with_word(
     alloc: Global,
     kind: Kind,
     attributes: Attributes,
     word: &[u8],
 ) -> Result<Attributes, Unread<Flaw>>
-    ensures { Gives result (with_word kind attributes word.now) }
+    ensures { (before : List (List ℕ)) → AreSaidBy attributes before
+        → Adds before word.now (flaw_in_word kind before (entry_in word.now)) result }
 {
     let (key, value) = cut(word, Class::Byte(b'=')).ok_or(Flaw::Attribute)?;
     let key = read_key(key).ok_or(Flaw::Attribute)?;
@@ -161,20 +162,29 @@ impl Attributes {
         }
     }
 
-    // The attributes with the value of a key.
+    // The attributes with the value of a key, which a word has behind others that lack it.
     fn with_value(
         mut self,
         alloc: Global,
         key: Key,
         value: &[u8],
     ) -> Result<Attributes, Unread<Flaw>>
-        ensures { Gives result (with_value self key value.now) }
+        ensures { (before : List (List ℕ)) → (word : List ℕ) → AreSaidBy self before → entry_in word ≡ Some (key, value.now)
+            → has self key ≡ false → Adds before word (flaw_in_value key value.now) result }
     {
         match key {
-            Key::Size => self.size = Some(read_size(value).ok_or(Flaw::Attribute)?),
-            Key::Memory => self.memory = Some(read_size(value).ok_or(Flaw::Attribute)?),
-            Key::Indexes => self.indexes = read_indexes(alloc, value)?,
+            Key::Size => {
+                self.size = Some(read_size(value).ok_or(Flaw::Attribute)?);
+                Ok(self)
+            }
+            Key::Memory => {
+                self.memory = Some(read_size(value).ok_or(Flaw::Attribute)?);
+                Ok(self)
+            }
+            Key::Indexes => {
+                self.indexes = read_indexes(alloc, value)?;
+                Ok(self)
+            }
         }
-        Ok(self)
     }
 }

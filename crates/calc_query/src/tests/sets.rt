@@ -146,7 +146,8 @@ package:1.core:0=0x0";
 #[test]
 fn usual_machine(rt: HostRuntime) -> Result<(), Fail> {
     let text: &[u8] =
-        b"Package:2 [NUMANode(memory=34359738368)] L3Cache:1(size=33554432) L2Cache:16(size=1048576) L1dCache:1(size=32768) L1iCache:1(size=32768) Core:1 PU:2(indexes=2*32:1*2)";
+        b"Package:2 [NUMANode(memory=34359738368)] L3Cache:1(size=33554432) L2Cache:16(size=1048576) \
+          L1dCache:1(size=32768) L1iCache:1(size=32768) Core:1 PU:2(indexes=2*32:1*2)";
     let table: &[u8] = b"core:0=0x1,0x1
 package:0=0xffff,0xffff
 package:1.core:15.pu:1=0x80000000,0x0

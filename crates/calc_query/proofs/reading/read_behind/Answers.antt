@@ -1,4 +1,4 @@
-use Rattle.std.proofs.Common.{◌-◌, length, Ok, sym, ap, subst, ◌∙◌, arith}
+use Rattle.std.proofs.Common.{◌-◌, length, Ok, sym, ap, subst, ◌∙◌, arith, inl}
 use Rattle.std.proofs.lemmas.Bool.{eqb-true, eqb-false}
 use Rattle.std.proofs.lemmas.Result.{err_from_is_err_and}
 use Rattle.synth_text.specs.Flaws.{◌>>=◌}
@@ -18,8 +18,9 @@ returns-then-is_empty-clause-location c =
     let now = c.args.topology.now in
     let text = c.args.text.now in
     let at = c.args.end - length text in
-    location-other now c.args.word at text (sym c.is_whole.ensures ∙ c.if-is_whole.false)
-    ∙ location-empty now c.args.word at text (eqb-true (length text) 0 (sym c.is_empty.ensures ∙ c.if-is_empty.true))
+    inl
+    (location-other now c.args.word at text (sym c.is_whole.ensures ∙ c.if-is_whole.false)
+    ∙ location-empty now c.args.word at text (eqb-true (length text) 0 (sym c.is_empty.ensures ∙ c.if-is_empty.true)))
 
 pub returns-then-is_ascii_digit-clause-location : goal.returns-then-is_ascii_digit-clause-location
 returns-then-is_ascii_digit-clause-location c =

@@ -1,11 +1,10 @@
-use Rattle.std.proofs.Common.{◌≡◌, ◌+◌, ◌-◌, ◌≤◌, length, sym, ap, subst, ◌∙◌, arith}
+use Rattle.std.proofs.Common.{◌≡◌, ◌+◌, ◌-◌, ◌≤◌, length, sym, ap, subst, ◌∙◌, arith, inl}
 use Rattle.std.specs.List.{AllByRecursion}
 use Rattle.std.proofs.lemmas.Result.{err_from_is_err_and}
 use Rattle.topo_tree.specs.Objects.{IsLayer}
 use Rattle.calc_query.specs.declared.query.Part.{Part}
 use Rattle.calc_query.specs.Readings.{parts_from}
 use Rattle.calc_query.proofs.PartReadings.{pieces_of, pieces_left, length_left, begins, after, stops, next_read, pieces_shorter, all_push}
-use Rattle.calc_query.proofs.LocationReadings.{fails_by}
 use Rattle.calc_query.proofs.reading.read_parts.Goals as goal
 
 pub returns-in_err-part-clause-parts : goal.returns-in_err-part-clause-parts
@@ -21,7 +20,7 @@ returns-in_err-part-clause-parts c =
     let p = err_from_is_err_and c.from_residual.result c.from_residual.ensures.1 in
     let failed = stops now word (c.args.end - length pieces.now) parts pieces.now c.first_part.result.0.now fault c.first_part.result.1
     total c.first_part.ensures (sym c.in_err-part.ensures.part) so_far in
-    rw (p.1, p.2) (fails_by fault total failed)
+    rw (p.1, p.2) (inl failed)
 
 pub loop-rest-preserved : goal.loop-rest-preserved
 loop-rest-preserved c =

@@ -1,8 +1,6 @@
 -- Reading the words of attributes one after the other, which comes to what they say.
-use Rattle.std.specs.Prelude.{ℕ, Bool, true, false, ◌&&◌, not, ◌==◌, List, [], ◌∷◌, Some, Result, Ok, Err, is_some, if◌then◌else◌}
+use Rattle.std.specs.Prelude.{ℕ, Bool, ◌&&◌, not, ◌==◌, List, [], ◌∷◌, Some, Result, Ok, Err, if◌then◌else◌}
 use Rattle.synth_text.specs.declared.kind.Kind.{Kind}
-use Rattle.synth_text.specs.declared.description.Indexes.{Indexes}
-use Rattle.synth_text.specs.declared.description.Indexes.TheVariants as indexes
 use Rattle.synth_text.specs.declared.attributes.Attributes.{Attributes}
 use Rattle.synth_text.specs.declared.attributes.Key.{Key}
 use Rattle.synth_text.specs.declared.attributes.Key.TheVariants as keys
@@ -12,19 +10,7 @@ use Rattle.byte_text.specs.Cuts.{cut}
 use Rattle.synth_text.specs.Flaws.{◌>>=◌, or_flaw}
 use Rattle.synth_text.specs.Sizes.{size_of}
 use Rattle.synth_text.specs.IndexTexts.{indexes_of}
-use Rattle.synth_text.specs.Attributes.{key_of, takes, is_empty, no_attributes}
-
--- whether indexes are given
-abbrev pub are_given : Indexes → Bool
-are_given indexes.Ordered = false
-are_given (indexes.List numbers) = true
-are_given (indexes.Loops loops) = true
-
--- whether a key is among the attributes
-abbrev pub has : Attributes → Key → Bool
-has attributes keys.Size = is_some attributes.size
-has attributes keys.Memory = is_some attributes.memory
-has attributes keys.Indexes = are_given attributes.indexes
+use Rattle.synth_text.specs.Attributes.{key_of, takes, has, is_empty, no_attributes}
 
 -- the attributes with the value of a key
 abbrev pub with_value : Attributes → Key → List ℕ → Result Attributes Flaw
