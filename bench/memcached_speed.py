@@ -2,8 +2,9 @@
 """Times clof run beside memcached, over loopback, on the same bytes (Debian's package memcached 1.6.18).
 
 Run from anywhere, with a built program (./clof):   bench/memcached_speed.py [ROW ..]
-clof is timed as a whole process that prints its text into a file in memory; memcached with one thread, from the first byte that is
-sent on one connection to the last reply. Each row is the median of three. Rows: set, get, incr, lines, keys, growth.
+clof is timed as a whole process whose text goes to /dev/null, and memcached with one thread from the first byte that is sent
+on one connection to the last reply, which the script drops too. Each row is the median of five, taken in turn. Rows: set, get,
+incr (as many commands as fit 16 MiB), lines (16 MiB of `get a`), keys (20,000 keys), growth (1 to 16 MiB).
 """
 import os
 import pathlib
@@ -17,6 +18,7 @@ from memcached_server import ask, server
 PROGRAM = pathlib.Path(__file__).parent.parent / "crates/clof/out/clof"
 LIMIT = 16 * 1024 * 1024
 KEYS = 100_000
+RUNS = 5
 
 
 def key(number):
@@ -51,10 +53,10 @@ def commands_of(row, limit=LIMIT):
 
 def run(text):
     """Seconds and the greatest resident memory, in MB, of the program on one section."""
-    with tempfile.TemporaryDirectory(dir="/dev/shm") as folder:
-        place = pathlib.Path(folder)
-        (place / "in").write_bytes(b"worker * %d\n%s\n" % (len(text), text))
-        with open(place / "in") as source, open(place / "out", "wb") as out:
+    with tempfile.TemporaryDirectory() as folder:
+        place = pathlib.Path(folder) / "in"
+        place.write_bytes(b"worker * %d\n%s\n" % (len(text), text))
+        with open(place) as source, open(os.devnull, "wb") as out:
             began = time.perf_counter()
             child = os.fork()
             if child == 0:
@@ -76,21 +78,17 @@ def answered(text):
         return time.perf_counter() - began
 
 
-def median(measure, text):
-    return statistics.median(measure(text) for _ in range(3))
-
-
 def beside(row):
     commands = commands_of(row)
     text = b"".join(commands)
-    ours = len(commands) / median(lambda text: run(text)[0], text) / 1e6
-    theirs = len(commands) / median(answered, text) / 1e6
+    times = [(run(text)[0], answered(text)) for _ in range(RUNS)]
+    ours, theirs = (len(commands) / statistics.median(side) / 1e6 for side in zip(*times))
     print(f"{row:8} {len(commands):9,} commands  clof {ours:6.2f}  memcached {theirs:6.2f} million a second  {ours / theirs:5.2f} times")
 
 
 def alone(row, commands):
     text = b"".join(commands)
-    times, sizes = zip(*(run(text) for _ in range(3)))
+    times, sizes = zip(*(run(text) for _ in range(RUNS)))
     print(f"{row:8} {len(commands):9,} commands  {statistics.median(times) * 1000:7.1f} ms  {max(sizes):5.0f} MB")
 
 
@@ -99,7 +97,8 @@ def growth():
         per_byte = []
         for size in (1, 2, 4, 8, 16):
             text = b"".join(commands_of(row, size * 1024 * 1024))
-            per_byte.append(median(lambda text: run(text)[0], text) / len(text) * 1e9)
+            seconds = statistics.median(run(text)[0] for _ in range(RUNS))
+            per_byte.append(seconds / len(text) * 1e9)
         print(f"growth   {row:6} 1, 2, 4, 8, 16 MiB  " + "  ".join(f"{ns:5.1f}" for ns in per_byte) + "  ns a byte")
 
 
