@@ -1,3 +1,4 @@
 pub mod Outcome
+pub mod Answered
 pub mod Process
 pub mod Run
