@@ -105,7 +105,8 @@ impl<'a> Journal<'a> {
     /// What the section of a caller holds, by the caller's number: how many commands, and what stands behind them.
     pub fn tally(&self, caller: usize) -> Tally<'a>
         requires { caller < length self.now.sections }
-        ensures commands { option_map (λ section. length (commands_of section)) (slice_get self.now.sections caller) ≡ Some result.commands }
+        ensures commands { option_map (λ section. length (commands_of section)) (slice_get self.now.sections caller)
+            ≡ Some result.commands }
         ensures rest { option_map rest_of (slice_get self.now.sections caller) ≡ Some result.rest.now }
     {
         self.callers[caller].tally
