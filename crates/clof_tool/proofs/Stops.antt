@@ -1,5 +1,5 @@
 -- What was made before the first write.
-use Rattle.std.proofs.Common.{◌≡◌, ℕ, Ok, Err, sym, subst}
+use Rattle.std.proofs.Common.{◌≡◌, ◌⊎◌, ℕ, Ok, Err, sym, ap, subst, inl, inr}
 use Rattle.std.specs.Prelude.{IsOk, IfOk, IfErr, Result}
 use Rattle.command_texts.specs.declared.status.Status.{Status}
 use Rattle.command_texts.specs.declared.status.Status.TheVariants as statuses
@@ -18,3 +18,11 @@ stopped_text (Err status) result written P Q is handed silent first second =
 pub from_text : {T : Type 0} (made : Result T Status) (P : Type 0) → IsOk made → IfOk made (λ _. P) → P
 from_text (Ok text) P is holds = holds
 from_text (Err status) P is holds = cc
+
+module _ {T U : Type 0} where
+  -- where nothing is built though something could be, memory is wanting
+  pub memory_again : (status : Status)
+      → IsOk {T = T} {E = Status} (Err status) ⊎ (◌≡◌ {A = Result T Status} (Err status) (Err statuses.OutOfMemory))
+      → ◌≡◌ {A = Result U Status} (Err status) (Err statuses.OutOfMemory)
+  memory_again status (inl built) = cc
+  memory_again status (inr memory) = let same : status ≡ statuses.OutOfMemory = cc in ap Err same

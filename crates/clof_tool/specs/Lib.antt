@@ -1,3 +1,5 @@
 pub mod Outcome
+pub mod Answered
 pub mod Process
 pub mod Run
+pub mod Laws

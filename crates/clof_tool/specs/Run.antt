@@ -6,6 +6,7 @@ use Rattle.placed_runner.specs.declared.fault.SectionFault.TheVariants as sectio
 use Rattle.placed_runner.specs.Sections.{Placed, Sections, IsRefused}
 use Rattle.placed_runner.specs.Running.{calls_in_order}
 use Rattle.placed_runner.specs.Text.{run_text, one_lock, holds_of}
+use Rattle.placed_runner.specs.Printed.{IsRun}
 use Rattle.command_texts.specs.declared.status.Fault.TheVariants.{Section, Input}
 use Rattle.command_texts.specs.declared.status.Status.{Status}
 use Rattle.command_texts.specs.declared.status.Status.TheVariants as statuses
@@ -27,11 +28,13 @@ section_status (section.Short at) = statuses.Malformed (Section (section.Short a
 section_status section.TooManyCallers = statuses.Limit (Section section.TooManyCallers)
 section_status section.OutOfMemory = statuses.OutOfMemory
 
--- the input is some sections on a topology, and what is printed is the text of these
+-- the input is some sections on a topology, and what is printed is the text of a run of these, in which each caller gives its commands
+-- once and in order; it serves the callers one after another
 pub record PrintsSections (described : Description) (input printed : List ℕ) : Type 0 where
   pub sections : List Placed
   pub are : Sections described input sections
-  pub printed_is : printed ≡ text_in_order sections
+  pub run : IsRun sections printed
+  pub in_order : printed ≡ text_in_order sections
 
 -- the input is refused as sections on a topology
 pub record RefusesSections (described : Description) (input : List ℕ) (status : Status) : Type 0 where

@@ -6,11 +6,12 @@ ghost use Rattle.edge_io.specs.Reading.{HasGiven};
 ghost use Rattle.command_texts.specs.declared.status.Status.{Status as AnyStatus};
 ghost use Rattle.command_texts.specs.declared.status.Fault.TheVariants.{Input as InputOf};
 ghost use Rattle.command_words.specs.Plain.{plain};
-ghost use Rattle.clof_tool.specs.Run.{input_limit, PrintsSections, Refuses, OnDescribed};
-ghost use Rattle.command_texts.specs.TopoText.{TopoRefuses};
-ghost use Rattle.clof_tool.specs.Outcome.{ReadsInput, IsInput, WasRead, WasTooLong, HasRead, IsAnswer, WordsRefused, InputRefused};
 ghost use Rattle.command_texts.specs.Ends.{IsRefusal, HasWritten};
-ghost use Rattle.clof_tool.specs.Outcome.{HasCause, Found};
+ghost use Rattle.command_texts.specs.TopoText.{TopoRefuses};
+ghost use Rattle.command_words.specs.Asked.{Run};
+ghost use Rattle.clof_tool.specs.Run.{input_limit, PrintsSections, Refuses};
+ghost use Rattle.clof_tool.specs.Outcome.{ReadsInput, WasRead, WasTooLong, WordsRefused, Found};
+ghost use Rattle.clof_tool.specs.Answered.{Answered};
 
 use crate::running::run_text;
 use crate::{Fault, Status};
@@ -30,30 +31,10 @@ pub(crate) fn answer<S: Source>(
     asked: Asked<'_>,
     source: &mut S,
 ) -> Result<Vec<u8>, Status>
-    ensures answer { IfOk result (λ text. (input : List ℕ)
-        × HasRead (plain asked.entry) (S.left source.old) (S.given source.old) (S.given source.new) input
-        × IsAnswer (plain asked.entry) input text.items) }
-    ensures at_end { OnOk result (ReadsInput (plain asked.entry) → IsDrained (S.left source.old) (S.left source.new)) }
+    ensures answered { Answered (plain asked.entry) (S.left source.old) (S.left source.new) (S.given source.old) (S.given source.new)
+        (S.faults source.old) (S.faults source.new) result }
     ensures unread { (ReadsInput (plain asked.entry) → ⊥) → source.new ≡ source.old }
-    ensures cause { IfErr result (λ status. IsRefusal status →
-        HasCause (plain asked.entry) (S.left source.old) (S.given source.old) (S.given source.new) status) }
-    ensures silent { IfErr result (λ status. HasWritten status → ⊥) }
-    ensures not_usage { result ≢ Err Status.Usage }
-    ensures read_fault { result ≡ Err Status.ReadFault →
-        ReadsInput (plain asked.entry) × Rose (S.faults source.old) (S.faults source.new) }
-    ensures read_in_part { result ≡ Err Status.ReadFault →
-        HasGiven input_limit (S.left source.old) (S.left source.new) (S.given source.old) (S.given source.new) }
-    ensures read_calm { result ≢ Err Status.ReadFault → S.faults source.new ≡ S.faults source.old }
     ensures words_unread { (status : AnyStatus) → WordsRefused (plain asked.entry) status → source.new ≡ source.old }
-    ensures words_refused { (status : AnyStatus) → WordsRefused (plain asked.entry) status →
-        (result ≡ Err status) ⊎ (result ≡ Err Status.OutOfMemory) }
-    ensures input_refused { (input : List ℕ) (status : AnyStatus) →
-        S.left source.old ≡ Some input → InputRefused (plain asked.entry) input status →
-        (Rose (S.faults source.old) (S.faults source.new) → ⊥) → (result ≡ Err status) ⊎ (result ≡ Err Status.OutOfMemory) }
-    ensures complete { (input text : List ℕ) →
-        IsInput (plain asked.entry) (S.left source.old) input → IsAnswer (plain asked.entry) input text →
-        (ReadsInput (plain asked.entry) → Rose (S.faults source.old) (S.faults source.new) → ⊥) →
-        IsOk result ⊎ (result ≡ Err Status.OutOfMemory) }
 {
     match asked {
         Asked::Run { description } => run_on(alloc, description, source),
@@ -66,27 +47,9 @@ pub(crate) fn answer<S: Source>(
 
 // The text of a run on the topology that a text describes, of all that the source has left.
 fn run_on<S: Source>(alloc: Global, text: &[u8], source: &mut S) -> Result<Vec<u8>, Status>
-    ensures answer { IfOk result (λ printed. (input : List ℕ)
-        × WasRead (S.left source.old) (S.given source.old) (S.given source.new) input
-        × (length input ≤ input_limit) × OnDescribed text.now (λ described. PrintsSections described input printed.items)) }
-    ensures at_end { OnOk result (IsDrained (S.left source.old) (S.left source.new)) }
-    ensures cause { IfErr result (λ status. IsRefusal status → TopoRefuses text.now status
-        ⊎ OnDescribed text.now (Found (S.left source.old) (S.given source.old) (S.given source.new) status)) }
-    ensures silent { IfErr result (λ status. HasWritten status → ⊥) }
-    ensures not_usage { result ≢ Err Status.Usage }
-    ensures read_fault { result ≡ Err Status.ReadFault → Rose (S.faults source.old) (S.faults source.new) }
-    ensures read_in_part { result ≡ Err Status.ReadFault →
-        HasGiven input_limit (S.left source.old) (S.left source.new) (S.given source.old) (S.given source.new) }
-    ensures read_calm { result ≢ Err Status.ReadFault → S.faults source.new ≡ S.faults source.old }
+    ensures answered { Answered (Run text.now) (S.left source.old) (S.left source.new) (S.given source.old) (S.given source.new)
+        (S.faults source.old) (S.faults source.new) result }
     ensures words_unread { (status : AnyStatus) → TopoRefuses text.now status → source.new ≡ source.old }
-    ensures words_refused { (status : AnyStatus) → TopoRefuses text.now status → (result ≡ Err status) ⊎ (result ≡ Err Status.OutOfMemory) }
-    ensures input_refused { (input : List ℕ) (status : AnyStatus) →
-        S.left source.old ≡ Some input → OnDescribed text.now (λ described. Refuses described input status) →
-        (Rose (S.faults source.old) (S.faults source.new) → ⊥) → (result ≡ Err status) ⊎ (result ≡ Err Status.OutOfMemory) }
-    ensures complete { (input printed : List ℕ) →
-        S.left source.old ≡ Some input → length input ≤ input_limit →
-        OnDescribed text.now (λ described. PrintsSections described input printed) →
-        (Rose (S.faults source.old) (S.faults source.new) → ⊥) → IsOk result ⊎ (result ≡ Err Status.OutOfMemory) }
 {
     match topology(alloc, text) {
         Ok(topology) => served(alloc, &topology, source),

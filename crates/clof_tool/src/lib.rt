@@ -2,12 +2,14 @@
 #![tactic(auto)]
 
 mod answer;
+mod laws;
 mod process;
 mod report;
 mod running;
 mod top_call;
 
 pub use command_texts::{Fault, OptionName, Status};
+pub use laws::one_run;
 pub use process::Process;
 pub use top_call::top;
 

@@ -2,6 +2,7 @@
 ghost use Rattle.std.specs.Prelude.{◌≡◌, ◌⊎◌, ◌≤◌, ℕ, List, length, map, IfOk, IfErr, IsOk, sum_by};
 ghost use Rattle.command_texts.specs.declared.status.Status.{Status as AnyStatus};
 ghost use Rattle.placed_runner.specs.Sections.{caller_limit};
+ghost use Rattle.placed_runner.specs.Printed.{IsRun};
 ghost use Rattle.placed_runner.specs.Views.{section_view};
 ghost use Rattle.clof_tool.specs.Run.{input_limit, section_status, text_in_order, PrintsSections, RefusesSections};
 ghost use Rattle.command_texts.specs.Ends.{EndsEarly};
@@ -49,7 +50,8 @@ fn section_status(fault: SectionFault) -> Status
 fn text_in_order(alloc: Global, sections: &[Section<'_>]) -> Result<Vec<u8>, OutOfMemory>
     requires few { length sections.now ≤ caller_limit }
     requires small { sum_by (λ section. length section.bytes.now) sections.now ≤ input_limit }
-    ensures { IfOk result (λ printed. printed.items ≡ text_in_order (map section_view sections.now)) }
+    ensures run { IfOk result (λ printed. IsRun (map section_view sections.now) printed.items) }
+    ensures in_order { IfOk result (λ printed. printed.items ≡ text_in_order (map section_view sections.now)) }
 {
     let bytes = bytes_of(alloc, sections)?;
     let mut journal = Journal::reserve(alloc, &bytes)?;

@@ -10,25 +10,10 @@ use Rattle.std.specs.Prelude.{Ok, Err, Result, OnErr}
 use Rattle.std.specs.declared.alloc.Global.{Global}
 use Rattle.std.specs.declared.option.Option.{Option}
 use Rattle.std.specs.declared.cmp.Ordering.{Ordering}
-use Rattle.std.specs.Map.{lookup, KeepsOthers, IsKeyTest, AreApart}
+use Rattle.std.specs.Map.{lookup, KeepsOthers}
 use Rattle.std.specs.Str.{bytes_eq}
 use Rattle.std.specs.Ordering.{nat_cmp, eq_by_cmp}
-use Rattle.std.specs.FinMap.{
-  FinMap,
-  find,
-  get,
-  insert,
-  remove,
-  empty,
-  from_entries,
-  get-from_entries,
-  get-insert,
-  get-remove,
-  same_map,
-  slice_cmp-IsAntisymmetric,
-  nat_cmp-IsAntisymmetric,
-  IsAntisymmetric,
-}
+use Rattle.std.specs.FinMap.{find, get, insert, remove, from_entries, get-from_entries, get-insert, get-remove, same_map, slice_cmp-IsAntisymmetric, nat_cmp-IsAntisymmetric, IsAntisymmetric}
 use Rattle.kv_history.specs.declared.item.Item.{Item}
 use Rattle.kv_history.specs.Contents as contents
 use Rattle.kv_history.specs.Views.{plain_item, keyed}

@@ -4,3 +4,4 @@ pub mod Logs
 pub mod Turns
 pub mod Places
 pub mod Voids
+pub mod Tallies

@@ -33,9 +33,8 @@ use Rattle.std.proofs.lemmas.List.Sums.{sum_by-cons}
 use Rattle.std.proofs.lemmas.List.Elements.{filter-append, All-nil, All-push, recursion_from_All}
 use Rattle.std.proofs.lemmas.Option.{slice_get_within}
 use Rattle.std.proofs.lemmas.Bool.Decides.{Decides-eqb}
-use Rattle.std.specs.Prelude.{map, filter, not, sum_by, Some, slice_get, ◌==◌}
+use Rattle.std.specs.Prelude.{filter, not, Some, slice_get, ◌==◌}
 use Rattle.std.specs.List.{AllByRecursion}
-use denote.Bor.{Bor}
 use Rattle.mc_text.specs.Request.{WholeCommand}
 use Rattle.mc_text.specs.Reading.{commands_of}
 use Rattle.kv_history.specs.Contents.{Contents, empty_store}
@@ -282,12 +281,3 @@ sound-empty sections = record {
   callers = All-nil (λ (entry : Logged). entry.caller < length sections);
   own_first = λ caller section place. (commands_of section, refl);
 }
-
--- the commands of sections that are lent
-pub command_count-lent : (sections : List (Bor (List ℕ)))
-    → command_count (map (λ section. section.now) sections) ≡ sum_by (λ section. length (commands_of section.now)) sections
-command_count-lent [] = refl
-command_count-lent (section ∷ sections) =
-    sum_by-cons (λ section. length (commands_of section)) section.now (map (λ section. section.now) sections)
-    ∙ ap (λ rest. length (commands_of section.now) + rest) (command_count-lent sections)
-    ∙ sym (sum_by-cons (λ (section : Bor (List ℕ)). length (commands_of section.now)) section sections)

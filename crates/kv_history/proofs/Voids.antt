@@ -48,6 +48,14 @@ pub all_one_thread : (entries : List Logged) (answer : Bool) → answer ≡ list
 all_one_thread entries answer tested before =
     on_true answer _ (λ yes. subst IsOneThread (filter-all (λ entry. not entry.void) entries (sym tested ∙ yes)) before)
 
+-- the same where it is known that none is
+pub whole_one_thread : (entries : List Logged) → IsOneThread (applied entries) → NoneVoid entries → IsOneThread entries
+whole_one_thread entries before none =
+    subst IsOneThread (filter-all (λ entry. not entry.void) entries
+    (list_all-from_AllPass (λ (entry : Logged). not entry.void) entries
+    (All-weaker (λ (entry : Logged). entry.void ≡ false) (λ (entry : Logged). not entry.void ≡ true)
+    (λ entry. is_kept entry.void) entries none))) before
+
 -- the test of the records is that of the entries
 pub tested-kept : (journal : Inside) (answer : Bool) → IsKept journal → answer ≡ list_all (λ one. not one.void) journal.records.items
     → answer ≡ list_all (λ entry. not entry.void) (log_of journal).entries

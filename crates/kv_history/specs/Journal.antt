@@ -1,14 +1,16 @@
 -- What the fields of a journal say.
 use Rattle.std.specs.Prelude.{◌≡◌, ◌<◌, ◌≤◌, ◌^◌, ◌+◌, ℕ, List, [], ◌∷◌, length, map, vec_capacity}
+use Rattle.std.specs.List.{All}
 use Rattle.kv_history.specs.declared.journal.Journal.TheInside.{Inside}
 use Rattle.kv_history.specs.declared.record.Record.{Record}
+use Rattle.kv_history.specs.Callers.{section_of, IsTallied}
 use Rattle.kv_history.specs.Log.{Log, Logged, Turn, IsSound, all_replies, command_count, entries_from, store_now}
 
 abbrev pub turn_of : Record → Turn
 turn_of one = record { caller = one.caller; void = one.void }
 
 abbrev pub sections_of : Inside → List (List ℕ)
-sections_of journal = map (λ section. section.now) journal.sections.items
+sections_of journal = map section_of journal.callers.items
 
 abbrev pub turns_of : Inside → List Turn
 turns_of journal = map turn_of journal.records.items
@@ -31,8 +33,10 @@ ArePlaced start [] (entry ∷ entries) = ⊥
 ArePlaced start (one ∷ records) [] = ⊥
 ArePlaced start (one ∷ records) (entry ∷ entries) = IsPlaced start one entry × ArePlaced one.end records entries
 
--- the records and the buffer are those of the entries, the store is theirs, and there is room for an entry for each command
+-- the callers' sections are tallied, the records and the buffer are those of the entries, the store is theirs, and there is room for an
+-- entry for each command
 pub record IsKept (journal : Inside) : Type 0 where
+  pub tallied : All IsTallied journal.callers.items
   pub sound : IsSound (log_of journal)
   pub placed : ArePlaced 0 journal.records.items (log_of journal).entries
   pub replies : journal.replies.items ≡ all_replies (log_of journal).entries

@@ -4,4 +4,5 @@ pub mod Edits
 pub mod Lines
 pub mod Log
 pub mod Views
+pub mod Callers
 pub mod Journal

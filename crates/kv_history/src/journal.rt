@@ -2,16 +2,18 @@
 ghost use Rattle.std.specs.Prelude.{◌≡◌, ◌^◌, ◌<◌, ◌≤◌, ◌↔◌, ◌++◌, ◌∷◌, [], length, map, option_map, slice_get, slice_range};
 ghost use Rattle.std.specs.Prelude.{sum_by, take, vec_capacity, vec_len, not, IfOk, IsTrue, OnErr, OnOk, Some};
 ghost use Rattle.std.specs.Bool.{OnTrue};
-ghost use Rattle.std.specs.List.{list_all};
+ghost use Rattle.std.specs.List.{All, list_all};
 ghost use Rattle.mc_text.specs.Request.{request_of, view};
-ghost use Rattle.mc_text.specs.Reading.{commands_of};
+ghost use Rattle.mc_text.specs.Reading.{commands_of, rest_of};
 ghost use Rattle.kv_history.specs.Answer.{store_after};
 ghost use Rattle.kv_history.specs.Log.{IsNext, IsOneThread, NoneVoid, VoidIsSilent, EachHasSection, EachOwnFirst, IsHistory};
 ghost use Rattle.kv_history.specs.Log.{all_replies, applied, applied_entry, void_entry, store_now};
+ghost use Rattle.kv_history.specs.Callers.{section_of, IsTallied};
 
 use crate::Store;
+use crate::caller::Caller;
 use crate::record::Record;
-use mc_text::{Command, count};
+use mc_text::{Command, Tally};
 use out_of_memory::OutOfMemory;
 use std::alloc::Global;
 use std::marker::Model;
@@ -38,7 +40,7 @@ pub struct Entry<'a> {
 /// sections and its entries; `calls` are the callers of the entries.
 #[derive(Drop)]
 pub struct Journal<'a> {
-    sections: Vec<&'a [u8]>,
+    callers: Vec<Caller<'a>>,
     records: Vec<Record<'a>>,
     // the replies of all entries, one behind the other
     replies: Vec<u8>,
@@ -65,9 +67,10 @@ impl<'a> Journal<'a> {
         ensures sections { IfOk result (λ journal. journal.sections ≡ map (λ section. section.now) sections.now) }
         ensures entries { IfOk result (λ journal. journal.entries ≡ []) }
     {
-        let room = commands_in(sections) as usize;
+        let callers = callers_of(alloc, sections)?;
+        let room = commands_in(&callers) as usize;
         Ok(Journal {
-            sections: sections.to_vec(alloc)?,
+            callers,
             records: Vec::with_capacity(alloc, room)?,
             replies: Vec::new(alloc),
             store: Store::new(alloc),
@@ -99,11 +102,23 @@ impl<'a> Journal<'a> {
         Ok(Receipt { turn })
     }
 
-    /// The number of entries. Each caller's are the first commands of its section, in its order.
+    /// What the section of a caller holds, by the caller's number: how many commands, and what stands behind them.
+    pub fn tally(&self, caller: usize) -> Tally<'a>
+        requires { caller < length self.now.sections }
+        ensures commands { option_map (λ section. length (commands_of section)) (slice_get self.now.sections caller)
+            ≡ Some result.commands }
+        ensures rest { option_map rest_of (slice_get self.now.sections caller) ≡ Some result.rest.now }
+    {
+        self.callers[caller].tally
+    }
+
+    /// The number of entries. Each caller's are the first commands of its section, in its order; the replies of a journal
+    /// without void entries are those of one thread.
     pub fn entries(&self) -> u32
         ensures count { result ≡ length self.now.entries }
         ensures callers { EachHasSection self.now }
         ensures own_first { EachOwnFirst self.now }
+        ensures one_thread { NoneVoid self.now.entries → IsOneThread self.now.entries }
     {
         self.records.len() as u32
     }
@@ -190,15 +205,31 @@ fn none_void(records: &[Record<'_>]) -> bool
     records.iter().all(|record| !record.void)
 }
 
-// How many commands some sections have.
-#[tactic(auto, using(std::proofs::lemmas::List::Sums::sum_by_more_le))]
-fn commands_in(sections: &[&[u8]]) -> u32
+// The callers with these sections.
+fn callers_of<'a>(alloc: Global, sections: &[&'a [u8]]) -> Result<Vec<Caller<'a>>, OutOfMemory>
     requires { sum_by (λ section. length section.now) sections.now < 2 ^ 32 }
-    ensures { result ≡ sum_by (λ section. length (commands_of section.now)) sections.now }
+    ensures sections { IfOk result (λ callers. map section_of callers.items ≡ map (λ section. section.now) sections.now) }
+    ensures tallied { IfOk result (λ callers. All IsTallied callers.items) }
+{
+    let mut callers = Vec::with_capacity(alloc, sections.len())?;
+    for section in sections {
+        callers.push(Caller {
+            section,
+            tally: Tally::new(section),
+        })?;
+    }
+    Ok(callers)
+}
+
+// How many commands some callers have.
+#[tactic(auto, using(std::proofs::lemmas::List::Sums::sum_by_more_le))]
+fn commands_in(callers: &[Caller<'_>]) -> u32
+    requires { sum_by (λ caller. caller.tally.commands) callers.now < 2 ^ 32 }
+    ensures { result ≡ sum_by (λ caller. caller.tally.commands) callers.now }
 {
     let mut commands = 0;
-    for section in sections {
-        commands += count(section);
+    for caller in callers {
+        commands += caller.tally.commands;
     }
     commands
 }

@@ -1,6 +1,7 @@
 //! A store of items that answers memcached's commands, and the journal of the commands that callers apply to it.
 #![tactic(auto)]
 
+mod caller;
 mod changes;
 mod item;
 mod items;

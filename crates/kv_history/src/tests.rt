@@ -1,5 +1,5 @@
 // Examples from outside the definitions: memcached's answers where they lie in the profile, and the profile's own.
-ghost use Rattle.std.specs.Prelude.{◌≡◌, ◌+◌, ◌<◌, ◌^◌, length, IfOk};
+ghost use Rattle.std.specs.Prelude.{◌≡◌, ◌+◌, ◌<◌, ◌^◌, ◌∷◌, [], length, IfOk};
 ghost use Rattle.mc_text.specs.Reading.{commands_of};
 ghost use Rattle.kv_history.specs.Answer.{replies_of};
 ghost use Rattle.kv_history.specs.Log.{commands, replies};
@@ -14,6 +14,7 @@ use std::thread::join;
 // A journal of one caller that has applied all commands of its section.
 fn applied<'a>(alloc: Global, section: &'a [u8]) -> Result<Journal<'a>, OutOfMemory>
     requires { length section.now < 2 ^ 32 }
+    ensures section { IfOk result (λ journal. journal.sections ≡ section.now ∷ []) }
     ensures commands { IfOk result (λ journal. commands journal.entries ≡ commands_of section.now) }
     ensures replies { IfOk result (λ journal. replies journal.entries ≡ replies_of (commands_of section.now)) }
 {
@@ -210,6 +211,8 @@ fn keeps_a_journal(rt: HostRuntime) -> Result<(), Fail> {
     let journal = applied(rt.alloc(), section)?;
     assert_eq!(rt; journal.entries(), 7);
     assert!(rt; journal.whole());
+    assert_eq!(rt; journal.tally(0).commands, 7);
+    assert_eq!(rt; journal.tally(0).rest, b"get n".as_slice());
     assert_eq!(rt;
         journal.replies(),
         b"STORED\r\n0\r\n0\r\nEXISTS\r\nSTORED\r\nVALUE n 0 1 4\r\n7\r\nEND\r\n".as_slice()

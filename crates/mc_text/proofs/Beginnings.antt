@@ -2,13 +2,13 @@
 use Rattle.std.proofs.Common.{◌≡◌, ℕ, ◌+◌, ◌<◌, ◌≤◌, Bool, true, false, List, ◌∷◌, ◌++◌, length, take, drop, Option, Some, None, option_map, option_and_then, inl, inr, refl, sym, ap, ◌∙◌, subst, arith}
 use Rattle.std.proofs.lemmas.List.{length-append, length-take-le, length-drop, take-append-drop, take_at, drop_at}
 use Rattle.byte_text.specs.Cuts.{IsCutAt}
+use Rattle.byte_text.proofs.CutLaws.{CutsAt, cuts_of}
 use Rattle.mc_text.specs.Request.{Request, WholeCommand}
 use Rattle.mc_text.specs.Line.{Header, Line, Storage, Whole, words_of_line, line_of}
 use Rattle.mc_text.specs.Begins.{Asks, Begins, EndsAtOnce, EndsLater}
 use Rattle.mc_text.specs.Section.{NoCommand}
 use Rattle.mc_text.specs.Reading.{at_line_end, line_end, stored, asked_by, first_command}
 use Rattle.mc_text.proofs.Pairs.{some_pair}
-use Rattle.mc_text.proofs.Cuts.{cut_is}
 use Rattle.mc_text.proofs.Blocks.{IsEnd, end_at_once, end_differs, end_is}
 use Rattle.mc_text.proofs.Steps.{something_asked}
 
@@ -182,7 +182,7 @@ read_cut : (text : List ℕ) (command : WholeCommand) (cut : Option (List ℕ ×
 read_cut text command None cut is = cc
 read_cut text command (Some parts) cut is =
     read_asked text parts.0 parts.1 command (asked_by (line_of (words_of_line parts.0)) parts.1)
-    (cut_is 10 text parts.0 parts.1 cut) refl is
+    (subst (CutsAt 10 text) cut (cuts_of 10 text)) refl is
 
 -- the command that is read begins the text
 pub first_begins : (text : List ℕ) (command : WholeCommand) → first_command text ≡ Some command

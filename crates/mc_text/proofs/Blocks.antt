@@ -7,8 +7,7 @@ use Rattle.std.proofs.lemmas.Slice.Eq.{starts_is}
 use Rattle.byte_text.specs.Cuts.{IsCutAt}
 use Rattle.mc_text.specs.Reading.{at_line_end, line_end}
 use Rattle.mc_text.proofs.Pairs.{some_pair}
-use Rattle.byte_text.proofs.CutLaws.{cut-from_IsCutAt, cut-from_lacks}
-use Rattle.mc_text.proofs.Cuts.{cut_is}
+use Rattle.byte_text.proofs.CutLaws.{CutsAt, cut-from_IsCutAt, cut-from_lacks, cuts_of}
 
 -- a text whose first bytes aren't `\r\n`, and the test for that
 starts_not : (tail : List ℕ) → ¬ (take 2 tail ≡ 13 ∷ 10 ∷ []) → starts_with nat_eq tail (13 ∷ 10 ∷ []) ≡ false
@@ -84,7 +83,7 @@ end_found tail false false (Some parts) ended more short_is starts_with_is parts
       after = parts.1;
       two = ltb-false (length tail) 2 short_is;
       differs = other;
-      cut = cut_is 10 tail parts.0 parts.1 parts_are;
+      cut = subst (CutsAt 10 tail) parts_are (cuts_of 10 tail);
       more_is = sym same.1;
     })
   where

@@ -1,5 +1,4 @@
 mod Pairs
-mod Cuts
 mod Numbers
 mod Blocks
 mod Steps

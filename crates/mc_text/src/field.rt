@@ -20,7 +20,7 @@ ghost use Rattle.mc_text.specs.View.{Answers};
 
 use crate::command::LineFault;
 use crate::keys::Keys;
-use byte_text::{Numeral, Words, number_up_to, read_numeral};
+use byte_text::{Numeral, Words, number_up_to, number32, read_numeral};
 
 // The greatest number of bytes of a key.
 const KEY_LIMIT: usize = 250;
@@ -77,10 +77,7 @@ fn are_keys(mut words: Words<'_>) -> bool
 pub(crate) fn read_number32(word: &[u8]) -> Result<u32, LineFault>
     ensures { Answers (λ number. number) (number32_of word.now) result }
 {
-    match number_up_to(4_294_967_295, word) {
-        Some(number) => Ok(number as u32),
-        None => Err(LineFault::Format),
-    }
+    number32(word).ok_or(LineFault::Format)
 }
 
 /// The unique that a word writes.

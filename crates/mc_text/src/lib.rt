@@ -16,7 +16,7 @@ pub use command::{Command, How, LineFault};
 pub use commands::Commands;
 pub use keys::Keys;
 pub use laws::{at_most_one_command, one_reading};
-pub use section::{count, rest_of};
+pub use section::{Tally, count};
 
 #[cfg(test)]
 mod tests;

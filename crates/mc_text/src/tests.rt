@@ -1,5 +1,5 @@
 // Examples from outside the definitions, by memcached's protocol.txt and this project's profile.
-use crate::{Command, Commands, LineFault, count, rest_of};
+use crate::{Command, Commands, LineFault, Tally, count};
 use std::process::Abort;
 use std::test::Fail;
 
@@ -67,7 +67,9 @@ fn a_torn_block_ends_with_its_next_line(rt: HostRuntime) {
 fn no_command_stands_behind_quit(rt: HostRuntime) {
     let section = b"get a\r\nquit\r\nget b\r\nquit\r\n";
     assert_eq!(rt; count(section), 2);
-    assert!(rt; rest_of(section) == b"get b\r\nquit\r\n".as_slice());
+    let tally = Tally::new(section);
+    assert_eq!(rt; tally.commands, 2);
+    assert!(rt; tally.rest == b"get b\r\nquit\r\n".as_slice());
     let mut commands = Commands::new(section);
     assert!(rt; commands.next().is_some() && commands.next().is_some());
     assert!(rt; commands.next().is_none() && commands.next().is_none());

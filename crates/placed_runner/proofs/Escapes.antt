@@ -1,11 +1,15 @@
 -- Texts between quotes.
 use Rattle.std.proofs.Common.{◌≡◌, ℕ, ◌+◌, ◌<◌, Bool, true, false, ◌&&◌, not, nat_lt, List, [], ◌∷◌, ◌++◌, length, get_or, take, drop, refl, sym, ap, ◌∙◌}
 use Rattle.std.proofs.Common.{append_assoc, add-one, arith}
-use Rattle.std.specs.Prelude.{◌==◌}
+use Rattle.std.specs.Prelude.{◌==◌, ◌-◌, codes, nat_eq}
+use Rattle.std.specs.Cmp.Lexicographic.{pointwise}
 use Rattle.std.proofs.Math.Seq.{drop-cons}
-use Rattle.std.proofs.lemmas.Bool.{and_parts, ltb-true, ne_eqb, eqb-false}
-use Rattle.std.proofs.lemmas.List.{take_more}
-use Rattle.placed_runner.specs.Text.{escaped, escaped_byte}
+use Rattle.std.proofs.lemmas.Bool.{and_parts, ltb-true, ne_eqb}
+use Rattle.std.proofs.lemmas.Bool.Decides.{Decides-eqb}
+use Rattle.std.proofs.lemmas.Grind.{flat_map-append}
+use Rattle.std.proofs.lemmas.List.{take_more, take-append-drop}
+use Rattle.std.proofs.lemmas.Slice.Eq.{slice_eq-Decides}
+use Rattle.placed_runner.specs.Text.{escaped, escaped_byte, quoted}
 
 not_true : (b : Bool) → not b ≡ true → b ≡ false
 not_true true is = cc
@@ -48,3 +52,16 @@ pub other_at : (text : List ℕ) (place byte : ℕ) → place < length text → 
 other_at text place byte within byte_is so_far =
     so_far ∙ ap (λ rest. take place text ++ rest)
     (escaped_from text place within ∙ ap (λ b. escaped_byte b ++ escaped (drop (place + 1) text)) (sym byte_is))
+
+-- a text that ends with a line end
+pub quoted_line : (text line : List ℕ) → pointwise nat_eq (drop (length text - 2) text) (13 ∷ 10 ∷ []) ≡ true → line ≡ take (length text - 2) text
+    → quoted text ≡ codes " \"" ++ (escaped line ++ codes "\\r\\n\"")
+unfolding quoted
+quoted_line text line ends front =
+    let end : drop (length text - 2) text ≡ 13 ∷ 10 ∷ [] = (slice_eq-Decides Decides-eqb (drop (length text - 2) text) (13 ∷ 10 ∷ []) true (sym ends)).0 refl in
+    let parts : text ≡ line ++ 13 ∷ 10 ∷ [] =
+    sym (take-append-drop (length text - 2) text) ∙ ap (λ (back : List ℕ). take (length text - 2) text ++ back) end
+    ∙ ap (λ (part : List ℕ). part ++ 13 ∷ 10 ∷ []) (sym front) in
+    ap (λ (t : List ℕ). codes " \"" ++ (escaped t ++ codes "\"")) parts
+    ∙ ap (λ (t : List ℕ). codes " \"" ++ (t ++ codes "\"")) (flat_map-append escaped_byte line (13 ∷ 10 ∷ []))
+    ∙ ap (λ (t : List ℕ). codes " \"" ++ t) (append_assoc (escaped line) (codes "\\r\\n") (codes "\""))

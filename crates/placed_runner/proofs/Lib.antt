@@ -1,6 +1,8 @@
 pub mod Cuts
 pub mod Escapes
+pub mod Histories
 pub mod Numbered
+pub mod Owns
 pub mod Runs
 pub mod Texts
 pub mod Uniqueness

@@ -1,5 +1,5 @@
 -- The text of a run whose commands a journal has.
-use Rattle.std.proofs.Common.{◌≡◌, ℕ, zero, suc, ◌+◌, ◌-◌, ◌<◌, ◌≤◌, List, [], ◌∷◌, ◌++◌, length, map, get_or, Option, Some, None, refl, sym, ap, ◌∙◌, subst}
+use Rattle.std.proofs.Common.{◌≡◌, ℕ, zero, suc, ◌-◌, ◌<◌, List, [], ◌∷◌, ◌++◌, length, map, get_or, Some, refl, sym, ap, ◌∙◌, subst}
 use Rattle.std.proofs.Common.{append_assoc, inl, inr, arith}
 use Rattle.std.specs.Prelude.{slice_get, option_map, ◌==◌}
 use Rattle.std.specs.List.{filter, count_by}
@@ -14,7 +14,6 @@ use Rattle.keep_local.specs.Turns.{climb_after}
 use Rattle.keep_local.specs.Laws.{turn_after}
 use Rattle.mc_text.specs.Request.{WholeCommand}
 use Rattle.mc_text.specs.Reading.{commands_of}
-use Rattle.kv_history.specs.Answer.{replies_of}
 use Rattle.kv_history.specs.Log.{Log, Logged, IsOneThread, EachHasSection, EachOwnFirst, own, commands, replies}
 use Rattle.placed_runner.specs.Sections.{Placed}
 use Rattle.placed_runner.specs.Entries.{flat_turn, told_entry}

@@ -1,14 +1,12 @@
 -- The walk over the sections of an input.
-use Rattle.std.proofs.Common.{◌≡◌, ◌≢◌, ℕ, ◌+◌, ◌<◌, ◌≤◌, List, [], ◌∷◌, ◌++◌, length, map, Option, Some, None, inl, inr, refl, sym, ap, ◌∙◌, subst, arith}
+use Rattle.std.proofs.Common.{◌≡◌, ℕ, ◌+◌, ◌<◌, ◌≤◌, List, [], ◌∷◌, ◌++◌, length, Some, None, refl, sym, ap, ◌∙◌, subst, arith}
 use Rattle.std.specs.List.{Contains, sum_by}
-use Rattle.std.proofs.lemmas.List.{length-append, append_cancel_left}
+use Rattle.std.proofs.lemmas.List.{length-append}
 use Rattle.std.proofs.lemmas.List.Sums.{sum_by-cons}
 use Rattle.std.proofs.lemmas.List.Elements.{Contains-append_right}
 use Rattle.byte_text.specs.Cuts.{IsCutAt}
 use Rattle.synth_text.specs.declared.description.Description.{Description}
-use Rattle.placed_runner.specs.declared.place.Place.{Place}
 use Rattle.placed_runner.specs.Heads.{Head, head_of}
-use Rattle.placed_runner.specs.Places.{place_of}
 use Rattle.placed_runner.specs.Sections.{Written, HasHead, BeginsWith, ReadsTo}
 use Rattle.placed_runner.proofs.Cuts.{one_cut}
 

@@ -1,5 +1,5 @@
 -- The head of a section: `worker <place> <length>`, with single spaces. The form is this project's own.
-use Rattle.std.specs.Prelude.{ℕ, ◌==◌, ◌^◌, if◌then◌else◌, nat_lt, nat_le, nat_eq, List, length, drop, codes, Option, Some, None}
+use Rattle.std.specs.Prelude.{ℕ, ◌==◌, ◌^◌, if◌then◌else◌, nat_lt, nat_le, nat_eq, List, length, drop, codes, Option, None}
 use Rattle.std.specs.Prelude.{option_map, option_and_then}
 use Rattle.std.specs.List.{starts_with}
 use Rattle.byte_text.specs.Cuts.{cut}

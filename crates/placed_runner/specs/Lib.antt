@@ -4,5 +4,6 @@ pub mod Sections
 pub mod Running
 pub mod Text
 pub mod Entries
+pub mod Printed
 pub mod Views
 pub mod Laws

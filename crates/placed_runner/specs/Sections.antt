@@ -1,5 +1,5 @@
 -- The sections of an input: each is a head on a line of its own, as many bytes as it tells, and a line end.
-use Rattle.std.specs.Prelude.{◌≡◌, ◌⊎◌, ℕ, ◌+◌, ◌-◌, ◌<◌, ◌≤◌, List, [], ◌∷◌, ◌++◌, length, map, Some, None}
+use Rattle.std.specs.Prelude.{◌≡◌, ◌⊎◌, ℕ, ◌-◌, ◌<◌, ◌≤◌, List, [], ◌∷◌, ◌++◌, length, map, Some, None}
 use Rattle.std.specs.List.{enumerate_from}
 use Rattle.byte_text.specs.Cuts.{IsCutAt}
 use Rattle.synth_text.specs.declared.description.Description.{Description}

@@ -1,5 +1,5 @@
 -- The printed text of a run: a line for each turn and then one for each caller. The form is this project's own.
-use Rattle.std.specs.Prelude.{ℕ, ◌+◌, ◌/◌, ◌%◌, ◌==◌, ◌&&◌, nat_lt, if◌then◌else◌, List, [], ◌∷◌, ◌++◌, length, map, codes, decimal}
+use Rattle.std.specs.Prelude.{ℕ, ◌/◌, ◌%◌, ◌==◌, ◌&&◌, nat_lt, if◌then◌else◌, List, [], ◌∷◌, ◌++◌, length, map, codes, decimal}
 use Rattle.std.specs.Prelude.{Option, Some, None, option_map, option_and_then, slice_get, replicate}
 use Rattle.std.specs.List.{flat_map, enumerate_from, count_by}
 use Rattle.std.specs.Option.{option_map_or}
@@ -44,17 +44,20 @@ pub record Told : Type 0 where
 abbrev pub pu_of : List Placed → ℕ → ℕ
 pu_of sections caller = option_map_or (λ section. section.pu) (slice_get sections caller) 0
 
--- the numbers of a turn's line: its own, its caller and where that stands, at which level the caller found the lock, which levels
--- had a waiter, and at which level it left the lock
-abbrev pub turn_numbers : List Placed → ℕ → Turn → List (List ℕ × ℕ)
-turn_numbers sections number turn =
-    (codes "turn ", number) ∷ (codes " caller ", turn.caller) ∷ (codes " pu ", pu_of sections turn.caller)
-    ∷ (codes " climb ", turn.climb) ∷ (codes " tests ", turn.tests) ∷ (codes " left ", turn.left) ∷ []
+-- the first numbers of a turn's line: its own, its caller and where that stands
+abbrev pub place_numbers : List Placed → ℕ → ℕ → List (List ℕ × ℕ)
+place_numbers sections number caller =
+    (codes "turn ", number) ∷ (codes " caller ", caller) ∷ (codes " pu ", pu_of sections caller) ∷ []
+
+-- the others: at which level the caller found the lock, which levels had a waiter, and at which level it left the lock
+abbrev pub level_numbers : Turn → List (List ℕ × ℕ)
+level_numbers turn = (codes " climb ", turn.climb) ∷ (codes " tests ", turn.tests) ∷ (codes " left ", turn.left) ∷ []
 
 -- the line of a turn
 unfoldable pub turn_line : List Placed → ℕ → Told → List ℕ
 turn_line sections number told =
-    labelled (turn_numbers sections number told.turn) ++ (quoted told.command ++ (quoted told.reply ++ codes "\n"))
+    labelled (place_numbers sections number told.turn.caller)
+    ++ (labelled (level_numbers told.turn) ++ (quoted told.command ++ (quoted told.reply ++ codes "\n")))
 
 -- the numbers of a caller's line: its own, where it stands, how many commands it gave, and how many bytes stand behind them
 abbrev pub caller_numbers : ℕ → Placed → List (List ℕ × ℕ)

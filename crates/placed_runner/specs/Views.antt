@@ -1,6 +1,4 @@
 -- What the crate's own types say, without where it lies in memory.
-use Rattle.std.specs.Prelude.{ℕ, List}
-use Rattle.std.specs.Borrow.{Bor}
 use Rattle.placed_runner.specs.declared.heads.Head.{Head}
 use Rattle.placed_runner.specs.declared.sections.Section.{Section}
 use Rattle.placed_runner.specs.declared.sections.Written.{Written}
@@ -17,10 +15,6 @@ written_view section = record { place = section.place; bytes = section.bytes.now
 
 abbrev pub section_view : Section → sections.Placed
 section_view section = record { pu = section.pu; bytes = section.bytes.now }
-
--- a number behind its name
-abbrev pub part_view : Bor (List ℕ) × ℕ → List ℕ × ℕ
-part_view part = (part.0.now, part.1)
 
 -- a turn with its command and its reply
 abbrev pub line_view : Line → Told

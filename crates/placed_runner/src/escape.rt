@@ -5,14 +5,22 @@ ghost use Rattle.placed_runner.specs.Text.{escaped, escaped_byte, quoted};
 use byte_text::hex_digit;
 use std::alloc::AllocError;
 
-/// Appends a text between quotes, behind a space.
+/// Appends a text between quotes, behind a space. Most texts end with `\r\n`.
 #[tactic(auto, unfolding(crate::specs::Text::quoted))]
 pub(crate) fn push_quoted(out: &mut Vec<u8>, text: &[u8]) -> Result<(), AllocError>
     ensures { OnOk result (out.new.items ≡ out.old.items ++ quoted text.now) }
 {
     out.extend_from_slice(b" \"")?;
-    push_escaped(out, text)?;
-    out.extend_from_slice(b"\"")
+    match text.strip_suffix(b"\r\n".as_slice()) {
+        Some(line) => {
+            push_escaped(out, line)?;
+            out.extend_from_slice(b"\\r\\n\"")
+        }
+        None => {
+            push_escaped(out, text)?;
+            out.extend_from_slice(b"\"")
+        }
+    }
 }
 
 // Appends a text as it is printed between quotes.

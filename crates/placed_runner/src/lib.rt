@@ -10,9 +10,10 @@ mod place;
 mod printing;
 mod running;
 mod sections;
+mod size;
 
 pub use fault::SectionFault;
-pub use laws::one_answer;
+pub use laws::{one_answer, one_history};
 pub use printing::text;
 pub use running::run_in_order;
 pub use sections::{Section, read_sections};

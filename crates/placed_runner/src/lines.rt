@@ -1,13 +1,13 @@
 // The lines of a printed run.
-ghost use Rattle.std.specs.Prelude.{◌≡◌, ◌<◌, ◌^◌, ◌++◌, OnOk, length, map};
-ghost use Rattle.placed_runner.specs.Text.{labelled, turn_line, caller_line, pu_of};
-ghost use Rattle.placed_runner.specs.Views.{part_view, section_view, line_view};
+ghost use Rattle.std.specs.Prelude.{◌≡◌, ◌++◌, OnOk, Some, decimal, map, slice_get};
+ghost use Rattle.placed_runner.specs.Text.{labelled, place_numbers, level_numbers, turn_line, caller_line, pu_of};
+ghost use Rattle.placed_runner.specs.Views.{section_view, line_view};
 
 use crate::escape::push_quoted;
 use crate::sections::Section;
 use byte_text::push_decimal;
 use keep_local::Turn;
-use mc_text::{count, rest_of};
+use kv_history::Journal;
 use std::alloc::AllocError;
 
 /// A turn, with its command and its reply.
@@ -28,21 +28,35 @@ pub(crate) fn push_turn(
 ) -> Result<(), AllocError>
     ensures { OnOk result (out.new.items ≡ out.old.items ++ turn_line (map section_view sections.now) number (line_view line.now)) }
 {
-    let turn = line.turn;
-    push_labelled(
-        out,
-        &[
-            (b"turn ", u64::from(number)),
-            (b" caller ", u64::from(turn.caller)),
-            (b" pu ", u64::from(pu_of(sections, turn.caller))),
-            (b" climb ", u64::from(turn.climb)),
-            (b" tests ", u64::from(turn.tests)),
-            (b" left ", u64::from(turn.left)),
-        ],
-    )?;
+    push_place(out, sections, number, line.turn.caller)?;
+    push_levels(out, line.turn)?;
     push_quoted(out, line.command)?;
     push_quoted(out, line.reply)?;
     out.extend_from_slice(b"\n")
+}
+
+// Appends the first numbers of a turn's line: its own, its caller and where that stands.
+fn push_place(
+    out: &mut Vec<u8>,
+    sections: &[Section<'_>],
+    number: u32,
+    caller: u32,
+) -> Result<(), AllocError>
+    ensures { OnOk result (out.new.items
+        ≡ out.old.items ++ labelled (place_numbers (map section_view sections.now) number caller)) }
+{
+    push_labelled(out, b"turn ", u64::from(number))?;
+    push_labelled(out, b" caller ", u64::from(caller))?;
+    push_labelled(out, b" pu ", u64::from(pu_of(sections, caller)))
+}
+
+// Appends the other numbers of a turn's line: how it found and left the lock.
+fn push_levels(out: &mut Vec<u8>, turn: Turn) -> Result<(), AllocError>
+    ensures { OnOk result (out.new.items ≡ out.old.items ++ labelled (level_numbers turn)) }
+{
+    push_labelled(out, b" climb ", u64::from(turn.climb))?;
+    push_labelled(out, b" tests ", u64::from(turn.tests))?;
+    push_labelled(out, b" left ", u64::from(turn.left))
 }
 
 // The PU of a caller.
@@ -61,29 +75,36 @@ pub(crate) fn push_caller(
     out: &mut Vec<u8>,
     caller: usize,
     section: &Section<'_>,
+    journal: &Journal<'_>,
 ) -> Result<(), AllocError>
-    requires { length section.now.bytes.now < 2 ^ 32 }
+    requires { slice_get journal.now.sections caller ≡ Some section.now.bytes.now }
     ensures { OnOk result (out.new.items ≡ out.old.items ++ caller_line caller (section_view section.now)) }
 {
-    push_labelled(
-        out,
-        &[
-            (b"caller ", caller as u64),
-            (b" pu ", u64::from(section.pu)),
-            (b" commands ", u64::from(count(section.bytes))),
-            (b" rest ", rest_of(section.bytes).len() as u64),
-        ],
-    )?;
+    let tally = journal.tally(caller);
+    push_labelled(out, b"caller ", caller as u64)?;
+    push_labelled(out, b" pu ", u64::from(section.pu))?;
+    push_labelled(out, b" commands ", u64::from(tally.commands))?;
+    push_labelled(out, b" rest ", tally.rest.len() as u64)?;
     out.extend_from_slice(b"\n")
 }
 
-// Appends numbers, each behind its name.
-fn push_labelled(out: &mut Vec<u8>, parts: &[(&[u8], u64)]) -> Result<(), AllocError>
-    ensures { OnOk result (out.new.items ≡ out.old.items ++ labelled (map part_view parts.now)) }
+// Appends a number behind its name.
+#[inline(always)]
+fn push_labelled(out: &mut Vec<u8>, label: &[u8], number: u64) -> Result<(), AllocError>
+    ensures { OnOk result (out.new.items ≡ out.old.items ++ (label.now ++ decimal number)) }
 {
-    for (label, number) in parts {
-        out.extend_from_slice(label)?;
-        push_decimal(out, *number)?;
+    out.extend_from_slice(label)?;
+    push_number(out, number)
+}
+
+// Appends the digits of a number. Most numbers of a line have one digit, which is appended at once.
+#[tactic(auto, using(std::proofs::lemmas::Fmt::decimal_digit))]
+fn push_number(out: &mut Vec<u8>, number: u64) -> Result<(), AllocError>
+    ensures { OnOk result (out.new.items ≡ out.old.items ++ decimal number) }
+{
+    if number < 10 {
+        out.extend_from_slice(&[b'0' + number as u8])
+    } else {
+        push_decimal(out, number)
     }
-    Ok(())
 }

@@ -55,7 +55,8 @@ pub(crate) fn read_place(
 // The PU of a location that is just one.
 fn located_pu(topology: &Topology, location: Location) -> Option<u32>
     requires { HasLayers topology.now location }
-    ensures { result ≡ lone_pu topology.now (selected topology.now numberings.Logical (record { op = ops.Join; location = location } ∷ [])) }
+    ensures { result ≡ lone_pu topology.now
+        (selected topology.now numberings.Logical (record { op = ops.Join; location = location } ∷ [])) }
 {
     let terms = [Term {
         op: Op::Join,

@@ -1,37 +1,41 @@
 // The printed text of a run.
-ghost use Rattle.std.specs.Prelude.{◌≡◌, ◌<◌, ◌^◌, ◌++◌, IfOk, OnOk, length, map, sum_by, slice_get, Some};
-ghost use Rattle.kv_history.specs.Log.{NoneVoid};
+ghost use Rattle.std.specs.Prelude.{◌≡◌, ◌<◌, ◌++◌, IfOk, OnOk, length, map, slice_get, Some};
+ghost use Rattle.kv_history.specs.Log.{EachHasSection, IsOneThread, NoneVoid};
 ghost use Rattle.placed_runner.specs.Text.{run_text, turn_line, one_lock, holds_of};
 ghost use Rattle.placed_runner.specs.Entries.{told_entry};
 ghost use Rattle.placed_runner.specs.Views.{section_view};
 
 use crate::lines::{Line, push_caller, push_turn};
 use crate::sections::Section;
+use crate::size::text_size;
 use keep_local::Turn;
 use kv_history::Journal;
 use out_of_memory::OutOfMemory;
 use std::alloc::{AllocError, Global};
 
-/// The text of a run of these sections, whose commands the journal has: a line for each entry and then one for each caller.
-/// There is one lock without levels, so each turn climbs to level 0 and leaves there, and has no tests.
+/// The text of a run of these sections, whose commands the journal has: a line for each entry and then one for each caller,
+/// in a buffer of its size. There is one lock without levels, so each turn climbs to level 0 and leaves there, and has no
+/// tests.
 pub fn text(
     alloc: Global,
     sections: &[Section<'_>],
     journal: &Journal<'_>,
 ) -> Result<Vec<u8>, OutOfMemory>
-    requires small { sum_by (λ section. length section.bytes.now) sections.now < 2 ^ 32 }
     requires same { journal.now.sections ≡ map (λ section. section.bytes.now) sections.now }
     requires whole { NoneVoid journal.now.entries }
-    ensures { IfOk result (λ text. text.items ≡ run_text (map section_view sections.now) (one_lock (length sections.now))
+    ensures text { IfOk result (λ text. text.items ≡ run_text (map section_view sections.now) (one_lock (length sections.now))
         (holds_of (map (λ entry. entry.caller) journal.now.entries))) }
+
+    // What is printed is a history of one thread.
+    ensures callers { OnOk result (EachHasSection journal.now) }
+    ensures one_thread { OnOk result (IsOneThread journal.now.entries) }
 {
-    let _whole = journal.whole();
-    let mut out = Vec::new(alloc);
+    let mut out = Vec::with_capacity(alloc, text_size(sections, journal))?;
     for number in 0..journal.entries() {
         push_entry(&mut out, sections, journal, number)?;
     }
     for (caller, section) in sections.iter().enumerate() {
-        push_caller(&mut out, caller, section)?;
+        push_caller(&mut out, caller, section, journal)?;
     }
     Ok(out)
 }

@@ -142,5 +142,6 @@ fn prints_a_run(rt: HostRuntime) -> Result<(), Fail> {
           caller 0 pu 3 commands 2 rest 7\n\
           caller 1 pu 0 commands 1 rest 2\n";
     assert_eq!(rt; text.as_slice(), want.as_slice());
+    assert_eq!(rt; text.capacity(), text.len());
     Ok(())
 }

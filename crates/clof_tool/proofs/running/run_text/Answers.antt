@@ -1,14 +1,11 @@
-use Rattle.std.proofs.Common.{Err, map, refl, inl, inr, ap, ◌∙◌}
+use Rattle.std.proofs.Common.{Err, map, inl, inr, ap, ◌∙◌}
 use Rattle.placed_runner.specs.Views.{section_view}
-use Rattle.clof_tool.specs.Run.{text_in_order}
-use Rattle.clof_tool.proofs.SectionRuns.{status_only, printed_not, printed_memory}
+use Rattle.clof_tool.proofs.SectionRuns.{status_only, sections_not, printed_memory}
 use Rattle.clof_tool.proofs.running.run_text.Goals as goal
 
 pub returns-in-Ok-text_in_order-clause-refused : goal.returns-in-Ok-text_in_order-clause-refused
 returns-in-Ok-text_in_order-clause-refused c status refuses =
-    let sections = map section_view c.in-Ok.sections.items in
-    absurd (printed_not c.args.topology.now c.args.input.now (text_in_order sections) status
-    (record { sections = sections; are = c.in-Ok.ensures.sections; printed_is = refl }) refuses)
+    absurd (sections_not c.args.topology.now c.args.input.now (map section_view c.in-Ok.sections.items) status c.in-Ok.ensures.sections refuses)
 
 pub returns-clause-refused : goal.returns-clause-refused
 returns-clause-refused c status refuses =

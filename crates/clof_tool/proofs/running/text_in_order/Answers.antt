@@ -1,14 +1,16 @@
-use Rattle.std.proofs.Common.{◌≡◌, ℕ, List, [], ◌∷◌, length, map, refl, sym, ap, ◌∙◌, arith}
+use Rattle.std.proofs.Common.{◌≡◌, ℕ, List, [], ◌∷◌, length, map, Ok, Err, refl, sym, ap, ◌∙◌, arith}
 use Rattle.std.specs.List.{sum_by}
+use Rattle.std.specs.Prelude.{Result, IfOk, OnOk}
 use Rattle.std.proofs.lemmas.List.Sums.{sum_by-cons}
 use Rattle.placed_runner.specs.declared.sections.Section.{Section}
 use Rattle.std.specs.Borrow.{Bor}
 use Rattle.std.proofs.lemmas.List.{length-map}
 use Rattle.std.proofs.lemmas.Result.{IfOk-weaker}
-use Rattle.kv_history.specs.Log.{Logged}
+use Rattle.kv_history.specs.Log.{Log, Logged}
 use Rattle.placed_runner.specs.Running.{Call, calls}
 use Rattle.placed_runner.specs.Text.{run_text, one_lock, holds_of}
 use Rattle.placed_runner.specs.Views.{section_view}
+use Rattle.placed_runner.proofs.Owns.{bytes_of}
 use Rattle.clof_tool.proofs.running.text_in_order.Goals as goal
 
 -- the callers of entries are those of their calls
@@ -57,14 +59,44 @@ text-requires-clause-same c =
     c.run_in_order.ensures.sections
     ∙ c.in_ok-journal.ensures.sections ∙ ap (map (λ (one : Bor (List ℕ)). one.now)) c.deref.ensures.value ∙ c.in_ok-bytes.ensures
 
-pub returns : goal.returns
-returns c =
+-- the printed text, by as many callers as there are sections
+same_text : (sections : List Section) (entries : List Logged) (printed : List ℕ)
+    → printed ≡ run_text (map section_view sections) (one_lock (length sections)) (holds_of (map (λ entry. entry.caller) entries))
+    → printed
+    ≡ run_text (map section_view sections) (one_lock (length (map section_view sections))) (holds_of (map (λ entry. entry.caller) entries))
+same_text sections entries printed is =
+    is ∙ ap (λ (n : ℕ). run_text (map section_view sections) (one_lock n) (holds_of (map (λ (entry : Logged). entry.caller) entries)))
+    (sym (length-map sections section_view))
+
+-- what follows of a value, where facts hold beside it
+with_facts : {T E : Type 0} (made : Result T E) (P Q : Type 0) (R S : T → Type 0) → OnOk made P → OnOk made Q
+    → (P → Q → (value : T) → R value → S value) → IfOk made R → IfOk made S
+with_facts (Ok value) P Q R S p q follows r = follows p q value r
+with_facts (Err error) P Q R S p q follows r = tt
+
+pub returns-clause-run : goal.returns-clause-run
+returns-clause-run c =
+    let sections = c.args.sections.now in
+    let log : Log = c.run_in_order.new.journal in
+    let lent = ap (map (λ (one : Bor (List ℕ)). one.now)) c.deref.ensures.value in
+    let same = c.run_in_order.ensures.sections ∙ c.in_ok-journal.ensures.sections ∙ lent ∙ c.in_ok-bytes.ensures in
+    with_facts c.text.result _ _ _ _ c.text.ensures.callers c.text.ensures.one_thread
+    (λ callers one_thread printed is. record {
+      log = log;
+      sections_are = same ∙ bytes_of sections;
+      callers = callers;
+      each_own = c.if-run_in_order.ensures.own;
+      one_thread = one_thread;
+      printed_is = same_text sections log.entries printed.items is;
+    })
+    c.text.ensures.text
+
+pub returns-clause-in_order : goal.returns-clause-in_order
+returns-clause-in_order c =
     let sections = map section_view c.args.sections.now in
     let entries = c.run_in_order.new.journal.entries in
     let callers = callers_of entries ∙ ap (map (λ (call : Call). call.caller)) c.if-run_in_order.ensures.called in
     IfOk-weaker c.text.result _ _
-    (λ printed is. is
-    ∙ ap (λ (n : ℕ). run_text sections (one_lock n) (holds_of (map (λ (entry : Logged). entry.caller) entries)))
-    (sym (length-map c.args.sections.now section_view))
+    (λ printed is. same_text c.args.sections.now entries printed.items is
     ∙ ap (λ (cs : List ℕ). run_text sections (one_lock (length sections)) (holds_of cs)) callers)
-    c.text.ensures
+    c.text.ensures.text

@@ -9,7 +9,7 @@ use Rattle.clof_tool.proofs.top_call.top.Goals as goal
 pub returns-clause-words_refused : goal.returns-clause-words_refused
 returns-clause-words_refused g c asked status says refused =
     let same : asked ≡ plain c.in-Ok.asked = c.in-Ok.ensures.only asked says in
-    elim (c.answer.ensures.words_refused status (subst (λ (a : Asked). WordsRefused a status) same refused)) [
+    elim (c.answer.ensures.answered.words_refused status (subst (λ (a : Asked). WordsRefused a status) same refused)) [
       | inl is ↦ inl (subst (λ m. IfErr m (λ s. c.print-status.result ≡ s)) is c.print-status.ensures.refused)
       | inr is ↦ inr (subst (λ m. IfErr m (λ s. c.print-status.result ≡ s)) is c.print-status.ensures.refused)
     ]
@@ -17,7 +17,7 @@ returns-clause-words_refused g c asked status says refused =
 pub returns-clause-cut_short : goal.returns-clause-cut_short
 returns-clause-cut_short g c asked written says is =
     let found = stopped_text c.answer.result c.print-status.result written _ _ is c.print-status.ensures.refused
-    c.answer.ensures.silent (c.print-status.ensures.cut_short written is) c.answer.ensures.answer in
+    c.answer.ensures.answered.silent (c.print-status.ensures.cut_short written is) c.answer.ensures.answered.answer in
     let same : plain c.in-Ok.asked ≡ asked = sym (c.in-Ok.ensures.only asked says) in
     let source = g.S.Source in
     let read = subst (λ (a : Asked). (input : List ℕ)

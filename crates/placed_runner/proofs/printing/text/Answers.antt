@@ -1,15 +1,27 @@
-use Rattle.std.proofs.Common.{◌≡◌, ◌++◌, [], ◌∷◌, Bool, true, false, List, ℕ, map, get_or, take, length, refl, sym, ap, ◌∙◌, append_assoc, arith}
-use Rattle.std.specs.Bool.{OnTrue}
-use Rattle.kv_history.specs.Log.{IsOneThread}
-use Rattle.placed_runner.specs.Sections.{Placed}
+use Rattle.std.proofs.Common.{◌≡◌, ◌++◌, [], Some, ◌<◌, List, ℕ, map, get_or, take, length, refl, sym, ap, ◌∙◌, append_assoc, arith}
+use Rattle.std.specs.Prelude.{option_map, slice_get}
 use Rattle.placed_runner.proofs.Texts.{IsPrinted, text_is}
-use Rattle.std.proofs.lemmas.Option.{slice_get_within, get_or_from_slice_get}
+use Rattle.std.proofs.lemmas.Option.{slice_get_within, slice_get-map, slice_get-get_or, get_or_from_slice_get}
 use Rattle.placed_runner.specs.declared.sections.Section.{Section}
 use Rattle.placed_runner.specs.Text.{turn_line, turn_lines, caller_line, caller_lines}
 use Rattle.placed_runner.specs.Entries.{told_entry}
 use Rattle.placed_runner.specs.Views.{section_view}
 use Rattle.placed_runner.proofs.Numbered.{joined_more, take_all}
+use Rattle.placed_runner.proofs.Owns.{bytes_of}
 use Rattle.placed_runner.proofs.printing.text.Goals as goal
+
+-- the section of the caller at a place
+section_at : (sections : List Section) (all : List (List ℕ)) (place : ℕ) (none : Section) → all ≡ map (λ section. section.bytes.now) sections
+    → place < length sections → slice_get all place ≡ Some (get_or sections place none).bytes.now
+section_at sections all place none same within =
+    ap (λ (xs : List (List ℕ)). slice_get xs place) same
+    ∙ slice_get-map (λ (s : Section). s.bytes.now) sections place
+    ∙ ap (option_map (λ (s : Section). s.bytes.now)) (slice_get-get_or sections place none within)
+
+pub push_caller-requires : goal.push_caller-requires
+push_caller-requires c =
+    let none : Section = record { pu = 0; bytes = record { ref_ptr = (0, 0); now = [] } } in
+    section_at c.args.sections.now c.args.journal.now.sections c.loop-caller.caller none c.requires.same (omega arith)
 
 pub loop-number-preserved : goal.loop-number-preserved
 loop-number-preserved c =
@@ -38,21 +50,11 @@ loop-caller-preserved c =
     ∙ append_assoc turns callers line
     ∙ ap (λ end. turns ++ end) (sym (joined_more section_view (λ at. caller_line at.0 at.1) sections caller section none (omega arith) refl))
 
--- the bytes of sections
-bytes_of : (sections : List Section) → map (λ section. section.bytes.now) sections ≡ map (λ (p : Placed). p.bytes) (map section_view sections)
-bytes_of [] = refl
-bytes_of (section ∷ sections) = ap (λ rest. section.bytes.now ∷ rest) (bytes_of sections)
-
-on_true : (b : Bool) (P : Type 0) → OnTrue b P → b ≡ true → P
-on_true true P holds is = holds
-on_true false P holds is = cc
-
-pub returns : goal.returns
-returns c =
+pub returns-clause-text : goal.returns-clause-text
+returns-clause-text c =
     let sections = c.args.sections.now in
     let log = c.args.journal.now in
     let turns = turn_lines (map section_view sections) (map told_entry log.entries) in
-    let whole = c.whole-whole.ensures in
     let printed : IsPrinted (map section_view sections) log =
     record {
       same = c.requires.same ∙ bytes_of sections;
@@ -62,4 +64,4 @@ returns c =
     c.loop-caller.invariant
     ∙ ap (λ ss. turns ++ caller_lines (map section_view ss)) (take_all sections c.loop-caller.caller (omega arith))
     ∙ sym (text_is (map section_view sections) (length sections) log printed
-    (on_true c.whole-whole.result (IsOneThread log.entries) whole.one_thread (whole.none_void.1 c.requires.whole)))
+    (c.entries-number-end.ensures.one_thread c.requires.whole))

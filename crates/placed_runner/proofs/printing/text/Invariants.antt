@@ -1,5 +1,4 @@
 use Rattle.std.proofs.Common.{◌≡◌, ◌++◌, length, map, take}
-use Rattle.std.specs.List.{flat_map, enumerate_from}
 use Rattle.placed_runner.specs.Text.{turn_lines, caller_lines}
 use Rattle.placed_runner.specs.Entries.{told_entry}
 use Rattle.placed_runner.specs.Views.{section_view}

@@ -1,10 +1,11 @@
-use Rattle.std.proofs.Common.{◌≡◌, ◌++◌, [], List, get_or, refl, sym, subst, ap, ◌∙◌, ◌<◌, ◌+◌, arith}
+use Rattle.std.proofs.Common.{◌≡◌, ◌++◌, [], List, map, get_or, refl, sym, subst, ap, ◌∙◌, ◌<◌, ◌+◌, arith}
 use Rattle.std.specs.List.{AllByRecursion}
 use Rattle.mc_text.specs.Reading.{commands_of}
 use Rattle.placed_runner.specs.declared.sections.Section.{Section}
-use Rattle.placed_runner.specs.Running.{Call, calls, calls_of}
+use Rattle.placed_runner.specs.Running.{Call, calls, calls_of, calls_in_order}
 use Rattle.placed_runner.specs.Views.{section_view}
-use Rattle.placed_runner.proofs.Numbered.{joined_more}
+use Rattle.placed_runner.proofs.Numbered.{joined_more, take_all}
+use Rattle.placed_runner.proofs.Owns.{bytes_of, own_in_order}
 use Rattle.placed_runner.proofs.Runs.{lower_more}
 use Rattle.placed_runner.proofs.running.run_in_order.Goals as goal
 
@@ -25,3 +26,11 @@ loop-caller-preserved c =
       lower = subst (λ (all : List Call). AllByRecursion (λ call. call.caller < caller + 1) all) (sym called)
           (lower_more caller before (commands_of bytes) c.loop-caller.invariant.lower);
     }
+
+pub returns-clause-own : goal.returns-clause-own
+returns-clause-own c =
+    let sections = c.args.sections.now in
+    own_in_order (map section_view sections) c.loop-caller.journal
+    (c.loop-caller.invariant.same ∙ c.requires.sections ∙ bytes_of sections)
+    (c.loop-caller.invariant.called
+    ∙ ap (λ ss. calls_in_order (map section_view ss)) (take_all sections c.loop-caller.caller (omega arith)))

@@ -3,7 +3,7 @@ use Rattle.std.specs.Prelude.{Result, OnOk}
 use Rattle.std.specs.Result.{is_err}
 use Rattle.mc_text.specs.Request.{view}
 use Rattle.mc_text.specs.Commands.{commands_left}
-use Rattle.placed_runner.proofs.Runs.{HasDone, none_done, next_is_next, done_more, all_called, all_whole}
+use Rattle.placed_runner.proofs.Runs.{HasDone, none_done, next_is_next, done_more}
 use Rattle.placed_runner.proofs.running.run_section.Goals as goal
 
 -- what holds of an answer that isn't refused

@@ -1,12 +1,12 @@
-use Rattle.std.proofs.Common.{◌≡◌, List, Bool, true, false, ◌+◌, ◌∙◌, ◌++◌, ◌∷◌, [], length, refl, ap, sym, subst, arith, append-nil, length-append}
+use Rattle.std.proofs.Common.{◌≡◌, List, true, false, ◌+◌, ◌∙◌, ◌++◌, ◌∷◌, [], length, refl, ap, sym, subst, arith, append-nil, length-append}
 use Rattle.std.proofs.lemmas.Grind.{flat_map-append}
 use Rattle.std.proofs.lemmas.List.{map-append}
 use Rattle.std.specs.Prelude.{map}
 use Rattle.mc_text.specs.Request.{view}
 use Rattle.kv_history.specs.declared.record.Record.{Record}
 use Rattle.kv_history.specs.Answer.{reply_of, store_after}
-use Rattle.kv_history.specs.Log.{Logged, IsNext, IsSound, Log, Turn, all_replies, applied_entry, entries_from, void_entry, store_now}
-use Rattle.kv_history.specs.Journal.{ArePlaced, IsPlaced, log_of, sections_of, turn_of, turns_of}
+use Rattle.kv_history.specs.Log.{Logged, IsNext, IsSound, Turn, all_replies, applied_entry, entries_from, void_entry, store_now}
+use Rattle.kv_history.specs.Journal.{ArePlaced, log_of, sections_of, turn_of, turns_of}
 use Rattle.kv_history.proofs.Keyed.{on_err}
 use Rattle.kv_history.proofs.Logs.{entries-below, sound-applied, sound-void, store_now-applied, store_now-void}
 use Rattle.kv_history.proofs.Places.{length-kept, placed-push}
@@ -61,6 +61,7 @@ invariant_of-self c =
     (record { spelling = c.spelling.result; end = c.len.result; caller = c.args.caller; void = c.is_err.result }) entry
     c.self.invariant.placed (record { caller = refl; void = void; spelling = c.spelling.ensures; end = end }) in
     record {
+      tallied = c.self.invariant.tallied;
       sound = subst (λ (entries : List Logged). IsSound (record { sections = log.sections; entries = entries })) (sym entries_are)
           (sound-void log c.args.caller command next c.self.invariant.sound);
       placed = subst (λ (records : List Record). ArePlaced 0 records (entries_from log.sections [] (map turn_of c.put.new.records.items)))
@@ -115,6 +116,7 @@ invariant_of-self-2 c =
     (record { spelling = c.spelling.result; end = c.len.result; caller = c.args.caller; void = c.is_err.result }) entry
     c.self.invariant.placed (record { caller = refl; void = void; spelling = c.spelling.ensures; end = end }) in
     record {
+      tallied = c.self.invariant.tallied;
       sound = subst (λ (entries : List Logged). IsSound (record { sections = log.sections; entries = entries })) (sym entries_are)
           (sound-applied log c.args.caller command next c.self.invariant.sound);
       placed = subst (λ (records : List Record). ArePlaced 0 records (entries_from log.sections [] (map turn_of c.put.new.records.items)))

@@ -1,4 +1,4 @@
-use Rattle.std.proofs.Common.{◌≡◌, ◌+◌, ◌<◌, ◌∙◌, suc, ap, length, take, arith}
+use Rattle.std.proofs.Common.{◌≡◌, ◌<◌, ◌∙◌, suc, ap, length, take, arith}
 use Rattle.kv_history.specs.Log.{all_replies}
 use Rattle.kv_history.specs.Journal.{log_of}
 use Rattle.kv_history.proofs.Places.{length-kept, record_at}

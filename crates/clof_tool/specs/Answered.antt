@@ -1,0 +1,31 @@
+-- How what is asked for is answered: by a text, or by a status where there is none. `left`, `given` and `faults` are what the source tells
+-- before, and `left_now`, `given_now` and `faults_now` what it tells after.
+use Rattle.std.specs.Prelude.{◌≡◌, ◌≢◌, ◌⊎◌, ℕ, List, Option, Some, Result, Err, IfOk, IfErr, OnOk, IsOk}
+use Rattle.std.specs.declared.vec.Vec.{Vec}
+use Rattle.std.specs.declared.alloc.Global.{Global}
+use Rattle.edge_io.specs.Counts.{Rose}
+use Rattle.edge_io.specs.Contents.{IsDrained}
+use Rattle.edge_io.specs.Reading.{HasGiven}
+use Rattle.command_texts.specs.declared.status.Status.{Status}
+use Rattle.command_texts.specs.declared.status.Status.TheVariants as statuses
+use Rattle.command_texts.specs.Ends.{IsRefusal, HasWritten}
+use Rattle.command_words.specs.Asked.{Asked}
+use Rattle.clof_tool.specs.Run.{input_limit}
+use Rattle.clof_tool.specs.Outcome.{ReadsInput, IsInput, HasRead, IsAnswer, WordsRefused, InputRefused, HasCause}
+
+pub record Answered (asked : Asked) (left left_now : Option (List ℕ)) (given given_now faults faults_now : ℕ)
+    (result : Result (Vec ℕ Global) Status)
+    : Type 0 where
+  pub answer : IfOk result (λ text. (input : List ℕ) × HasRead asked left given given_now input × IsAnswer asked input text.items)
+  pub at_end : OnOk result (ReadsInput asked → IsDrained left left_now)
+  pub cause : IfErr result (λ status. IsRefusal status → HasCause asked left given given_now status)
+  pub silent : IfErr result (λ status. HasWritten status → ⊥)
+  pub not_usage : result ≢ Err statuses.Usage
+  pub read_fault : result ≡ Err statuses.ReadFault → ReadsInput asked × Rose faults faults_now
+  pub read_in_part : result ≡ Err statuses.ReadFault → HasGiven input_limit left left_now given given_now
+  pub read_calm : result ≢ Err statuses.ReadFault → faults_now ≡ faults
+  pub words_refused : (status : Status) → WordsRefused asked status → (result ≡ Err status) ⊎ (result ≡ Err statuses.OutOfMemory)
+  pub input_refused : (input : List ℕ) (status : Status) → left ≡ Some input → InputRefused asked input status
+      → (Rose faults faults_now → ⊥) → (result ≡ Err status) ⊎ (result ≡ Err statuses.OutOfMemory)
+  pub complete : (input text : List ℕ) → IsInput asked left input → IsAnswer asked input text
+      → (ReadsInput asked → Rose faults faults_now → ⊥) → IsOk result ⊎ (result ≡ Err statuses.OutOfMemory)

@@ -1,0 +1,97 @@
+// How many bytes the printed text of a run has, so that its buffer is made once, of that size. These numbers are hints: they are
+// exact where each caller has given all its commands, and where one were too small, the buffer would grow.
+ghost use Rattle.std.specs.Prelude.{◌≡◌, ◌<◌, length, map};
+
+use crate::sections::Section;
+use kv_history::Journal;
+
+// The bytes of a turn's line beside its number, its caller's and its PU's digits and its texts: its six names, a digit for each
+// of the three levels, a space and quotes for each text, and its end.
+const TURN_BYTES: usize = 47;
+
+// Those of a caller's line: its four names and its end.
+const CALLER_BYTES: usize = 28;
+
+/// How many bytes the text of a run of these sections has.
+pub(crate) fn text_size(sections: &[Section<'_>], journal: &Journal<'_>) -> usize
+    requires { journal.now.sections ≡ map (λ section. section.bytes.now) sections.now }
+{
+    let mut size = counting_size(journal.entries()).wrapping_add(escaped_size(journal.replies()));
+    for (caller, section) in sections.iter().enumerate() {
+        size = size.wrapping_add(caller_size(caller, section, journal));
+    }
+    size
+}
+
+// How many digits the numbers below a count have, one behind the other: one each, and one more from each power of ten on.
+fn counting_size(count: u32) -> usize {
+    let count = count as usize;
+    let mut size = count;
+    for power in POWERS {
+        size = size.wrapping_add(count.saturating_sub(power));
+    }
+    size
+}
+
+const POWERS: [usize; 9] = [
+    10,
+    100,
+    1_000,
+    10_000,
+    100_000,
+    1_000_000,
+    10_000_000,
+    100_000_000,
+    1_000_000_000,
+];
+
+// How many bytes the line of a caller has, and those of its turns, but for their numbers and replies.
+fn caller_size(caller: usize, section: &Section<'_>, journal: &Journal<'_>) -> usize
+    requires { caller < length journal.now.sections }
+{
+    let tally = journal.tally(caller);
+    let place = digits(caller as u64).wrapping_add(digits(u64::from(section.pu)));
+    let turns = (tally.commands as usize).wrapping_mul(TURN_BYTES.wrapping_add(place));
+    let spelled = section.bytes.len().saturating_sub(tally.rest.len());
+    CALLER_BYTES
+        .wrapping_add(place)
+        .wrapping_add(digits(u64::from(tally.commands)))
+        .wrapping_add(digits(tally.rest.len() as u64))
+        .wrapping_add(turns)
+        .wrapping_add(escaped_size(&section.bytes[..spelled]))
+}
+
+// How many digits a number has.
+fn digits(number: u64) -> usize {
+    match number.checked_ilog10() {
+        Some(power) => power as usize + 1,
+        None => 1,
+    }
+}
+
+// How many bytes a text has between quotes.
+fn escaped_size(text: &[u8]) -> usize {
+    let mut size: usize = 0;
+    for piece in text.chunks(PIECE) {
+        size = size.wrapping_add(piece_size(piece) as usize);
+    }
+    size
+}
+
+// So few bytes at a time that 32 bits have their sizes' sum.
+const PIECE: usize = 1 << 20;
+
+// How many bytes a piece of a text has between quotes: four for each byte without a sign of its own, but two for a line end's, and
+// two for a sign with a backslash.
+fn piece_size(piece: &[u8]) -> u32 {
+    let mut size: u32 = 0;
+    for byte in piece {
+        let hidden = u32::from(byte.wrapping_sub(b' ') > b'~' - b' ');
+        let line_end = u32::from(*byte == b'\r') + u32::from(*byte == b'\n');
+        let sign = u32::from(*byte == b'"') + u32::from(*byte == b'\\');
+        size = size
+            .wrapping_add(1 + 3 * hidden + sign)
+            .wrapping_sub(2 * line_end);
+    }
+    size
+}
