@@ -16,8 +16,6 @@ use std::sync::Wait;
 
 #[cfg(test)]
 mod tests;
-#[cfg(test)]
-mod threads;
 
 /// A level of MCS is lacking above what K lacks.
 pub struct AboveMcs<K> {
