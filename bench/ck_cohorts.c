@@ -1,0 +1,72 @@
+/*
+ * Holds of the cohort lock of Concurrency Kit (Debian's libck-dev), a ticket lock a cohort under a ticket lock: each thread takes it as often as asked
+ * and adds one to a number. Threads fall into cohorts of the same size, in order. It prints the number of cohorts, of threads, and the number at the
+ * end. With 0 cohorts the lock is one ticket lock.
+ *
+ *   cc -O2 -pthread -o ck_cohorts ck_cohorts.c && ./ck_cohorts 2 4 1000000 10
+ */
+#include <ck_cohort.h>
+#include <ck_spinlock.h>
+#include <pthread.h>
+#include <stdint.h>
+#include <stdio.h>
+#include <stdlib.h>
+
+#define LINE 128
+#define MOST 64
+
+static void take(ck_spinlock_ticket_t *lock, void *unused) { (void)unused; ck_spinlock_ticket_lock(lock); }
+static void leave(ck_spinlock_ticket_t *lock, void *unused) { (void)unused; ck_spinlock_ticket_unlock(lock); }
+static bool taken(ck_spinlock_ticket_t *lock, void *unused) { (void)unused; return ck_spinlock_ticket_locked(lock); }
+
+CK_COHORT_PROTOTYPE(tickets, take, leave, taken, take, leave, taken)
+
+static struct { ck_spinlock_ticket_t lock; } __attribute__((aligned(LINE))) global = { CK_SPINLOCK_TICKET_INITIALIZER }, local[MOST];
+static struct { CK_COHORT_INSTANCE(tickets) cohort; } __attribute__((aligned(LINE))) cohort[MOST];
+static struct { volatile uint64_t value; } __attribute__((aligned(LINE))) number;
+
+static uint64_t holds;
+
+static void *by_cohort(void *argument)
+{
+    CK_COHORT_INSTANCE(tickets) *own = argument;
+    for (uint64_t i = 0; i < holds; i++) {
+        CK_COHORT_LOCK(tickets, own, NULL, NULL);
+        number.value++;
+        CK_COHORT_UNLOCK(tickets, own, NULL, NULL);
+    }
+    return NULL;
+}
+
+static void *by_ticket(void *unused)
+{
+    (void)unused;
+    for (uint64_t i = 0; i < holds; i++) {
+        ck_spinlock_ticket_lock(&global.lock);
+        number.value++;
+        ck_spinlock_ticket_unlock(&global.lock);
+    }
+    return NULL;
+}
+
+int main(int argc, char **argv)
+{
+    pthread_t thread[MOST];
+    int cohorts = argc == 5 ? atoi(argv[1]) : -1, threads = argc == 5 ? atoi(argv[2]) : 0;
+    if (cohorts < 0 || cohorts > MOST || threads < 1 || threads > MOST || (cohorts > 0 && threads % cohorts != 0)) {
+        fprintf(stderr, "usage: ck_cohorts COHORTS THREADS HOLDS KEEP\n");
+        return 2;
+    }
+    holds = strtoull(argv[3], NULL, 10);
+    for (int c = 0; c < cohorts; c++) {
+        ck_spinlock_ticket_init(&local[c].lock);
+        CK_COHORT_INIT(tickets, &cohort[c].cohort, &global.lock, &local[c].lock, atoi(argv[4]));
+    }
+    for (int t = 0; t < threads; t++) {
+        if (cohorts == 0) pthread_create(&thread[t], NULL, by_ticket, NULL);
+        else pthread_create(&thread[t], NULL, by_cohort, &cohort[t / (threads / cohorts)].cohort);
+    }
+    for (int t = 0; t < threads; t++) pthread_join(thread[t], NULL);
+    printf("%d %d %llu\n", cohorts, threads, (unsigned long long)number.value);
+    return 0;
+}
