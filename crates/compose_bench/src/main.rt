@@ -1,4 +1,5 @@
-//! Holds of a composed lock of one, two or five levels of Ticket by one caller. It prints counts alone; a script under bench/ takes the time.
+//! Holds of a composed lock of one, two or five levels of Ticket by one caller. It prints counts alone; a script under bench/ takes the
+//! time.
 //!
 //! The words are the number of levels, and how often the lock is held.
 #![tactic(auto)]
