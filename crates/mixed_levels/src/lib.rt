@@ -35,14 +35,16 @@ impl<K: Lacking> Lacking for AboveMcs<K> {
         shares: Vec<Share>,
     ) -> Option<Root<Roll>> {
         let below = level - 1;
-        let (lock, passes) = add_level::<Roll, C, Mcs<Owned<C>>>(
+        let Ok((lock, passes)) = add_level::<Roll, C, Mcs<Owned<C>>>(
             alloc,
             (),
             below,
             shape,
             lock,
             passes,
-        ).ok()?;
+        ) else {
+            return None;
+        };
         K::walk_below(rt, alloc, shape, below, lock, passes, shares)
     }
 }
@@ -65,14 +67,16 @@ impl<K: Lacking> Lacking for AboveClh<K> {
         shares: Vec<Share>,
     ) -> Option<Root<Roll>> {
         let below = level - 1;
-        let (lock, passes) = add_level::<Roll, C, Clh<Owned<C>>>(
+        let Ok((lock, passes)) = add_level::<Roll, C, Clh<Owned<C>>>(
             alloc,
             (),
             below,
             shape,
             lock,
             passes,
-        ).ok()?;
+        ) else {
+            return None;
+        };
         K::walk_below(rt, alloc, shape, below, lock, passes, shares)
     }
 }
@@ -95,14 +99,16 @@ impl<K: Lacking> Lacking for AboveHemlock<K> {
         shares: Vec<Share>,
     ) -> Option<Root<Roll>> {
         let below = level - 1;
-        let (lock, passes) = add_level::<Roll, C, Hemlock<Owned<C>>>(
+        let Ok((lock, passes)) = add_level::<Roll, C, Hemlock<Owned<C>>>(
             alloc,
             (),
             below,
             shape,
             lock,
             passes,
-        ).ok()?;
+        ) else {
+            return None;
+        };
         K::walk_below(rt, alloc, shape, below, lock, passes, shares)
     }
 }
