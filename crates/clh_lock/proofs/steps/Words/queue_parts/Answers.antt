@@ -9,7 +9,8 @@ returns-clause-table g c = c.into_parts.ensures.table ∙ own_table _ _ _ _ (vie
 
 pub returns-clause-own : goal.returns-clause-own
 returns-clause-own g c =
-    mark_is _ _ _ (view_of c.args.queue.badge) c.requires.of _ c.into_parts.ensures.mark ∙ sym (ap (λ m. m.0.node) c.into_parts.ensures.view)
+    mark_is _ _ _ (view_of c.args.queue.badge) c.requires.of _ c.into_parts.ensures.mark
+    ∙ sym (ap (λ m. m.0.node) c.into_parts.ensures.view)
 
 pub returns-clause-watched : goal.returns-clause-watched
 returns-clause-watched g c = c.into_parts.ensures.predecessor ∙ sym (ap (λ m. m.0.predecessor) c.into_parts.ensures.view)
