@@ -18,7 +18,6 @@ use crate::payload::Payload;
 use crate::turns::open_turn;
 use keep_local::Share;
 use lock_rules::{Cargo, Held as Holds, Step};
-use std::mem;
 
 /// The value of a node whose high lock is H, in its holder's hand.
 pub(crate) type InHand<P, H> = Holds<Own<P, <H as Composed<P>>::Pass, <H as Composed<P>>::Held>>;
@@ -57,7 +56,7 @@ pub(crate) fn take_high<P: Payload, H: Composed<P>>(
         open_turn(kept_root(&mut low.value.high), share, level);
         return Step::Got(low);
     }
-    let High::Idle(pass) = mem::replace(&mut low.value.high, High::Away) else {
+    let High::Idle(pass) = low.value.high.replace(High::Away) else {
         unreachable!()
     };
     match high.begin(pass, share) {
@@ -75,6 +74,6 @@ pub(crate) fn keep_high<P, Pass: Drop, Held: Drop>(
     ensures value { result.value ≡ record low.value { kept = 0; high = Kept high } }
 {
     low.value.kept = 0;
-    low.value.high = High::Kept(high);
+    *low.value.high.get_mut() = High::Kept(high);
     low
 }

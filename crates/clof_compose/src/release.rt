@@ -19,7 +19,6 @@ use crate::payload::Payload;
 use crate::token::{Resting, Standing};
 use crate::turns::{close_turn, note_waiter};
 use lock_rules::{Held as Holds, Step};
-use std::mem;
 
 /// Keeps the answer of `waiter` in the value and notes it for the open turn. Where it is a yes and the value has kept the high lock for
 /// fewer turns than the
@@ -90,7 +89,7 @@ pub(crate) fn release_high<P: Payload, H: Composed<P>>(
     ensures idle { IfGot result (λ w. IsIdleAgain H.Pass.rest (kept_stand H.Held.stand low.value.high).context low.value w.0.value w.1) }
     ensures tests { IfGot result (λ w. SameBelow (H.level high.now) (tests_in (kept_stand H.Held.stand low.value.high).root) w.1) }
 {
-    let High::Kept(held) = mem::replace(&mut low.value.high, High::Away) else {
+    let High::Kept(held) = low.value.high.replace(High::Away) else {
         unreachable!()
     };
     match high.begin_release(held) {
@@ -147,6 +146,6 @@ pub(crate) fn put_back<P, Pass: Resting, Held: Drop>(
     ensures tests { result.1 ≡ (Pass.rest pass).tests }
 {
     let tests = pass.tests();
-    low.value.high = High::Idle(pass);
+    *low.value.high.get_mut() = High::Idle(pass);
     (low, tests)
 }

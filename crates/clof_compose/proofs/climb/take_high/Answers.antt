@@ -52,7 +52,7 @@ returns-then-parked-clause-opened g c =
 
 pub returns-in-Got-clause-holds : goal.returns-in-Got-clause-holds
 returns-in-Got-clause-holds g c =
-    let same = ap (context_in g.H.Pass.Resting.rest g.H.Held.Standing.stand) c.in-Idle.ensures.value in
+    let same = ap (context_in g.H.Pass.Resting.rest g.H.Held.Standing.stand) c.in-Idle.ensures.taken in
     let anew = holding_anew g.P.Payload.calls g.P.Payload.tag _ _ _ _ _ _ _ (g.H.Held.Standing.stand c.in-Got.held) _ c.requires.above
     (c.in-Got.ensures.held ∙ same) c.requires.context.level_is c.requires.tagged c.in-Got.ensures.stands c.in-Got.ensures.opened in
     subst (λ v. IsHolding c.args.level v.node v.kept (held_view c.args.low).tag.tag (IsStanding g.H.Held.Standing.stands v.high)
