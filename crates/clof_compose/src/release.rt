@@ -8,7 +8,7 @@ ghost use Rattle.clof_compose.specs.Contexts.{own_tag};
 ghost use Rattle.clof_compose.specs.Nodes.{IsContextOfNode};
 ghost use Rattle.clof_compose.specs.Owns.{IsOwnFit, bit_of, is_kept, own_tag_of};
 ghost use Rattle.clof_compose.specs.Releases.{IsReleasing};
-ghost use Rattle.clof_compose.specs.declared.own.High.TheVariants.{Idle, Away};
+ghost use Rattle.clof_compose.specs.declared.own.High.TheVariants.{Idle, Kept, Away};
 ghost use Rattle.keep_local.specs.Turns.{run};
 
 use crate::climb::InHand;
@@ -18,7 +18,8 @@ use crate::own_cargo::kept_root;
 use crate::payload::Payload;
 use crate::token::{Resting, Standing};
 use crate::turns::{close_turn, note_waiter};
-use lock_rules::{Held as Holds, Step};
+use lock_rules::Step;
+use std::sync::Wait;
 
 /// Keeps the answer of `waiter` in the value and notes it for the open turn. Where it is a yes and the value has kept the high lock for
 /// fewer turns than the
@@ -89,13 +90,25 @@ pub(crate) fn release_high<P: Payload, H: Composed<P>>(
     ensures idle { IfGot result (λ w. IsIdleAgain H.Pass.rest (kept_stand H.Held.stand low.value.high).context low.value w.0.value w.1) }
     ensures tests { IfGot result (λ w. SameBelow (H.level high.now) (tests_in (kept_stand H.Held.stand low.value.high).root) w.1) }
 {
-    let High::Kept(held) = low.value.high.replace(High::Away) else {
+    match high.begin_release(take_kept(&mut low.value)) {
+        Step::Not(leave) => Step::Not((low, leave)),
+        Step::Got(pass) => {
+            let tests = put_back(&mut low.value, pass);
+            Step::Got((low, tests))
+        }
+    }
+}
+
+// Takes the token of the kept high lock out of the value.
+fn take_kept<P: Payload, Pass: Resting, Held: Standing<P>>(own: &mut Own<P, Pass, Held>) -> Held
+    requires { IsStanding Held.stands own.old.high }
+    ensures held { own.old.high ≡ Kept result }
+    ensures away { own.new ≡ record own.old { high = Away } }
+{
+    let High::Kept(held) = own.high.replace(High::Away) else {
         unreachable!()
     };
-    match high.begin_release(held) {
-        Step::Not(leave) => Step::Not((low, leave)),
-        Step::Got(pass) => Step::Got(put_back(low, pass)),
-    }
+    held
 }
 
 /// Keeps the high lock of a node for the next one, or releases it, by the answer of `waiter`. The value may then be put back, and the
@@ -136,16 +149,46 @@ pub(crate) fn let_go<P: Payload, H: Composed<P>>(
     release_high(high, low)
 }
 
-/// Puts the pass of a released high lock back into the value. The answer has its tests.
+/// Keeps the high lock of a node for the next one, or releases it, as `let_go` does, and waits for the release. The answer is the tests
+/// of the closed turn.
+pub(crate) fn let_go_and_wait<P: Payload, H: Composed<P>, R: Wait>(
+    high: &H,
+    rt: &R,
+    own: &mut Own<P, H::Pass, H::Held>,
+    level: u32,
+    keep: u32,
+    yes: bool,
+) -> u32
+    requires sound { H.sound high.now }
+    requires above { H.level high.now ≡ level + 1 }
+    requires context { IsContextOfNode (H.has high.now) level (H.tag high.now) own.old.node (kept_stand H.Held.stand own.old.high).context }
+    requires stands { IsStanding H.Held.stands own.old.high }
+    requires kept { IfSome (kept_stand H.Held.stand own.old.high).root (λ r. own.old.kept ≡ run level r.trail.closed) }
+    requires root { IsSomeAnd (kept_stand H.Held.stand own.old.high).root (IsReleasing P.calls P.tag (H.tag high.now) level keep
+        own.old.node) }
+    ensures fit { IsOwnFit H.Pass.rest H.Held.stand P.calls P.tag H.Held.stands own.new.node own.new.kept own.new.said own.new.high }
+    ensures tagged { own_tag_of H.Pass.rest H.Held.stand own.new.node own.new.high ≡ own_tag own.old.node
+        (kept_stand H.Held.stand own.old.high).context }
+    ensures answered { own.new.said ≡ yes }
+    ensures parked { is_kept H.Pass.rest H.Held.stand own.new.high ≡ true → yes ≡ true }
+    ensures tests { SameBelow level (tests_in (kept_stand H.Held.stand own.old.high).root) result }
+{
+    if let Some(tests) = keep_for_next(own, level, keep, yes) {
+        return tests;
+    }
+    let pass = high.release(rt, take_kept(own));
+    put_back(own, pass)
+}
+
+/// Puts the pass of a released high lock back into the value. The answer is its tests.
 pub(crate) fn put_back<P, Pass: Resting, Held: Drop>(
-    mut low: Holds<Own<P, Pass, Held>>,
+    own: &mut Own<P, Pass, Held>,
     pass: Pass,
-) -> (Holds<Own<P, Pass, Held>>, u32)
-    ensures seat { result.0.seat ≡ low.seat }
-    ensures value { result.0.value ≡ record low.value { high = Idle pass } }
-    ensures tests { result.1 ≡ (Pass.rest pass).tests }
+) -> u32
+    ensures value { own.new ≡ record own.old { high = Idle pass } }
+    ensures tests { result ≡ (Pass.rest pass).tests }
 {
     let tests = pass.tests();
-    *low.value.high.get_mut() = High::Idle(pass);
-    (low, tests)
+    *own.high.get_mut() = High::Idle(pass);
+    tests
 }
