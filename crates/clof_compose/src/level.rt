@@ -93,7 +93,11 @@ impl<
                 }),
                 Step::Got(held) => {
                     keep_high(&mut low.value, held);
-                    Step::Got(LevelHeld { low, id })
+                    Step::Got(LevelHeld {
+                        low,
+                        id,
+                        filler: 0,
+                    })
                 }
             },
         }
@@ -103,7 +107,7 @@ impl<
         &self,
         held: LevelHeld<P, H::Pass, H::Held>,
     ) -> Step<LevelLeave<P, B::Leave, H::Pass, H::Held, H::Leave>, LevelPass<B::Pass>> {
-        let LevelHeld { mut low, id } = held;
+        let LevelHeld { mut low, id, .. } = held;
         let lock = lock_of(&self.nodes, id.node);
         let yes = lock.waiter(&mut low);
         match let_go(&self.high, low, id.level, self.keep, yes) {
@@ -160,11 +164,15 @@ impl<
         let id = pass.id;
         let mut low = lock_of(&self.nodes, id.node).acquire(rt, pass.low);
         wait_for_high(&self.high, rt, &mut low.value, id.level, share);
-        LevelHeld { low, id }
+        LevelHeld {
+            low,
+            id,
+            filler: 0,
+        }
     }
 
     fn release<R: Wait>(&self, rt: &R, held: LevelHeld<P, H::Pass, H::Held>) -> LevelPass<B::Pass> {
-        let LevelHeld { mut low, id } = held;
+        let LevelHeld { mut low, id, .. } = held;
         let lock = lock_of(&self.nodes, id.node);
         let yes = lock.waiter(&mut low);
         let tests = let_go_and_wait(&self.high, rt, &mut low.value, id.level, self.keep, yes);

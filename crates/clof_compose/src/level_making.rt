@@ -177,6 +177,7 @@ fn make_node<
         node: number,
         kept: 0,
         said: false,
+        filler: [0; 7],
         high,
         payload: PhantomData,
     };

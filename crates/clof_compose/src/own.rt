@@ -18,6 +18,8 @@ pub struct Own<P, Pass, Held> {
     pub node: u32,
     pub kept: u32,
     pub said: bool,
+    // The bytes up to the next word, so that none only pads.
+    pub(crate) filler: [u8; 7],
     pub high: Boxed<High<Pass, Held>>,
     pub payload: PhantomData<P>,
 }

@@ -52,7 +52,11 @@ impl<P: Payload, B: Basic<Root<P>, Held = Held<Root<P>>>> Composed<P> for Top<B,
             Step::Not(low) => Step::Not(TopQueue { low, level }),
             Step::Got(mut low) => {
                 open_turn(&mut low.value, share, level);
-                Step::Got(TopHeld { low, level })
+                Step::Got(TopHeld {
+                    low,
+                    level,
+                    filler: 0,
+                })
             }
         }
     }
@@ -67,7 +71,11 @@ impl<P: Payload, B: Basic<Root<P>, Held = Held<Root<P>>>> Composed<P> for Top<B,
             Step::Not(low) => Step::Not(TopQueue { low, level }),
             Step::Got(mut low) => {
                 open_turn(&mut low.value, share, level);
-                Step::Got(TopHeld { low, level })
+                Step::Got(TopHeld {
+                    low,
+                    level,
+                    filler: 0,
+                })
             }
         }
     }
@@ -97,7 +105,11 @@ impl<P: Payload, B: Basic<Root<P>, Held = Held<Root<P>>>> Composed<P> for Top<B,
         let level = self.level;
         let mut low = self.low.acquire(rt, pass.low);
         open_turn(&mut low.value, share, level);
-        TopHeld { low, level }
+        TopHeld {
+            low,
+            level,
+            filler: 0,
+        }
     }
 
     fn release<R: Wait>(&self, rt: &R, held: TopHeld<P>) -> TopPass<B::Pass> {
