@@ -109,8 +109,8 @@ impl<
     ) -> Step<LevelLeave<P, B::Leave, H::Pass, H::Held, H::Leave>, LevelPass<B::Pass>> {
         let LevelHeld { mut low, id, .. } = held;
         let lock = lock_of(&self.nodes, id.node);
-        let yes = lock.waiter(&mut low);
-        match let_go(&self.high, low, id.level, self.keep, yes) {
+        low.value.said = lock.waiter(&mut low);
+        match let_go(&self.high, low, id.level, self.keep) {
             Step::Not((low, leave)) => Step::Not(LevelLeave {
                 stage: LeaveStage::High(low, leave),
                 id,
@@ -174,8 +174,8 @@ impl<
     fn release<R: Wait>(&self, rt: &R, held: LevelHeld<P, H::Pass, H::Held>) -> LevelPass<B::Pass> {
         let LevelHeld { mut low, id, .. } = held;
         let lock = lock_of(&self.nodes, id.node);
-        let yes = lock.waiter(&mut low);
-        let tests = let_go_and_wait(&self.high, rt, &mut low.value, id.level, self.keep, yes);
+        low.value.said = lock.waiter(&mut low);
+        let tests = let_go_and_wait(&self.high, rt, &mut low.value, id.level, self.keep);
         let low = lock.release(rt, low);
         LevelPass { low, id, tests }
     }
