@@ -93,11 +93,7 @@ impl<
                 }),
                 Step::Got(held) => {
                     keep_high(&mut low.value, held);
-                    Step::Got(LevelHeld {
-                        low,
-                        id,
-                        filler: 0,
-                    })
+                    Step::Got(LevelHeld { low, id, filler: 0 })
                 }
             },
         }
@@ -164,11 +160,7 @@ impl<
         let id = pass.id;
         let mut low = lock_of(&self.nodes, id.node).acquire(rt, pass.low);
         wait_for_high(&self.high, rt, &mut low.value, id.level, share);
-        LevelHeld {
-            low,
-            id,
-            filler: 0,
-        }
+        LevelHeld { low, id, filler: 0 }
     }
 
     fn release<R: Wait>(&self, rt: &R, held: LevelHeld<P, H::Pass, H::Held>) -> LevelPass<B::Pass> {
