@@ -114,8 +114,8 @@ fn take_kept<P: Payload, Pass: Resting, Held: Standing<P>>(own: &mut Own<P, Pass
     held
 }
 
-/// Keeps the high lock of a node for the next one, or releases it, by the answer of `waiter` that the value keeps. The value may then be put
-/// back, and the answer beside it is the tests of the closed turn.
+/// Keeps the high lock of a node for the next one, or releases it, by the answer of `waiter` that the value keeps. The value may then be
+/// put back, and the answer beside it is the tests of the closed turn.
 pub(crate) fn let_go<P: Payload, H: Composed<P>>(
     high: &H,
     mut low: InHand<P, H>,

@@ -1,6 +1,7 @@
 // What the commands print, and how they are refused, from their words on.
 mod calc;
 mod distrib;
+mod options;
 mod set;
 mod topo;
 

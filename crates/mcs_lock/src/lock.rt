@@ -65,7 +65,7 @@ impl<V: Cargo> Basic<V> for Mcs<V> {
         ensures tagged { IfGot result (λ h. V.tag h.value ≡ V.tag (padded_value self.now.words.table).shared.key.value.value) }
         ensures untested { IfGot result (λ h. (holder_of h).tested ≡ Open) }
     {
-        let (mut seat, own) = pass.into_parts();
+        let (mut seat, own) = self.words.pass_parts(pass);
         self.words.store_next(&mut seat, own);
         self.words.store_locked(&mut seat, own);
         let predecessor = self.words.fetch_and_store_tail(&mut seat, own);
@@ -91,7 +91,7 @@ impl<V: Cargo> Basic<V> for Mcs<V> {
         ensures tagged { IfGot result (λ h. V.tag h.value ≡ V.tag (padded_value self.now.words.table).shared.key.value.value) }
         ensures untested { IfGot result (λ h. (holder_of h).tested ≡ Open) }
     {
-        let (mut seat, own, predecessor) = queue.into_parts();
+        let (mut seat, own, predecessor) = self.words.queue_parts(queue);
         if self.words.load_locked(&mut seat, own) != 0 {
             return Step::Not(Queue::of(seat, own, predecessor));
         }
@@ -108,7 +108,7 @@ impl<V: Cargo> Basic<V> for Mcs<V> {
         ensures loaded { (holder_of held.new).loads ≡ (holder_of held.old).loads + 1 }
         ensures noted { (holder_of held.new).tested ≡ answer_of result }
     {
-        let own = held.seat.mark;
+        let own = self.words.held_number(held);
         let last = self.words.load_tail(&mut held.seat.seat, own);
         last != own + 1
     }
@@ -129,8 +129,8 @@ impl<V: Cargo> Basic<V> for Mcs<V> {
         ensures rests { IfNot result (λ l. HasHome V.fit V.tag V.parked l) }
         ensures pass { IfGot result (λ p. badge_place p.badge ≡ (holder_of held).place) }
     {
-        let (mut seat, value, own, _) = held.into_parts();
-        self.words.put(&mut seat, value);
+        let (mut seat, value, own) = self.words.held_parts(held);
+        self.words.put(&mut seat, own, value);
         let successor = self.words.load_next(&mut seat, own);
         if successor != 0 {
             self.words.store_successor_locked(&mut seat, own, successor);
@@ -154,14 +154,14 @@ impl<V: Cargo> Basic<V> for Mcs<V> {
         ensures rests { IfNot result (λ l. HasHome V.fit V.tag V.parked l) }
         ensures pass { IfGot result (λ p. badge_place p.badge ≡ (leave_waiting leave).place) }
     {
-        let Leave { mut seat, mark } = leave;
-        let successor = self.words.load_next(&mut seat, mark);
+        let (mut seat, number) = self.words.leave_parts(leave);
+        let successor = self.words.load_next(&mut seat, number);
         if successor == 0 {
-            return Step::Not(Leave { seat, mark });
+            return Step::Not(Leave { seat, mark: number });
         }
         self.words
-            .store_successor_locked(&mut seat, mark, successor);
-        Step::Got(Pass::of(seat, mark))
+            .store_successor_locked(&mut seat, number, successor);
+        Step::Got(Pass::of(seat, number))
     }
 
     fn close(self, passes: Vec<Pass>) -> V

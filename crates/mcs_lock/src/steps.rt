@@ -1,6 +1,8 @@
 //! The lock's words, and the atomic steps on them, by what they are in the published pseudo-code. Nothing else reaches the words.
 ghost use Rattle.std.specs.Prelude.{◌≡◌, ◌≢◌, ◌+◌, ◌-◌, ◌<◌, ◌≤◌, ◌^◌, [], ◌∷◌, true, false, Some, None, IfOk, IfErr};
 ghost use Rattle.crossbeam_utils.specs.Padded.{padded_value};
+ghost use Rattle.lock_rules.specs.Holders.{holder_of};
+ghost use Rattle.lock_rules.specs.Tokens.{view_of, badge_place, badge_waiting};
 ghost use Rattle.lock_rules.specs.declared.view.Algorithm.TheVariants.{Mcs as mcs_algorithm};
 ghost use Rattle.lock_rules.specs.declared.view.Phase.TheVariants.{Idle, Queued, Holding};
 ghost use Rattle.lock_tables.specs.Happened.{MayRest};
@@ -8,7 +10,8 @@ ghost use Rattle.lock_tables.specs.Rule.{is_holder};
 ghost use Rattle.lock_tables.specs.Seats.{IsSized, seat_as};
 ghost use Rattle.mcs_lock.specs.Kinds.{Cleared, Raised, EnteredAndTook, Entered, Linked, Took, Missed};
 ghost use Rattle.mcs_lock.specs.Kinds.{Tested, Looked, Passed, Ended, Followed};
-ghost use Rattle.mcs_lock.specs.Own.{IsSeatOf, AreMine};
+ghost use Rattle.mcs_lock.specs.Leaves.{leave_waiting};
+ghost use Rattle.mcs_lock.specs.Own.{IsSeatOf, IsMine, AreMine};
 ghost use Rattle.mcs_lock.specs.Rule.{next, locked, name, pass_named};
 
 use crate::kinds::{
@@ -16,9 +19,10 @@ use crate::kinds::{
     StorePredecessorNext, StoreSuccessorLocked,
 };
 use crate::laws::McsWords;
+use crate::leave::Leave;
 use atomic_table::Seat;
 use crossbeam_utils::CachePadded;
-use lock_rules::{Cargo, Pass, Refused, View};
+use lock_rules::{Cargo, Held, Pass, Queue, Refused, View};
 use lock_tables::{LockTable, into_value, join_passes, new_table, put, split_passes, take};
 use std::alloc::Global;
 
@@ -87,6 +91,56 @@ impl<V: Cargo> Words<V> {
         let table = table.into_inner();
         let seat = join_passes(&table.shared, passes);
         into_value(table, seat)
+    }
+
+    /// The seat of a pass of this lock, and its number.
+    pub(crate) fn pass_parts(&self, pass: Pass) -> (Seat<Option<V>, View>, u64)
+        requires of { IsMine V.tag (padded_value self.now.table).shared (badge_place pass.badge) }
+        ensures own { IsSeatOf result.1 (padded_value self.now.table).shared.table_id (padded_value self.now.table).shared.key result.0 }
+        ensures table { result.0.table_id ≡ pass.badge.table_id }
+        ensures view { result.0.me ≡ (view_of pass.badge, []) }
+    {
+        pass.into_parts()
+    }
+
+    /// The seat of a queued pass of this lock, its number and the name of its predecessor.
+    pub(crate) fn queue_parts(&self, queue: Queue) -> (Seat<Option<V>, View>, u64, u64)
+        requires of { IsMine V.tag (padded_value self.now.table).shared (badge_waiting queue.badge).place }
+        ensures own { IsSeatOf result.1 (padded_value self.now.table).shared.table_id (padded_value self.now.table).shared.key result.0 }
+        ensures table { result.0.table_id ≡ queue.badge.table_id }
+        ensures view { result.0.me ≡ (view_of queue.badge, []) }
+        ensures predecessor { result.2 ≡ (view_of queue.badge).predecessor }
+    {
+        queue.into_parts()
+    }
+
+    /// The seat of the holder of this lock, its value and its number.
+    pub(crate) fn held_parts(&self, held: Held<V>) -> (Seat<Option<V>, View>, V, u64)
+        requires of { IsMine V.tag (padded_value self.now.table).shared (holder_of held).place }
+        ensures own { IsSeatOf result.2 (padded_value self.now.table).shared.table_id (padded_value self.now.table).shared.key result.0 }
+        ensures seat { result.0 ≡ held.seat.seat }
+        ensures value { result.1 ≡ held.value }
+    {
+        let (seat, value, own, _) = held.into_parts();
+        (seat, value, own)
+    }
+
+    /// The number of the holder of this lock.
+    pub(crate) fn held_number(&self, held: &Held<V>) -> u64
+        requires of { IsMine V.tag (padded_value self.now.table).shared (holder_of held.now).place }
+        ensures own { IsSeatOf result (padded_value self.now.table).shared.table_id (padded_value self.now.table).shared.key held.now.seat.seat }
+    {
+        held.seat.mark
+    }
+
+    /// The seat of a pass that leaves this lock, and its number.
+    pub(crate) fn leave_parts(&self, leave: Leave<V>) -> (Seat<Option<V>, View>, u64)
+        requires of { IsMine V.tag (padded_value self.now.table).shared (leave_waiting leave).place }
+        ensures own { IsSeatOf result.1 (padded_value self.now.table).shared.table_id (padded_value self.now.table).shared.key result.0 }
+        ensures seat { result.0 ≡ leave.seat }
+    {
+        let Leave { seat, mark } = leave;
+        (seat, mark)
     }
 
     /// `I->next := nil`, before the swap.
@@ -224,9 +278,10 @@ impl<V: Cargo> Words<V> {
     }
 
     /// Puts the value back.
-    pub(crate) fn put(&self, seat: &mut Seat<Option<V>, View>, value: V)
-        requires table { seat.old.table_id ≡ (padded_value self.now.table).shared.table_id }
+    pub(crate) fn put(&self, seat: &mut Seat<Option<V>, View>, _own: u64, value: V)
+        requires own { IsSeatOf _own (padded_value self.now.table).shared.table_id (padded_value self.now.table).shared.key seat.old }
         requires empty { seat.old.me.1 ≡ (0, None) ∷ [] }
+        ensures own { IsSeatOf _own (padded_value self.now.table).shared.table_id (padded_value self.now.table).shared.key seat.new }
         ensures seat { seat.new ≡ seat_as seat.old seat.old.me.0 ((0, Some value) ∷ []) }
     {
         put(&self.table.shared, seat, value);

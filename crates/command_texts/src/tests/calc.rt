@@ -1,29 +1,52 @@
 // What `calc` prints. Answers in tables are those of hwloc-calc 2.9.
-use super::{prints, text};
-use crate::{Fault, OptionName, Status};
-use calc_query::CalcFault;
+use super::{answered, prints, text};
+use crate::{Status, line};
 use std::alloc::Global;
 use std::process::Abort;
 use std::test::Fail;
-use synth_text::SynthFault;
-use topo_tree::BuildFault;
+
+// The words of a calculation on a description.
+fn words_on<'a>(alloc: Global, description: &'a str, words: &'a str) -> Result<Vec<&'a str>, Fail> {
+    let mut list = Vec::new(alloc);
+    list.push("calc")?;
+    list.push(description)?;
+    for word in words.split(' ') {
+        list.push(word)?;
+    }
+    Ok(list)
+}
 
 // Checks what is answered on a description. A line of the table has words, and behind a `=` the answer.
-fn answers<R: Abort>(rt: &R, alloc: Global, description: &str, table: &str) -> Result<(), Fail> {
-    for line in table.split('\n') {
-        let (words, answer) = line.split_once('=').ok_or("a line without an answer")?;
-        let mut list = Vec::new(alloc);
-        list.push("calc")?;
-        list.push(description)?;
-        for word in words.split(' ') {
-            list.push(word)?;
-        }
-        let printed = text(rt, alloc, &list)?;
+pub(super) fn answers<R: Abort>(
+    rt: &R,
+    alloc: Global,
+    description: &str,
+    table: &str,
+) -> Result<(), Fail> {
+    for row in table.split('\n') {
+        let (words, answer) = row.split_once('=').ok_or("a line without an answer")?;
+        let printed = text(rt, alloc, &words_on(alloc, description, words)?)?;
         assert_eq!(rt;
             printed.strip_suffix(b"\n".as_slice()),
             Some(answer.as_bytes()),
             "{words}"
         );
+    }
+    Ok(())
+}
+
+// Checks how words are refused on a description. A line of the table has words, and behind a `=` the status's code and
+// what standard error is told.
+fn refusals<R: Abort>(rt: &R, alloc: Global, description: &str, table: &str) -> Result<(), Fail> {
+    for row in table.split('\n') {
+        let (words, refusal) = row.split_once('=').ok_or("a line without a refusal")?;
+        let Err(status) = answered(alloc, &words_on(alloc, description, words)?)? else {
+            panic!(rt; "the words are not refused");
+        };
+        let told = line(&status);
+        let found = format!(in alloc; "{} {}", status.code(), told.as_str())?;
+        let wanted = format!(in alloc; "{refusal}\n")?;
+        assert_eq!(rt; found.as_str(), wanted.as_str(), "{words}");
     }
     Ok(())
 }
@@ -236,6 +259,163 @@ numa:1=0x00005050
     )
 }
 
+#[test]
+fn cores_in_turn_over_packages(rt: HostRuntime) -> Result<(), Fail> {
+    let table = "package:1=0x000000aa
+core:1=0x00000004
+core:odd=0x000000cc
+core:5:4=0x000000a9
+package:1.core:2-=0x000000a0
+pu:3 ~package:0=0x0
+-p pu:3=0x00000008
+-p pu:odd=0x000000aa
+-p pu:4-6=0x00000070
+-p package:0.pu:3=0x0
+-p -I pu package:0=0,2,4,6
+-I package 0x3=0,1
+-N core 0xf0=4
+-H package.core pu:1 pu:6=Package:0.Core:1 Package:1.Core:2
+--largest 0x5f=Package:0 Core:4 Core:5
+--taskset package:0 xcore:2-5=0x50";
+    answers(
+        &rt,
+        rt.alloc(),
+        "Package:2 Core:4 PU:1(indexes=4*2:1*4)",
+        table,
+    )
+}
+
+#[test]
+fn pus_in_turn_over_four_levels(rt: HostRuntime) -> Result<(), Fail> {
+    let table = "package:0=0x00005555
+l2:1=0x00004444
+core:5=0x00002020
+core:2-3.pu:1=0x00004400
+l2:3:2=0x00009999
+package:1.l2:0.core:1=0x00002020
+all ^core:even=0x0000f0f0
+-p pu:8:4=0x00000f00
+-p core:1.pu:12=0x00001000
+-p core:1.pu:1=0x0
+-p -I pu core:1-2=4,12,2,10
+-I l2 0x30=0,2
+-N l2 0x1111=1
+-H package.l2.core 0x21=Package:0.L2Cache:0.Core:0 Package:1.L2Cache:0.Core:1
+--largest 0x5557=Package:0 PU:8
+--single core:5 core:6=0x00000008";
+    answers(
+        &rt,
+        rt.alloc(),
+        "Package:2 L2:2 Core:2 PU:2(indexes=8*2:4*2:2*2:1*2)",
+        table,
+    )
+}
+
+#[test]
+fn pus_in_turn_over_the_cores_of_groups(rt: HostRuntime) -> Result<(), Fail> {
+    let table = "group:1=0x00000e38
+core:4=0x00000410
+group:0.core:2=0x00000104
+pu:even=0x0000003f
+core:5:2=0x00000861
+group:1.pu:5:2=0x00000808
+-p pu:odd=0x00000aaa
+-p pu:6-=0x00000fc0
+-p core:4.pu:4-10=0x00000410
+-p -I pu core:3-4=3,9,4,10
+-I core 0xc0=0,1
+-N group 0x9=2
+-H group.core core:2-3=Group0:0.Core:2 Group0:1.Core:0
+--largest 0x1c7=Group0:0
+--sep . -I pu core:1 core:4=2.3.8.9";
+    answers(
+        &rt,
+        rt.alloc(),
+        "Group:2 Core:3 PU:2(indexes=2*6:1*2)",
+        table,
+    )
+}
+
+#[test]
+fn pus_in_turn_over_dies(rt: HostRuntime) -> Result<(), Fail> {
+    let table = "die:0=0x00000249
+die:2:2=0x00000b6d
+pu:5=0x00000010
+die:1.pu:1-2=0x00000090
+die:even.pu:odd=0x00000a28
+die:1.pu:3:3=0x00000412
+-p pu:3-5=0x00000038
+-p pu:10:2=0x00000c00
+-p die:2.pu:8=0x00000100
+-p -I pu die:1=1,4,7,10
+-I die 0x28=0,2
+-N pu die:1-=8
+-H die.pu 0x22=Die:1.PU:0 Die:2.PU:1
+--largest 0x497=PU:0 Die:1 PU:8
+--taskset --single die:2 ~pu:8=0x20";
+    answers(&rt, rt.alloc(), "Die:3 PU:4(indexes=4*3:1*4)", table)
+}
+
+// Numbers at their limits.
+#[test]
+fn indexes_up_to_32_bits(rt: HostRuntime) -> Result<(), Fail> {
+    let table = "core:0-4294967295=0x000000ff
+core:2-4294967295=0x000000f0
+core:4294967295-4294967295=0x0
+core:4294967295-=0x0
+core:4294967295-0=0x0
+core:1:4=0x000000ff
+core:3:5=0x000000ff
+core:3:4294967295=0x000000ff
+core:4294967295:1=0x0
+core:4294967295:4294967295=0x0
+core:0:0=0x0
+package:0.core:1:2=0x0000000f
+package:0-.core:1-=0x000000cc
+core:odd.pu:even=0x00000044
+-p core:0-4294967295=0x000000ff
+-p pu:6-4294967295=0x000000c0
+-p pu:5-3=0x0
+-p pu:4294967295=0x0
+-p pu:4294967295-=0x0
+-p pu:4294967295:4294967295=0x0
+-p pu:0:4294967295=0x000000ff
+-p pu:0:8=0x000000ff
+-p pu:3:0=0x0";
+    answers(&rt, rt.alloc(), PLAIN, table)
+}
+
+// Physical numbers with gaps, which hwloc-calc 2.9 counts as if there were none (docs/DECISIONS.md).
+#[test]
+fn numbers_with_gaps(rt: HostRuntime) -> Result<(), Fail> {
+    let alloc = rt.alloc();
+    let even = "-p pu:all=0x00000055
+-p pu:odd=0x0
+-p pu:even=0x00000055
+-p pu:1-5=0x00000014
+-p pu:3-=0x00000050
+-p pu:1:4=0x00000014
+-p pu:7-=0x0";
+    answers(&rt, alloc, "PU:4(indexes=0,2,4,6)", even)?;
+    let cores = "-p core:3.pu:odd=0x00000088
+-p core:1.pu:even=0x0
+-p core:odd.pu:all=0x000000aa
+-p core:even.pu:even=0x00000055";
+    answers(&rt, alloc, "Core:4 PU:2(indexes=2*4:1*2)", cores)?;
+    let nodes = "-p numa:5-=0x00000fc0
+-p numa:4-6=0x0000003f
+-p numa:6:2=0x00000fc0
+-p numa:all=0x00000fff
+-p numa:odd=0x00000fc0
+-p numa:4.pu:5=0x00000020";
+    answers(
+        &rt,
+        alloc,
+        "Package:2 [numa(indexes=4,7)] Core:3 PU:2",
+        nodes,
+    )
+}
+
 // How the words of a calculation are written: options before, between and behind the other words, values in the next word,
 // behind `=` or directly behind a letter, letters in one word, `--`, and separators of every kind.
 #[test]
@@ -376,107 +556,44 @@ fn refuses_words(rt: HostRuntime) -> Result<(), Fail> {
     Ok(())
 }
 
-fn location(word: u32, at: usize) -> Status {
-    Status::Malformed(Fault::Calc(CalcFault::Location { word, at }))
-}
-
-fn no_such_type(word: u32) -> Status {
-    Status::Malformed(Fault::Calc(CalcFault::NoSuchType { word }))
-}
-
 // What is refused, in the order of the checks: the description, its numbers, the type of an option, the locations.
 #[test]
 fn refuses_types_and_locations(rt: HostRuntime) -> Result<(), Fail> {
-    let untyped = |option| Status::Malformed(Fault::TypeOf(option));
-    let cases: [(&[&str], Status, &str); 17] = [
-        (
-            &["calc", "PU:2", "core:0"],
-            no_such_type(0),
-            "clof: location NoSuchType 0\n",
-        ),
-        (
-            &["calc", "PU:2", "pu:x"],
-            location(0, 0),
-            "clof: location Location 0 0\n",
-        ),
-        (
-            &["calc", "PU:2", "pu:0", "~pu:0.pu:", "x"],
-            location(1, 6),
-            "clof: location Location 1 6\n",
-        ),
-        (
-            &["calc", "PU:2", "pu:0", "~"],
-            location(1, 1),
-            "clof: location Location 1 1\n",
-        ),
-        (
-            &["calc", "PU:2", ""],
-            location(0, 0),
-            "clof: location Location 0 0\n",
-        ),
-        (
-            &["calc", "PU:2", "0x1,"],
-            location(0, 0),
-            "clof: location Location 0 0\n",
-        ),
-        (
-            &["calc", "PU:2", "pu"],
-            location(0, 0),
-            "clof: location Location 0 0\n",
-        ),
-        (
-            &["calc", "PU:2", "foo"],
-            no_such_type(0),
-            "clof: location NoSuchType 0\n",
-        ),
-        (
-            &["calc", "PU:2", "--", "all", "-1"],
-            no_such_type(1),
-            "clof: location NoSuchType 1\n",
-        ),
-        (
-            &["calc", "-I", "core", "PU:2", "foo"],
-            untyped(OptionName::Intersect),
-            "clof: type -I\n",
-        ),
-        (
-            &["calc", "-N", "numa", "PU:2"],
-            untyped(OptionName::NumberOf),
-            "clof: type -N\n",
-        ),
-        (
-            &["calc", "-H", "pu.core", "PU:2", "foo"],
-            untyped(OptionName::Hierarchical),
-            "clof: type -H\n",
-        ),
-        (
-            &["calc", "-H", "", "PU:2"],
-            untyped(OptionName::Hierarchical),
-            "clof: type -H\n",
-        ),
-        (
-            &["calc", "-H", "pu.", "PU:2"],
-            untyped(OptionName::Hierarchical),
-            "clof: type -H\n",
-        ),
-        (
-            &["calc", "-I", "core", "PU:0", "foo"],
-            Status::Malformed(Fault::Synth(SynthFault::BadArity { at: 0 })),
-            "clof: synth BadArity 0\n",
-        ),
-        (
-            &["calc", "-I", "core", "PU:1(indexes=4096)", "foo"],
-            Status::Malformed(Fault::Build(BuildFault::IndexRange { number: 4096 })),
-            "clof: build IndexRange 4096\n",
-        ),
-        (
-            &["calc", "PU:4097", "foo"],
-            Status::Limit(Fault::Synth(SynthFault::TooManyObjects)),
-            "clof: synth TooManyObjects\n",
-        ),
-    ];
-    for (words, status, err) in cases {
-        prints(&rt, rt.alloc(), words, status, "", err)?;
-    }
-    Ok(())
+    let alloc = rt.alloc();
+    let table = "core:0=3 clof: location NoSuchType 0
+pu:x=3 clof: location Location 0 0
+pu:0 ~pu:0.pu: x=3 clof: location Location 1 6
+pu:0 ~=3 clof: location Location 1 1
+=3 clof: location Location 0 0
+0x1,=3 clof: location Location 0 0
+pu=3 clof: location Location 0 0
+foo=3 clof: location NoSuchType 0
+-- all -1=3 clof: location NoSuchType 1
+-I core foo=3 clof: type -I
+-N numa=3 clof: type -N
+-H pu.core foo=3 clof: type -H
+-H =3 clof: type -H
+-H pu.=3 clof: type -H";
+    refusals(&rt, alloc, "PU:2", table)?;
+    let words = "-I core foo=3 clof: synth BadArity 0";
+    refusals(&rt, alloc, "PU:0", words)?;
+    let words = "-I core foo=3 clof: build IndexRange 4096";
+    refusals(&rt, alloc, "PU:1(indexes=4096)", words)?;
+    refusals(&rt, alloc, "PU:4097", "foo=4 clof: synth TooManyObjects")
+}
+
+// Words that name a layer to hwloc-calc 2.9, and none here (docs/DECISIONS.md): a depth by its number, an L3 of data and
+// instructions, the node of memory that it adds.
+#[test]
+fn refuses_names_of_hwloc(rt: HostRuntime) -> Result<(), Fail> {
+    let alloc = rt.alloc();
+    let depths = "-N 3 all=3 clof: type -N
+-I 2 all=3 clof: type -I
+-H 1.2 all=3 clof: type -H";
+    refusals(&rt, alloc, PLAIN, depths)?;
+    let caches = "l3u:1=3 clof: location NoSuchType 0
+-N l3u all=3 clof: type -N
+-H l3u all=3 clof: type -H";
+    refusals(&rt, alloc, "L3:2 PU:2", caches)?;
+    refusals(&rt, alloc, "PU:2", "-N numa all=3 clof: type -N")
 }
