@@ -128,7 +128,8 @@ impl<V: Cargo> Words<V> {
     /// The number of the holder of this lock.
     pub(crate) fn held_number(&self, held: &Held<V>) -> u64
         requires of { IsMine V.tag (padded_value self.now.table).shared (holder_of held.now).place }
-        ensures own { IsSeatOf result (padded_value self.now.table).shared.table_id (padded_value self.now.table).shared.key held.now.seat.seat }
+        ensures own { IsSeatOf result (padded_value self.now.table).shared.table_id (padded_value self.now.table).shared.key
+            held.now.seat.seat }
     {
         held.seat.mark
     }
