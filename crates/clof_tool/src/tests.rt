@@ -74,55 +74,51 @@ fn serves_one_section(rt: HostRuntime) -> Result<(), Fail> {
     Ok(())
 }
 
+// Checks how `run` refuses an input on a description.
+fn refuses_sections<R: Threads + Wait + Sync + Abort>(
+    rt: &R,
+    alloc: Global,
+    words: &[&str],
+    input: &[u8],
+    fault: SectionFault,
+    line: &[u8],
+) -> Result<(), Fail> {
+    let ended = call(rt, alloc, words, input.to_vec(alloc)?)?;
+    assert_eq!(rt; ended.status, Status::Malformed(Fault::Section(fault)));
+    assert_eq!(rt; ended.out.len(), 0);
+    assert_eq!(rt; ended.err.as_slice(), line);
+    Ok(())
+}
+
 #[test]
 fn refuses_the_first_broken_rule_of_the_sections(rt: HostRuntime) -> Result<(), Fail> {
-    use SectionFault::{BadHead, BadPlace, Short};
-    let cases: [(&str, &[u8], SectionFault, &[u8]); 6] = [
-        (
-            "PU:1",
-            b"worker * 9\nget a\r\n\n",
-            Short { at: 0 },
-            b"clof: section Short 0\n",
-        ),
-        (
-            "Core:1 PU:2",
-            b"worker core:0 0\n\n",
-            BadPlace { at: 0 },
-            b"clof: section BadPlace 0\n",
-        ),
-        (
-            "PU:1",
-            b"walker * 0\n\n",
-            BadHead { at: 0 },
-            b"clof: section BadHead 0\n",
-        ),
-        (
-            "PU:1",
-            b"worker * 7\nget a\r\n\nx",
-            BadHead { at: 19 },
-            b"clof: section BadHead 19\n",
-        ),
-        (
-            "PU:1",
-            b"worker * 7\nget a\r\n\nworker pu:1 9\n",
-            BadPlace { at: 19 },
-            b"clof: section BadPlace 19\n",
-        ),
-        (
-            "PU:1",
-            b"\n",
-            BadHead { at: 0 },
-            b"clof: section BadHead 0\n",
-        ),
-    ];
-    for (description, input, fault, line) in cases {
-        let alloc = rt.alloc();
-        let ended = call(&rt, alloc, &["run", description], input.to_vec(alloc)?)?;
-        assert_eq!(rt; ended.status, Status::Malformed(Fault::Section(fault)));
-        assert_eq!(rt; ended.out.len(), 0);
-        assert_eq!(rt; ended.err.as_slice(), line);
-    }
-    Ok(())
+    let alloc = rt.alloc();
+    let words = ["run", "PU:1"];
+    let first = SectionFault::BadHead { at: 0 };
+    let line = b"clof: section BadHead 0\n";
+    refuses_sections(&rt, alloc, &words, b"\n", first, line)?;
+    refuses_sections(&rt, alloc, &words, b"walker * 0\n\n", first, line)?;
+    let short = SectionFault::Short { at: 0 };
+    let line = b"clof: section Short 0\n";
+    refuses_sections(&rt, alloc, &words, b"worker * 9\nget a\r\n\n", short, line)?;
+    let second = SectionFault::BadHead { at: 19 };
+    let line = b"clof: section BadHead 19\n";
+    refuses_sections(
+        &rt,
+        alloc,
+        &words,
+        b"worker * 7\nget a\r\n\nx",
+        second,
+        line,
+    )?;
+    let place = SectionFault::BadPlace { at: 19 };
+    let line = b"clof: section BadPlace 19\n";
+    let input = b"worker * 7\nget a\r\n\nworker pu:1 9\n";
+    refuses_sections(&rt, alloc, &words, input, place, line)?;
+    let pair = SectionFault::BadPlace { at: 0 };
+    let line = b"clof: section BadPlace 0\n";
+    let words = ["run", "Core:1 PU:2"];
+    refuses_sections(&rt, alloc, &words, b"worker core:0 0\n\n", pair, line)
 }
 
 #[test]

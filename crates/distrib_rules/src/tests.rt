@@ -1,5 +1,6 @@
 // Distributions over whole topologies. The masks of the tables are those of hwloc-distrib 2.9.
 use super::*;
+use byte_text::{Words, number32};
 use cpu_set::CpuSet;
 use std::alloc::Global;
 use std::process::Abort;
@@ -16,10 +17,6 @@ fn built(rt: &impl Abort, alloc: Global, text: &[u8]) -> Topology {
         Err(_) => panic!(rt; "not a description"),
     }
 }
-
-// The number of masks, the depths of the start and the end, whether lists are taken backwards, and the masks, in which
-// bit k stands for the number k.
-type Case = (u32, u32, u32, bool, &'static [u64]);
 
 fn shared_out(
     rt: &impl Abort,
@@ -45,15 +42,46 @@ fn low_bits(set: &CpuSet) -> u64 {
     bits
 }
 
-fn check_masks(rt: &impl Abort, alloc: Global, text: &[u8], cases: &[Case]) -> Result<(), Fail> {
-    let topology = built(rt, alloc, text);
-    for (n, from, to, reverse, wanted) in cases {
-        let masks = shared_out(rt, alloc, &topology, *n, (*from, *to), *reverse)?;
-        assert_eq!(rt; masks.len(), wanted.len());
-        for (mask, bits) in masks.iter().zip(*wanted) {
-            assert_eq!(rt; low_bits(mask), *bits);
-            assert_eq!(rt; mask.weight(), bits.count_ones());
+// Masks in taskset's form, with a space between two.
+fn printed(alloc: Global, masks: &[CpuSet]) -> Result<Vec<u8>, Fail> {
+    let mut text = Vec::new(alloc);
+    for mask in masks {
+        if !text.is_empty() {
+            text.push(b' ')?;
         }
+        text.extend_from_slice(&mask.write_taskset(alloc)?)?;
+    }
+    Ok(text)
+}
+
+// Checks the masks of a line: the number of masks and the depths of the start and the end, behind a `=` the masks, and behind
+// a `;` those where lists are taken backwards.
+fn check_line(rt: &impl Abort, alloc: Global, topology: &Topology, line: &str) -> Result<(), Fail> {
+    let (asked, masks) = line.split_once('=').ok_or("a line without masks")?;
+    let (forwards, backwards) = masks.split_once(';').ok_or("a line without a second list")?;
+    let mut numbers = Words::new(asked.as_bytes());
+    let n = number(numbers.next())?;
+    let ends = (number(numbers.next())?, number(numbers.next())?);
+    for (reverse, wanted) in [(false, forwards), (true, backwards)] {
+        let found = shared_out(rt, alloc, topology, n, ends, reverse)?;
+        assert_eq!(rt;
+            printed(alloc, &found)?.as_slice(),
+            wanted.as_bytes(),
+            "{line}"
+        );
+    }
+    Ok(())
+}
+
+fn number(word: Option<&[u8]>) -> Result<u32, Fail> {
+    let number = word.and_then(number32).ok_or("a line without its numbers")?;
+    Ok(number)
+}
+
+fn check_masks(rt: &impl Abort, alloc: Global, text: &[u8], table: &str) -> Result<(), Fail> {
+    let topology = built(rt, alloc, text);
+    for line in table.split('\n') {
+        check_line(rt, alloc, &topology, line)?;
     }
     Ok(())
 }
@@ -109,370 +137,87 @@ fn refusals(rt: HostRuntime) {
 
 #[test]
 fn between_every_two_depths(rt: HostRuntime) -> Result<(), Fail> {
-    let cases: [Case; 60] = [
-        (1, 0, 0, false, &[0xff]),
-        (1, 0, 0, true, &[0xff]),
-        (1, 0, 1, false, &[0xff]),
-        (1, 0, 1, true, &[0xff]),
-        (1, 0, 2, false, &[0xff]),
-        (1, 0, 2, true, &[0xff]),
-        (1, 0, 3, false, &[0xff]),
-        (1, 0, 3, true, &[0xff]),
-        (1, 1, 1, false, &[0xff]),
-        (1, 1, 1, true, &[0xff]),
-        (1, 1, 2, false, &[0xff]),
-        (1, 1, 2, true, &[0xff]),
-        (1, 1, 3, false, &[0xff]),
-        (1, 1, 3, true, &[0xff]),
-        (1, 2, 2, false, &[0xff]),
-        (1, 2, 2, true, &[0xff]),
-        (1, 2, 3, false, &[0xff]),
-        (1, 2, 3, true, &[0xff]),
-        (1, 3, 3, false, &[0xff]),
-        (1, 3, 3, true, &[0xff]),
-        (3, 0, 0, false, &[0xff, 0xff, 0xff]),
-        (3, 0, 0, true, &[0xff, 0xff, 0xff]),
-        (3, 0, 1, false, &[0xf, 0xf, 0xf0]),
-        (3, 0, 1, true, &[0xf0, 0xf0, 0xf]),
-        (3, 0, 2, false, &[0x3, 0xc, 0xf0]),
-        (3, 0, 2, true, &[0xc0, 0x30, 0xf]),
-        (3, 0, 3, false, &[0x3, 0xc, 0xf0]),
-        (3, 0, 3, true, &[0xc0, 0x30, 0xf]),
-        (3, 1, 1, false, &[0xf, 0xf, 0xf0]),
-        (3, 1, 1, true, &[0xf0, 0xf0, 0xf]),
-        (3, 1, 2, false, &[0x3, 0xc, 0xf0]),
-        (3, 1, 2, true, &[0xc0, 0x30, 0xf]),
-        (3, 1, 3, false, &[0x3, 0xc, 0xf0]),
-        (3, 1, 3, true, &[0xc0, 0x30, 0xf]),
-        (3, 2, 2, false, &[0x3, 0xc, 0xf0]),
-        (3, 2, 2, true, &[0xc0, 0x30, 0xf]),
-        (3, 2, 3, false, &[0x3, 0xc, 0xf0]),
-        (3, 2, 3, true, &[0xc0, 0x30, 0xf]),
-        (3, 3, 3, false, &[0x3, 0x1c, 0xe0]),
-        (3, 3, 3, true, &[0xc0, 0x38, 0x7]),
-        (5, 0, 0, false, &[0xff, 0xff, 0xff, 0xff, 0xff]),
-        (5, 0, 0, true, &[0xff, 0xff, 0xff, 0xff, 0xff]),
-        (5, 0, 1, false, &[0xf, 0xf, 0xf, 0xf0, 0xf0]),
-        (5, 0, 1, true, &[0xf0, 0xf0, 0xf0, 0xf, 0xf]),
-        (5, 0, 2, false, &[0x3, 0x3, 0xc, 0x30, 0xc0]),
-        (5, 0, 2, true, &[0xc0, 0xc0, 0x30, 0xc, 0x3]),
-        (5, 0, 3, false, &[0x1, 0x2, 0xc, 0x30, 0xc0]),
-        (5, 0, 3, true, &[0x80, 0x40, 0x30, 0xc, 0x3]),
-        (5, 1, 1, false, &[0xf, 0xf, 0xf, 0xf0, 0xf0]),
-        (5, 1, 1, true, &[0xf0, 0xf0, 0xf0, 0xf, 0xf]),
-        (5, 1, 2, false, &[0x3, 0x3, 0xc, 0x30, 0xc0]),
-        (5, 1, 2, true, &[0xc0, 0xc0, 0x30, 0xc, 0x3]),
-        (5, 1, 3, false, &[0x1, 0x2, 0xc, 0x30, 0xc0]),
-        (5, 1, 3, true, &[0x80, 0x40, 0x30, 0xc, 0x3]),
-        (5, 2, 2, false, &[0x3, 0x3, 0xc, 0x30, 0xc0]),
-        (5, 2, 2, true, &[0xc0, 0xc0, 0x30, 0xc, 0x3]),
-        (5, 2, 3, false, &[0x1, 0x2, 0xc, 0x30, 0xc0]),
-        (5, 2, 3, true, &[0x80, 0x40, 0x30, 0xc, 0x3]),
-        (5, 3, 3, false, &[0x1, 0x6, 0x8, 0x30, 0xc0]),
-        (5, 3, 3, true, &[0x80, 0x60, 0x10, 0xc, 0x3]),
-    ];
-    check_masks(&rt, rt.alloc(), b"Package:2 Core:2 PU:2", &cases)
+    let table = "1 0 0=0xff;0xff
+1 0 1=0xff;0xff
+1 0 2=0xff;0xff
+1 0 3=0xff;0xff
+1 1 1=0xff;0xff
+1 1 2=0xff;0xff
+1 1 3=0xff;0xff
+1 2 2=0xff;0xff
+1 2 3=0xff;0xff
+1 3 3=0xff;0xff
+3 0 0=0xff 0xff 0xff;0xff 0xff 0xff
+3 0 1=0xf 0xf 0xf0;0xf0 0xf0 0xf
+3 0 2=0x3 0xc 0xf0;0xc0 0x30 0xf
+3 0 3=0x3 0xc 0xf0;0xc0 0x30 0xf
+3 1 1=0xf 0xf 0xf0;0xf0 0xf0 0xf
+3 1 2=0x3 0xc 0xf0;0xc0 0x30 0xf
+3 1 3=0x3 0xc 0xf0;0xc0 0x30 0xf
+3 2 2=0x3 0xc 0xf0;0xc0 0x30 0xf
+3 2 3=0x3 0xc 0xf0;0xc0 0x30 0xf
+3 3 3=0x3 0x1c 0xe0;0xc0 0x38 0x7
+5 0 0=0xff 0xff 0xff 0xff 0xff;0xff 0xff 0xff 0xff 0xff
+5 0 1=0xf 0xf 0xf 0xf0 0xf0;0xf0 0xf0 0xf0 0xf 0xf
+5 0 2=0x3 0x3 0xc 0x30 0xc0;0xc0 0xc0 0x30 0xc 0x3
+5 0 3=0x1 0x2 0xc 0x30 0xc0;0x80 0x40 0x30 0xc 0x3
+5 1 1=0xf 0xf 0xf 0xf0 0xf0;0xf0 0xf0 0xf0 0xf 0xf
+5 1 2=0x3 0x3 0xc 0x30 0xc0;0xc0 0xc0 0x30 0xc 0x3
+5 1 3=0x1 0x2 0xc 0x30 0xc0;0x80 0x40 0x30 0xc 0x3
+5 2 2=0x3 0x3 0xc 0x30 0xc0;0xc0 0xc0 0x30 0xc 0x3
+5 2 3=0x1 0x2 0xc 0x30 0xc0;0x80 0x40 0x30 0xc 0x3
+5 3 3=0x1 0x6 0x8 0x30 0xc0;0x80 0x60 0x10 0xc 0x3";
+    check_masks(&rt, rt.alloc(), b"Package:2 Core:2 PU:2", table)
 }
 
 #[test]
 fn levels_of_one_child(rt: HostRuntime) -> Result<(), Fail> {
-    let cases: [Case; 12] = [
-        (2, 0, 0, false, &[0x7, 0x7]),
-        (2, 0, 0, true, &[0x7, 0x7]),
-        (2, 0, 1, false, &[0x1, 0x6]),
-        (2, 0, 1, true, &[0x4, 0x3]),
-        (2, 0, 2, false, &[0x1, 0x6]),
-        (2, 0, 2, true, &[0x4, 0x3]),
-        (2, 1, 1, false, &[0x1, 0x6]),
-        (2, 1, 1, true, &[0x4, 0x3]),
-        (2, 1, 2, false, &[0x1, 0x6]),
-        (2, 1, 2, true, &[0x4, 0x3]),
-        (2, 2, 2, false, &[0x1, 0x6]),
-        (2, 2, 2, true, &[0x4, 0x3]),
-    ];
-    check_masks(&rt, rt.alloc(), b"Core:3 PU:1", &cases)
+    let table = "2 0 0=0x7 0x7;0x7 0x7
+2 0 1=0x1 0x6;0x4 0x3
+2 0 2=0x1 0x6;0x4 0x3
+2 1 1=0x1 0x6;0x4 0x3
+2 1 2=0x1 0x6;0x4 0x3
+2 2 2=0x1 0x6;0x4 0x3";
+    check_masks(&rt, rt.alloc(), b"Core:3 PU:1", table)
 }
 
 #[test]
 fn three_packages(rt: HostRuntime) -> Result<(), Fail> {
-    let cases: [Case; 10] = [
-        (2, 0, 1, false, &[0xfff, 0xffffff000]),
-        (2, 0, 1, true, &[0xfff000000, 0xffffff]),
-        (
-            5,
-            1,
-            3,
-            false,
-            &[0x3f, 0xfc0, 0x3f000, 0xfc0000, 0xfff000000],
-        ),
-        (
-            5,
-            1,
-            3,
-            true,
-            &[0xfc0000000, 0x3f000000, 0xfc0000, 0x3f000, 0xfff],
-        ),
-        (
-            7,
-            0,
-            4,
-            false,
-            &[0x7, 0x38, 0xfc0, 0x3f000, 0xfc0000, 0x3f000000, 0xfc0000000],
-        ),
-        (
-            7,
-            0,
-            4,
-            true,
-            &[
-                0xe00000000,
-                0x1c0000000,
-                0x3f000000,
-                0xfc0000,
-                0x3f000,
-                0xfc0,
-                0x3f,
-            ],
-        ),
-        (
-            11,
-            2,
-            4,
-            false,
-            &[
-                0x7,
-                0x38,
-                0x1c0,
-                0xe00,
-                0x7000,
-                0x38000,
-                0x1c0000,
-                0xe00000,
-                0x7000000,
-                0x38000000,
-                0xfc0000000,
-            ],
-        ),
-        (
-            11,
-            2,
-            4,
-            true,
-            &[
-                0xe00000000,
-                0x1c0000000,
-                0x38000000,
-                0x7000000,
-                0xe00000,
-                0x1c0000,
-                0x38000,
-                0x7000,
-                0xe00,
-                0x1c0,
-                0x3f,
-            ],
-        ),
-        (
-            13,
-            0,
-            4,
-            false,
-            &[
-                0x1,
-                0x6,
-                0x38,
-                0x1c0,
-                0xe00,
-                0x7000,
-                0x38000,
-                0x1c0000,
-                0xe00000,
-                0x7000000,
-                0x38000000,
-                0x1c0000000,
-                0xe00000000,
-            ],
-        ),
-        (
-            13,
-            0,
-            4,
-            true,
-            &[
-                0x800000000,
-                0x600000000,
-                0x1c0000000,
-                0x38000000,
-                0x7000000,
-                0xe00000,
-                0x1c0000,
-                0x38000,
-                0x7000,
-                0xe00,
-                0x1c0,
-                0x38,
-                0x7,
-            ],
-        ),
-    ];
-    check_masks(&rt, rt.alloc(), b"Package:3 L2:2 Core:2 PU:3", &cases)
+    let table = "2 0 1=0xfff 0xffffff000;0xfff000000 0xffffff
+5 1 3=0x3f 0xfc0 0x3f000 0xfc0000 0xfff000000;0xfc0000000 0x3f000000 0xfc0000 0x3f000 0xfff
+7 0 4=0x7 0x38 0xfc0 0x3f000 0xfc0000 0x3f000000 0xfc0000000;0xe00000000 0x1c0000000 0x3f000000 0xfc0000 0x3f000 0xfc0 0x3f
+11 2 4=0x7 0x38 0x1c0 0xe00 0x7000 0x38000 0x1c0000 0xe00000 0x7000000 0x38000000 0xfc0000000;\
+    0xe00000000 0x1c0000000 0x38000000 0x7000000 0xe00000 0x1c0000 0x38000 0x7000 0xe00 0x1c0 0x3f
+13 0 4=0x1 0x6 0x38 0x1c0 0xe00 0x7000 0x38000 0x1c0000 0xe00000 0x7000000 0x38000000 0x1c0000000 0xe00000000;\
+    0x800000000 0x600000000 0x1c0000000 0x38000000 0x7000000 0xe00000 0x1c0000 0x38000 0x7000 0xe00 0x1c0 0x38 0x7";
+    check_masks(&rt, rt.alloc(), b"Package:3 L2:2 Core:2 PU:3", table)
 }
 
 #[test]
 fn seven_pus_each(rt: HostRuntime) -> Result<(), Fail> {
-    let cases: [Case; 8] = [
-        (3, 0, 2, false, &[0x7f, 0x1fff80, 0x7ffe00000]),
-        (3, 0, 2, true, &[0x7f0000000, 0xfffc000, 0x3fff]),
-        (4, 1, 1, false, &[0x7f, 0x3f80, 0x1fc000, 0x7ffe00000]),
-        (4, 1, 1, true, &[0x7f0000000, 0xfe00000, 0x1fc000, 0x3fff]),
-        (
-            8,
-            0,
-            2,
-            false,
-            &[
-                0x7,
-                0x78,
-                0x380,
-                0x3c00,
-                0x1fc000,
-                0xe00000,
-                0xf000000,
-                0x7f0000000,
-            ],
-        ),
-        (
-            8,
-            0,
-            2,
-            true,
-            &[
-                0x700000000,
-                0xf0000000,
-                0xe000000,
-                0x1e00000,
-                0x1fc000,
-                0x3800,
-                0x780,
-                0x7f,
-            ],
-        ),
-        (
-            17,
-            0,
-            2,
-            false,
-            &[
-                0x1,
-                0x6,
-                0x18,
-                0x60,
-                0x180,
-                0x600,
-                0x3800,
-                0x4000,
-                0x18000,
-                0x60000,
-                0x180000,
-                0x600000,
-                0x1800000,
-                0xe000000,
-                0x30000000,
-                0xc0000000,
-                0x700000000,
-            ],
-        ),
-        (
-            17,
-            0,
-            2,
-            true,
-            &[
-                0x400000000,
-                0x300000000,
-                0xc0000000,
-                0x30000000,
-                0xc000000,
-                0x3000000,
-                0xe00000,
-                0x100000,
-                0xc0000,
-                0x30000,
-                0xc000,
-                0x3000,
-                0xc00,
-                0x380,
-                0x60,
-                0x18,
-                0x7,
-            ],
-        ),
-    ];
-    check_masks(&rt, rt.alloc(), b"Package:5 PU:7", &cases)
+    let table = "3 0 2=0x7f 0x1fff80 0x7ffe00000;0x7f0000000 0xfffc000 0x3fff
+4 1 1=0x7f 0x3f80 0x1fc000 0x7ffe00000;0x7f0000000 0xfe00000 0x1fc000 0x3fff
+8 0 2=0x7 0x78 0x380 0x3c00 0x1fc000 0xe00000 0xf000000 0x7f0000000;0x700000000 0xf0000000 0xe000000 0x1e00000 0x1fc000 0x3800 0x780 0x7f
+17 0 2=0x1 0x6 0x18 0x60 0x180 0x600 0x3800 0x4000 0x18000 0x60000 0x180000 0x600000 0x1800000 0xe000000 0x30000000 0xc0000000 0x700000000;\
+    0x400000000 0x300000000 0xc0000000 0x30000000 0xc000000 0x3000000 0xe00000 0x100000 0xc0000 0x30000 0xc000 0x3000 \
+    0xc00 0x380 0x60 0x18 0x7";
+    check_masks(&rt, rt.alloc(), b"Package:5 PU:7", table)
 }
 
 #[test]
 fn interleaved_pus(rt: HostRuntime) -> Result<(), Fail> {
-    let cases: [Case; 8] = [
-        (1, 0, 2, false, &[0xff]),
-        (1, 0, 2, true, &[0xff]),
-        (3, 0, 2, false, &[0x11, 0x22, 0xcc]),
-        (3, 0, 2, true, &[0x88, 0x44, 0x33]),
-        (3, 1, 1, false, &[0x11, 0x22, 0xcc]),
-        (3, 1, 1, true, &[0x88, 0x44, 0x33]),
-        (5, 1, 2, false, &[0x1, 0x10, 0x22, 0x44, 0x88]),
-        (5, 1, 2, true, &[0x80, 0x8, 0x44, 0x22, 0x11]),
-    ];
-    check_masks(&rt, rt.alloc(), b"Core:4 PU:2(indexes=2*4:1*2)", &cases)
+    let table = "1 0 2=0xff;0xff
+3 0 2=0x11 0x22 0xcc;0x88 0x44 0x33
+3 1 1=0x11 0x22 0xcc;0x88 0x44 0x33
+5 1 2=0x1 0x10 0x22 0x44 0x88;0x80 0x8 0x44 0x22 0x11";
+    check_masks(&rt, rt.alloc(), b"Core:4 PU:2(indexes=2*4:1*2)", table)
 }
 
 #[test]
 fn sixty_pus(rt: HostRuntime) -> Result<(), Fail> {
-    let cases: [Case; 4] = [
-        (
-            4,
-            2,
-            3,
-            false,
-            &[0x3ff, 0x3ffffc00, 0xffc0000000, 0xfffff0000000000],
-        ),
-        (
-            4,
-            2,
-            3,
-            true,
-            &[0xffc000000000000, 0x3ffffc0000000, 0x3ff00000, 0xfffff],
-        ),
-        (
-            7,
-            0,
-            4,
-            false,
-            &[
-                0xf,
-                0x3f0,
-                0xffc00,
-                0x3ff00000,
-                0xffc0000000,
-                0x3ff0000000000,
-                0xffc000000000000,
-            ],
-        ),
-        (
-            7,
-            0,
-            4,
-            true,
-            &[
-                0xf00000000000000,
-                0xfc000000000000,
-                0x3ff0000000000,
-                0xffc0000000,
-                0x3ff00000,
-                0xffc00,
-                0x3ff,
-            ],
-        ),
-    ];
-    check_masks(&rt, rt.alloc(), b"Package:2 Die:3 Core:5 PU:2", &cases)
+    let table =
+        "4 2 3=0x3ff 0x3ffffc00 0xffc0000000 0xfffff0000000000;0xffc000000000000 0x3ffffc0000000 0x3ff00000 0xfffff
+7 0 4=0xf 0x3f0 0xffc00 0x3ff00000 0xffc0000000 0x3ff0000000000 0xffc000000000000;\
+    0xf00000000000000 0xfc000000000000 0x3ff0000000000 0xffc0000000 0x3ff00000 0xffc00 0x3ff";
+    check_masks(&rt, rt.alloc(), b"Package:2 Die:3 Core:5 PU:2", table)
 }

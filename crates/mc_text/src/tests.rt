@@ -76,11 +76,8 @@ fn no_command_stands_behind_quit(rt: HostRuntime) {
     assert!(rt; commands.rest() == b"get b\r\nquit\r\n".as_slice());
 }
 
-#[test]
-fn gives_the_parts_of_commands(rt: HostRuntime) -> Result<(), Fail> {
-    let mut commands = Commands::new(
-        b"cas k 007 -0 8 9 noreply\r\n\r\n\0\"\\\xff\r\n\r\ngets a b a\r\nincr n 5\r\nset",
-    );
+// `cas k 007 -0 8 9 noreply` and its block of eight bytes.
+fn check_store(rt: &impl Abort, command: Option<Command>) -> Result<(), Fail> {
     let Some(
         Command::Store {
             key,
@@ -92,20 +89,25 @@ fn gives_the_parts_of_commands(rt: HostRuntime) -> Result<(), Fail> {
             spelling,
             ..
         },
-    ) = commands.next()
+    ) = command
     else {
         return Err("a storage command".into());
     };
     assert!(rt; key == b"k".as_slice() && block == b"\r\n\0\"\\\xff\r\n".as_slice());
     assert!(rt; flags == 7 && exptime == 0 && unique == 9 && quiet);
     assert_eq!(rt; spelling.len(), 36);
+    Ok(())
+}
+
+// `gets a b a`.
+fn check_get(rt: &impl Abort, command: Option<Command>) -> Result<(), Fail> {
     let Some(
         Command::Get {
             uniques,
             mut keys,
             spelling,
         },
-    ) = commands.next()
+    ) = command
     else {
         return Err("a retrieval command".into());
     };
@@ -115,6 +117,16 @@ fn gives_the_parts_of_commands(rt: HostRuntime) -> Result<(), Fail> {
         assert!(rt; key == name.as_slice());
     }
     assert!(rt; keys.next().is_none());
+    Ok(())
+}
+
+#[test]
+fn gives_the_parts_of_commands(rt: HostRuntime) -> Result<(), Fail> {
+    let mut commands = Commands::new(
+        b"cas k 007 -0 8 9 noreply\r\n\r\n\0\"\\\xff\r\n\r\ngets a b a\r\nincr n 5\r\nset",
+    );
+    check_store(&rt, commands.next())?;
+    check_get(&rt, commands.next())?;
     assert!(rt;
         matches!(
             commands.next(),

@@ -18,32 +18,53 @@ fn told(rt: &impl Abort, text: &[u8]) -> CalcFault {
     }
 }
 
+// Checks the faults of terms on `Core:2 PU:2`.
+fn refuse_terms(rt: &impl Abort, alloc: Global, table: &[u8]) {
+    let topology = built(rt, alloc, b"Core:2 PU:2");
+    for line in table.split(|byte| *byte == b'\n') {
+        let (word, fault) = halves(rt, line);
+        match read_term(alloc, &topology, word, WORD) {
+            Ok(_) => panic!(rt; "a bad term was read"),
+            Err(found) => assert_eq!(rt; found, told(rt, fault)),
+        }
+    }
+}
+
+#[test]
+fn terms_without_a_layer(rt: HostRuntime) {
+    let table: &[u8] = b"foo=type
+foo:0=type
+core:1.foo:0=type
+foo:0.core:x=type
+core:0.=type
+.core:0=type
+core:0..pu:0=type
+ALL=type
+all.pu:0=type
+numa:0=type
+group:0=type
+x~core:0=type
+xx=type";
+    refuse_terms(&rt, rt.alloc(), table);
+}
+
 #[test]
 fn bad_terms(rt: HostRuntime) {
-    let topology = built(&rt, rt.alloc(), b"Core:2 PU:2");
     let table: &[u8] = b"core:x=0
 core=0
-foo=type
-foo:0=type
 =0
 ~=1
 x=1
 ^=1
 ^core:=1
 ~core:0.pu:q=8
-core:1.foo:0=type
 core:1.pu=7
 core:x.foo:0=0
-foo:0.core:x=type
-core:0.=type
-.core:0=type
-core:0..pu:0=type
 0x1,=0
 ~0xg=1
 0x1.pu:0=0
 9g=0
 0xf...f=0
-ALL=type
 core:ALL=0
 core:+1=0
 core:-1=0
@@ -58,19 +79,8 @@ core:0-4294967296=0
 core:4294967296-=0
 core:0:4294967296=0
 core: 1=0
-core:0.pu:0.core:0.pu:z=19
-all.pu:0=type
-numa:0=type
-group:0=type
-x~core:0=type
-xx=type";
-    for line in table.split(|byte| *byte == b'\n') {
-        let (word, fault) = halves(&rt, line);
-        match read_term(rt.alloc(), &topology, word, WORD) {
-            Ok(_) => panic!(&rt; "a bad term was read"),
-            Err(found) => assert_eq!(&rt; found, told(&rt, fault)),
-        }
-    }
+core:0.pu:0.core:0.pu:z=19";
+    refuse_terms(&rt, rt.alloc(), table);
 }
 
 #[test]

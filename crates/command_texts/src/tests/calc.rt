@@ -58,14 +58,8 @@ const USUAL: &str =
      L1dCache:1(size=32768) L1iCache:1(size=32768) Core:1 PU:2(indexes=2*32:1*2)";
 
 #[test]
-fn every_form_of_locations_and_answers(rt: HostRuntime) -> Result<(), Fail> {
+fn every_form_of_locations(rt: HostRuntime) -> Result<(), Fail> {
     let table = "package:1.core:0- ~pu:5 x0xf0 core:3:2=0x000000d3
--I core package:1.core:0- ~pu:5 x0xf0 core:3:2=0,2,3
--N core package:1.core:0- ~pu:5 x0xf0 core:3:2=3
--H package.core package:1.core:0- ~pu:5 x0xf0 core:3:2=Package:0.Core:0 Package:1.Core:0 Package:1.Core:1
---largest package:1.core:0- ~pu:5 x0xf0 core:3:2=Core:0 PU:4 Core:3
---single package:1.core:0- ~pu:5 x0xf0 core:3:2=0x00000001
---taskset package:1.core:0- ~pu:5 x0xf0 core:3:2=0xd3
 core:1-2=0x0000003c
 core:3-3=0x000000c0
 core:2-=0x000000f0
@@ -92,7 +86,18 @@ package:1.pu:3:2=0x00000090
 core:1.core:0=0x0000000c
 package:1.machine:0=0x0
 core:9=0x0
-core:4294967295=0x0
+core:4294967295=0x0";
+    answers(&rt, rt.alloc(), PLAIN, table)
+}
+
+#[test]
+fn every_kind_of_answer(rt: HostRuntime) -> Result<(), Fail> {
+    let table = "-I core package:1.core:0- ~pu:5 x0xf0 core:3:2=0,2,3
+-N core package:1.core:0- ~pu:5 x0xf0 core:3:2=3
+-H package.core package:1.core:0- ~pu:5 x0xf0 core:3:2=Package:0.Core:0 Package:1.Core:0 Package:1.Core:1
+--largest package:1.core:0- ~pu:5 x0xf0 core:3:2=Core:0 PU:4 Core:3
+--single package:1.core:0- ~pu:5 x0xf0 core:3:2=0x00000001
+--taskset package:1.core:0- ~pu:5 x0xf0 core:3:2=0xd3
 -I pu --single core:2-=4
 -I pu -p core:odd=2,3,6,7
 -N pu --single all=1
@@ -466,54 +471,36 @@ fn words_of_every_form(rt: HostRuntime) -> Result<(), Fail> {
 // What differs from hwloc-calc 2.9 (docs/DECISIONS.md); its answer stands beside each row.
 #[test]
 fn answers_of_this_profile(rt: HostRuntime) -> Result<(), Fail> {
-    let loops = "Core:4 PU:2(indexes=2*4:1*2)";
-    let cases: [(&[&str], &str); 16] = [
-        // It reads locations from standard input.
-        (&["calc", "PU:2"], "0x0\n"),
-        // 0xc, and no end.
-        (&["calc", "PU:4", "pu:2-0"], "0x0\n"),
-        (&["calc", "PU:4", "pu:5-"], "0x0\n"),
-        // 0x3.
-        (&["calc", "PU:4", "pu:4:2"], "0x0\n"),
+    // It reads locations from standard input.
+    prints(&rt, rt.alloc(), &["calc", "PU:2"], Status::Ok, "0x0\n", "")?;
+    let cases = [
+        ("PU:4", "pu:2-0=0x0"), // 0xc
+        ("PU:4", "pu:5-=0x0"), // no end
+        ("PU:4", "pu:4:2=0x0"), // 0x3
         // 0xc3.
-        (&["calc", "-p", loops, "pu:6:4"], "0x000000c0\n"),
+        ("Core:4 PU:2(indexes=2*4:1*2)", "-p pu:6:4=0x000000c0"),
         // 0x1: it sorts siblings by their sets.
-        (&["calc", "PU:4(indexes=3,2,1,0)", "pu:0"], "0x00000008\n"),
-        (
-            &["calc", "Core:2 PU:2(indexes=2,3,0,1)", "core:0"],
-            "0x0000000c\n",
-        ),
+        ("PU:4(indexes=3,2,1,0)", "pu:0=0x00000008"),
+        ("Core:2 PU:2(indexes=2,3,0,1)", "core:0=0x0000000c"),
         // It drops Groups and levels that add nothing.
-        (
-            &["calc", "-N", "group", "Group:1 Core:2 PU:2", "all"],
-            "1\n",
-        ),
-        (
-            &["calc", "-H", "l1", "L1:2 PU:2", "all"],
-            "L1dCache:0 L1dCache:1\n",
-        ),
+        ("Group:1 Core:2 PU:2", "-N group all=1"),
+        ("L1:2 PU:2", "-H l1 all=L1dCache:0 L1dCache:1"),
         // 0x0, and -1,-1.
-        (&["calc", "-p", "L2:2 PU:2", "l2:1"], "0x0000000c\n"),
-        (&["calc", "-p", "-I", "l2", "L2:2 PU:2", "all"], "0,1\n"),
+        ("L2:2 PU:2", "-p l2:1=0x0000000c"),
+        ("L2:2 PU:2", "-p -I l2 all=0,1"),
         // Package:1.Core:2 for its second object.
-        (
-            &["calc", "-p", "-H", "package.core", PLAIN, "core:2"],
-            "Package:1.Core:0\n",
-        ),
+        (PLAIN, "-p -H package.core core:2=Package:1.Core:0"),
         // 0x5: it counts physical numbers without gaps.
-        (
-            &["calc", "-p", "PU:4(indexes=0,2,4,6)", "pu:all"],
-            "0x00000055\n",
-        ),
+        ("PU:4(indexes=0,2,4,6)", "-p pu:all=0x00000055"),
         // Core:0.Package:0 and so on.
-        (&["calc", "-H", "core.package", PLAIN, "all"], "\n"),
+        (PLAIN, "-H core.package all="),
         // Nothing.
-        (&["calc", "PU:8", "10"], "0x00000010\n"),
+        ("PU:8", "10=0x00000010"),
         // The same with status 1.
-        (&["calc", "PU:2", "--largest", "0x7"], "Machine:0\n"),
+        ("PU:2", "--largest 0x7=Machine:0"),
     ];
-    for (words, out) in cases {
-        prints(&rt, rt.alloc(), words, Status::Ok, out, "")?;
+    for (description, row) in cases {
+        answers(&rt, rt.alloc(), description, row)?;
     }
     Ok(())
 }

@@ -1,68 +1,70 @@
 // What `distrib` prints, and how its words are read.
-use super::{prints, text};
-use crate::{Fault, OptionName, Status};
-use distrib_rules::DistribFault;
+use super::{answered, prints, text};
+use crate::{Status, line};
+use byte_text::number32;
+use std::alloc::Global;
+use std::process::Abort;
 use std::test::Fail;
-use synth_text::SynthFault;
 
 const TREE: &str = "Package:2 Core:2 PU:2";
 
+// The words of a row, between which a space stands. A `*` stands for the description.
+fn listed<'a>(alloc: Global, row: &'a str, description: &'a str) -> Result<Vec<&'a str>, Fail> {
+    let mut words = Vec::new(alloc);
+    for word in row.split(' ') {
+        words.push(if word == "*" { description } else { word })?;
+    }
+    Ok(words)
+}
+
+// Checks the masks of a description. A line of the table has words, and behind a `|` the lines that are printed, with a space
+// between two.
+fn shares<R: Abort>(rt: &R, alloc: Global, description: &str, table: &str) -> Result<(), Fail> {
+    for row in table.split('\n') {
+        let (words, masks) = row.split_once('|').ok_or("a row without masks")?;
+        let printed = text(rt, alloc, &listed(alloc, words, description)?)?;
+        let mut wanted = String::new(alloc);
+        for mask in masks.split(' ') {
+            wanted.push_str(mask)?;
+            wanted.push('\n')?;
+        }
+        assert_eq!(rt; printed.as_slice(), wanted.as_bytes(), "{row}");
+    }
+    Ok(())
+}
+
 #[test]
 fn prints_masks(rt: HostRuntime) -> Result<(), Fail> {
-    let cases: [(&[&str], &str); 16] = [
-        (
-            &["distrib", "3", TREE],
-            "0x00000003\n0x0000000c\n0x000000f0\n",
-        ),
-        (
-            &["distrib", "--reverse", "3", TREE],
-            "0x000000c0\n0x00000030\n0x0000000f\n",
-        ),
-        (
-            &["distrib", "3", TREE, "--reverse"],
-            "0x000000c0\n0x00000030\n0x0000000f\n",
-        ),
-        (&["distrib", "003", "--taskset", TREE], "0x3\n0xc\n0xf0\n"),
-        (
-            &["distrib", "--single", "3", TREE],
-            "0x00000001\n0x00000004\n0x00000010\n",
-        ),
-        (
-            &["distrib", "--single", "--taskset", "--reverse", "3", TREE],
-            "0x40\n0x10\n0x1\n",
-        ),
-        (&["distrib", "1", "PU:2"], "0x00000003\n"),
-        (&["distrib", "2", "Core:3 PU:1"], "0x00000001\n0x00000006\n"),
-        (&["distrib", "--from", "pu", "1", "PU:2"], "0x00000003\n"),
-        (
-            &["distrib", "--to=package", "4", TREE],
-            "0x0000000f\n0x0000000f\n0x000000f0\n0x000000f0\n",
-        ),
-        (
-            &["distrib", "--at", "core", "4", TREE],
-            "0x00000003\n0x0000000c\n0x00000030\n0x000000c0\n",
-        ),
-        (
-            &["distrib", "--from=package", "--to=Core", "2", TREE],
-            "0x0000000f\n0x000000f0\n",
-        ),
-        (
-            &["distrib", "--at", "numa", "2", "Package:2 [numa] PU:2"],
-            "0x00000003\n0x0000000c\n",
-        ),
-        (&["distrib", "--", "1", "PU:2"], "0x00000003\n"),
-        (
-            &["distrib", "--from", "numa", "2", "Package:2 [numa] PU:2"],
-            "0x00000003\n0x0000000c\n",
-        ),
-        (
-            &["distrib", "5", "L1i:3 PU:5"],
-            "0x00000003\n0x0000001c\n0x00000060\n0x00000380\n0x00007c00\n",
-        ),
-    ];
-    for (words, out) in cases {
-        prints(&rt, rt.alloc(), words, Status::Ok, out, "")?;
-    }
+    let table = "distrib 3 *|0x00000003 0x0000000c 0x000000f0
+distrib --reverse 3 *|0x000000c0 0x00000030 0x0000000f
+distrib 3 * --reverse|0x000000c0 0x00000030 0x0000000f
+distrib 003 --taskset *|0x3 0xc 0xf0
+distrib --single 3 *|0x00000001 0x00000004 0x00000010
+distrib --single --taskset --reverse 3 *|0x40 0x10 0x1
+distrib --to=package 4 *|0x0000000f 0x0000000f 0x000000f0 0x000000f0
+distrib --at core 4 *|0x00000003 0x0000000c 0x00000030 0x000000c0
+distrib --at core --taskset 4 *|0x3 0xc 0x30 0xc0
+distrib --from=package --to=Core 2 *|0x0000000f 0x000000f0";
+    shares(&rt, rt.alloc(), TREE, table)?;
+    let table = "distrib 1 *|0x00000003
+distrib --from pu 1 *|0x00000003
+distrib -- 1 *|0x00000003";
+    shares(&rt, rt.alloc(), "PU:2", table)?;
+    shares(
+        &rt,
+        rt.alloc(),
+        "Core:3 PU:1",
+        "distrib 2 *|0x00000001 0x00000006",
+    )?;
+    let table = "distrib --at numa 2 *|0x00000003 0x0000000c
+distrib --from numa 2 *|0x00000003 0x0000000c";
+    shares(&rt, rt.alloc(), "Package:2 [numa] PU:2", table)?;
+    shares(
+        &rt,
+        rt.alloc(),
+        "L1i:3 PU:5",
+        "distrib 5 *|0x00000003 0x0000001c 0x00000060 0x00000380 0x00007c00",
+    )?;
     Ok(())
 }
 
@@ -124,67 +126,40 @@ fn refuses_words(rt: HostRuntime) -> Result<(), Fail> {
     )
 }
 
-#[test]
-fn refuses_types_and_numbers(rt: HostRuntime) -> Result<(), Fail> {
-    let cases: [(&[&str], Status, &str); 11] = [
-        (
-            &["distrib", "0", "PU:2"],
-            Status::Malformed(Fault::Distrib(DistribFault::ZeroMasks)),
-            "clof: distrib ZeroMasks\n",
-        ),
-        (
-            &["distrib", "4097", "PU:2"],
-            Status::Limit(Fault::Distrib(DistribFault::TooManyMasks)),
-            "clof: distrib TooManyMasks\n",
-        ),
-        (
-            &["distrib", "4294967295", "PU:2"],
-            Status::Limit(Fault::Distrib(DistribFault::TooManyMasks)),
-            "clof: distrib TooManyMasks\n",
-        ),
-        (
-            &["distrib", "--from", "pu", "--to", "machine", "1", "PU:2"],
-            Status::Malformed(Fault::Distrib(DistribFault::Reversed)),
-            "clof: distrib Reversed\n",
-        ),
-        (
-            &["distrib", "--from", "core", "0", "PU:2"],
-            Status::Malformed(Fault::TypeOf(OptionName::From)),
-            "clof: type --from\n",
-        ),
-        (
-            &["distrib", "--to", "core", "--from", "die", "0", "PU:2"],
-            Status::Malformed(Fault::TypeOf(OptionName::From)),
-            "clof: type --from\n",
-        ),
-        (
-            &["distrib", "--to=", "1", "PU:2"],
-            Status::Malformed(Fault::TypeOf(OptionName::To)),
-            "clof: type --to\n",
-        ),
-        (
-            &["distrib", "--at", "numa", "1", "PU:2"],
-            Status::Malformed(Fault::TypeOf(OptionName::At)),
-            "clof: type --at\n",
-        ),
-        (
-            &["distrib", "--at", "core", "1", "Core:2 PU:0"],
-            Status::Malformed(Fault::Synth(SynthFault::BadArity { at: 7 })),
-            "clof: synth BadArity 7\n",
-        ),
-        (
-            &["distrib", "0", ""],
-            Status::Malformed(Fault::Synth(SynthFault::Empty)),
-            "clof: synth Empty\n",
-        ),
-        (
-            &["distrib", "1", "PU:4097"],
-            Status::Limit(Fault::Synth(SynthFault::TooManyObjects)),
-            "clof: synth TooManyObjects\n",
-        ),
-    ];
-    for (words, status, err) in cases {
-        prints(&rt, rt.alloc(), words, status, "", err)?;
+// Checks how words are refused. A line of the table has words, and behind a `|` the status's code and its line.
+fn refuses<R: Abort>(rt: &R, alloc: Global, description: &str, table: &str) -> Result<(), Fail> {
+    for row in table.split('\n') {
+        let (words, wanted) = row.split_once('|').ok_or("a row without an end")?;
+        let (code, told) = wanted.split_once(' ').ok_or("a row without a line")?;
+        let Err(status) = answered(alloc, &listed(alloc, words, description)?)? else {
+            panic!(rt; "the words are not refused");
+        };
+        let number = u32::from(status.code());
+        assert_eq!(rt; Some(number), number32(code.as_bytes()), "{row}");
+        assert_eq!(rt;
+            line(&status).as_str().strip_suffix('\n'),
+            Some(told),
+            "{row}"
+        );
     }
     Ok(())
+}
+
+#[test]
+fn refuses_types_and_numbers(rt: HostRuntime) -> Result<(), Fail> {
+    let table = "distrib 0 *|3 clof: distrib ZeroMasks
+distrib 4097 *|4 clof: distrib TooManyMasks
+distrib 4294967295 *|4 clof: distrib TooManyMasks
+distrib --from pu --to machine 1 *|3 clof: distrib Reversed
+distrib --from core 0 *|3 clof: type --from
+distrib --to core --from die 0 *|3 clof: type --from
+distrib --to= 1 *|3 clof: type --to
+distrib --at numa 1 *|3 clof: type --at";
+    refuses(&rt, rt.alloc(), "PU:2", table)?;
+    let row = "distrib --at core 1 *|3 clof: synth BadArity 7";
+    refuses(&rt, rt.alloc(), "Core:2 PU:0", row)?;
+    let row = "distrib 0 *|3 clof: synth Empty";
+    refuses(&rt, rt.alloc(), "", row)?;
+    let row = "distrib 1 *|4 clof: synth TooManyObjects";
+    refuses(&rt, rt.alloc(), "PU:4097", row)
 }
