@@ -74,7 +74,8 @@ fn check_line(rt: &impl Abort, alloc: Global, topology: &Topology, line: &str) -
 }
 
 fn number(word: Option<&[u8]>) -> Result<u32, Fail> {
-    let number = word.and_then(number32).ok_or("a line without its numbers")?;
+    let word = word.ok_or("a line with too few numbers")?;
+    let number = number32(word).ok_or("a number with another byte than digits")?;
     Ok(number)
 }
 
