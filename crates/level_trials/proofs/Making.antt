@@ -39,9 +39,9 @@ module _ (name : TableId) (shape : Shape) (quotas : List ℕ) (t : Tag) (root : 
     enough = subst (λ (q : List ℕ). sum q ≤ vec_capacity roll.callers) (sym quotas_made) enough;
   }
 
-  -- and of a root that comes back with the same tag
-  pub shape_kept : (r : Root Roll) → root_tag roll_tag r ≡ t → r.trail.shape ≡ shape
-  shape_kept r same = sym (ap (λ (c : Course). c.shape) (course_is calls_of roll_tag t r same)) ∙ shape_made
+-- the shape and the quotas of a root are those that its tag names
+pub shape_named : (r : Root Roll) (t : Tag) → root_tag roll_tag r ≡ t → r.trail.shape ≡ (course_of t).shape
+shape_named r t same = sym (ap (λ (c : Course). c.shape) (course_is calls_of roll_tag t r same))
 
-  pub quotas_kept : (r : Root Roll) → root_tag roll_tag r ≡ t → r.trail.quotas ≡ quotas
-  quotas_kept r same = sym (ap (λ (c : Course). c.quotas) (course_is calls_of roll_tag t r same)) ∙ quotas_made
+pub quotas_named : (r : Root Roll) (t : Tag) → root_tag roll_tag r ≡ t → r.trail.quotas ≡ (course_of t).quotas
+quotas_named r t same = sym (ap (λ (c : Course). c.quotas) (course_is calls_of roll_tag t r same))

@@ -17,7 +17,7 @@ mod walks;
 
 pub use holds::{Job, hold, hold_all};
 pub use jobs::{close_ended, deal};
-pub use levels::{AboveTicket, Lacking, Owned, Whole, walk_under};
+pub use levels::{AboveTicket, Lacking, Owned, TopTrial, Whole, make_top_trial, walk_under};
 pub use roll::Roll;
 pub use shapes::{copy_of, shape_of};
 pub use walker::{State, Walker};
