@@ -2,6 +2,7 @@
 #![tactic(auto)]
 
 ghost use Rattle.std.specs.Prelude.{◌≡◌, ◌^◌, ◌<◌, ℕ, length, sum, slice_get, Some, IfSome};
+ghost use Rattle.std.specs.Thread.{IsSync};
 ghost use Rattle.keep_local.specs.Shapes.{IsWellFormed, callers_of, top_of};
 ghost use Rattle.clof_compose.specs.Courses.{course_of};
 ghost use Rattle.clof_compose.specs.Roots.{IsFit};
@@ -62,12 +63,9 @@ impl<'a, R: Wait> Works<Job<LowPass>> for Shift<'a, R> {
 /// Each caller of a lock of five levels does its job in a thread of its own.
 pub struct InThreads;
 
-impl Runs<Lock5> for InThreads {
-    fn run<R: Threads + Wait + Sync>(
-        rt: &R,
-        lock: &Lock5,
-        jobs: Vec<Job<LowPass>>,
-    ) -> Option<Vec<Job<LowPass>>>
+impl<R: Threads + Wait + Sync> Runs<Lock5, R> for InThreads {
+    fn run(rt: &R, lock: &Lock5, jobs: Vec<Job<LowPass>>) -> Option<Vec<Job<LowPass>>>
+        requires threads { IsSync R.row }
         requires sound { ⟦<Lock5 as Composed<Roll>>⟧.sound lock.now }
         requires lowest { ⟦<Lock5 as Composed<Roll>>⟧.level lock.now ≡ 0 }
         requires room { HasRoom (course_of (⟦<Lock5 as Composed<Roll>>⟧.tag lock.now)) }
