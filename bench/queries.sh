@@ -8,6 +8,7 @@
 # With a WORD only the rows whose name has it.
 set -eu
 cd "$(dirname "$0")/.."
+. bench/timing.sh
 ours=${1:-crates/clof/out/clof}
 only=${2:-}
 [ -x "$ours" ] || { echo "there is no $ours: run ./clof first" >&2; exit 1; }
@@ -19,9 +20,6 @@ microseconds() {
   "$@" > /dev/null 2>&1 < /dev/null || true
   echo $((${EPOCHREALTIME/./} - start))
 }
-
-# the middle one of the numbers in a file
-median() { sort -n "$1" | sed -n "$((($(wc -l < "$1") + 1) / 2))p"; }
 
 # NAME, then the words behind clof, then -- and the words of the other program
 row() {
@@ -51,7 +49,7 @@ wide="Package:4 L3:4 Core:64 PU:4"
 # 4,095 PUs, and 16,381 objects
 limit="Group:1365 Group:1 Group:1 Group:1 Group:1 Group:1 Group:1 Group:1 Group:1 PU:3"
 
-printf '%s, %s processors, load %s\n' "$(sed -n 's/^model name[^:]*: //p' /proc/cpuinfo | head -1)" "$(nproc)" "$(cut -d' ' -f1 /proc/loadavg)"
+machine
 printf '%-34s %10s %10s %7s %5s\n' query 'ms here' 'ms hwloc' ratio same
 row 'a set, 8 PUs' calc "$small" core:1 -- hwloc-calc -i "$small" core:1
 row '-N pu, 8 PUs' calc -N pu "$small" core:1-2 -- hwloc-calc -i "$small" -N pu core:1-2

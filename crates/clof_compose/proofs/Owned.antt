@@ -10,7 +10,6 @@ use Rattle.clof_compose.specs.Calls.{HasOpened}
 use Rattle.clof_compose.specs.Contexts.{Context, own_tag}
 use Rattle.clof_compose.specs.Levels.{IsHolding, IsStanding, kept_stand}
 use Rattle.clof_compose.specs.Meanings.{Rest, Stand}
-use Rattle.clof_compose.specs.Nodes.{IsContextOfNode}
 use Rattle.clof_compose.specs.Roots.{IsKept}
 use Rattle.clof_compose.specs.Owns.{IsHandedOver, IsKeptFor, IsOwnFit, context_in, is_kept, own_tag_of}
 use Rattle.clof_compose.specs.declared.own.High.{High}
@@ -33,30 +32,27 @@ module _ {P Pass Held : Type 0} (rest : Pass → Rest) (stand : Held → Stand (
   kept_context Away e = absurd (cc)
 
   -- the root of a kept high lock
-  pub handed_over : (has : Context → Type 0) (t : Tag) (level node kept : ℕ) (said : Bool) (high : High Pass Held) (r : Root P)
-      → is_kept rest stand high ≡ true
-      → IsOwnFit rest stand calls tag stands node kept said high → IsContextOfNode has level t node (context_in rest stand high)
-      → (kept_stand stand high).root ≡ Some r
+  pub handed_over : (t : Tag) (level node kept : ℕ) (said : Bool) (high : High Pass Held) (r : Root P) → is_kept rest stand high ≡ true
+      → IsOwnFit rest stand calls tag stands node kept said high → (context_in rest stand high).level ≡ level + 1
+      → (context_in rest stand high).tag ≡ t → (kept_stand stand high).root ≡ Some r
       → IsHandedOver calls tag t level node kept r
-  handed_over has t level node kept said high r e fit at root =
+  handed_over t level node kept said high r e fit at_level at_tag root =
       let k = kept_fit node kept said high e fit in
       let c = kept_context high e in
       let u : Tag = (kept_stand stand high).context.tag in
       let over : IsHandedOver calls tag u k.level node kept r = subst (λ (o : Option (Root P)). IsSomeAnd o (IsHandedOver calls tag u
       k.level node kept)) root k.root_is in
       let above = k.above in
-      let at_level = at.level_is in
       let same_level = ap (λ (x : Context). x.level) c in
       let level_is : k.level ≡ level = omega (arith, above, at_level, same_level) in
-      let tag_is : u ≡ t = sym (ap (λ (x : Context). x.tag) c) ∙ at.tag_is in
+      let tag_is : u ≡ t = sym (ap (λ (x : Context). x.tag) c) ∙ at_tag in
       subst (λ (x : Tag). IsHandedOver calls tag x level node kept r) tag_is (subst (λ (n : ℕ). IsHandedOver calls tag u n node kept r)
       level_is over)
 
   -- and its context
-  pub kept_above : (has : Context → Type 0) (t : Tag) (level node : ℕ) (high : High Pass Held) → is_kept rest stand high ≡ true
-      → IsContextOfNode has level t node (context_in rest stand high)
+  pub kept_above : (level : ℕ) (high : High Pass Held) → is_kept rest stand high ≡ true → (context_in rest stand high).level ≡ level + 1
       → (kept_stand stand high).context.level ≡ level + 1
-  kept_above has t level node high e at = sym (ap (λ (x : Context). x.level) (kept_context high e)) ∙ at.level_is
+  kept_above level high e at = sym (ap (λ (x : Context). x.level) (kept_context high e)) ∙ at
 
   pub kept_tagged : (node : ℕ) (tag_is : Tag) (high : High Pass Held) → is_kept rest stand high ≡ true
       → own_tag_of rest stand node high ≡ tag_is → own_tag node (kept_stand stand high).context ≡ tag_is

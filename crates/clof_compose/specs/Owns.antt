@@ -46,6 +46,13 @@ module _ {P : Type 0} (calls : P → List ℕ) (tag : P → Tag) where
     pub stands_is : stands
     pub root_is : IsSomeAnd s.root (IsHandedOver s.context.tag level node kept)
 
+module _ {Pass Held : Type 0} where
+  -- the part is the pass of the node
+  abbrev pub IsIdlePart : High Pass Held → Type 0
+  IsIdlePart (Idle p) = Unit {0}
+  IsIdlePart (Kept h) = ⊥
+  IsIdlePart Away = ⊥
+
 module _ {P Pass Held : Type 0} (rest : Pass → Rest) (stand : Held → Stand (Root P)) where
   -- the context of the node in the high lock
   abbrev pub context_in : High Pass Held → Context

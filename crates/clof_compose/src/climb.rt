@@ -1,5 +1,5 @@
 //! How a node's holder takes the high lock.
-ghost use Rattle.std.specs.Prelude.{◌≡◌, ◌+◌, ◌<◌, IsSomeAnd, None};
+ghost use Rattle.std.specs.Prelude.{◌≡◌, ◌+◌, ◌<◌, IsSomeAnd, IfSome, IfNone, None};
 ghost use Rattle.lock_rules.specs.Holders.{holder_of};
 ghost use Rattle.lock_rules.specs.Steps.{IfNot, IfGot};
 ghost use Rattle.lock_rules.specs.declared.step.Answer.TheVariants.{Open};
@@ -9,16 +9,17 @@ ghost use Rattle.clof_compose.specs.Courses.{course_of};
 ghost use Rattle.clof_compose.specs.Levels.{IsClimbing, IsHolding, IsStanding, kept_stand};
 ghost use Rattle.clof_compose.specs.Nodes.{IsContextOfNode};
 ghost use Rattle.clof_compose.specs.Owns.{IsOwnFit, own_tag_of, context_in};
-ghost use Rattle.clof_compose.specs.declared.own.High.TheVariants.{Kept};
+ghost use Rattle.clof_compose.specs.declared.own.High.TheVariants.{Idle, Kept, Away};
 
 use crate::composed::Composed;
 use crate::own::{High, Own};
 use crate::own_cargo::kept_root;
 use crate::payload::Payload;
+use crate::token::{Resting, Standing};
 use crate::turns::open_turn;
 use keep_local::Share;
 use lock_rules::{Cargo, Held as Holds, Step};
-use std::mem;
+use std::sync::Wait;
 
 /// The value of a node whose high lock is H, in its holder's hand.
 pub(crate) type InHand<P, H> = Holds<Own<P, <H as Composed<P>>::Pass, <H as Composed<P>>::Held>>;
@@ -53,28 +54,75 @@ pub(crate) fn take_high<P: Payload, H: Composed<P>>(
     ensures opened { IfGot result (λ h. IsSomeAnd (kept_stand H.Held.stand h.value.high).root (HasOpened P.calls P.tag
         (H.tag high.now) level share.new)) }
 {
-    if low.value.parked() {
-        open_turn(kept_root(&mut low.value.high), share, level);
+    let Some(pass) = open_kept(&mut low.value, level, share) else {
         return Step::Got(low);
-    }
-    let High::Idle(pass) = mem::replace(&mut low.value.high, High::Away) else {
-        unreachable!()
     };
     match high.begin(pass, share) {
         Step::Not(queue) => Step::Not((low, queue)),
-        Step::Got(held) => Step::Got(keep_high(low, held)),
+        Step::Got(held) => {
+            keep_high(&mut low.value, held);
+            Step::Got(low)
+        }
     }
 }
 
-/// The value of a node whose holder has taken the high lock anew.
-pub(crate) fn keep_high<P, Pass: Drop, Held: Drop>(
-    mut low: Holds<Own<P, Pass, Held>>,
-    high: Held,
-) -> Holds<Own<P, Pass, Held>>
-    ensures seat { result.seat ≡ low.seat }
-    ensures value { result.value ≡ record low.value { kept = 0; high = Kept high } }
+/// Takes the high lock for a node's holder, as `take_high` does, and waits for it.
+pub(crate) fn wait_for_high<P: Payload, H: Composed<P>, R: Wait>(
+    high: &H,
+    rt: &R,
+    own: &mut Own<P, H::Pass, H::Held>,
+    level: u32,
+    share: &mut Share,
+)
+    requires sound { H.sound high.now }
+    requires above { H.level high.now ≡ level + 1 }
+    requires context { IsContextOfNode (H.has high.now) level (H.tag high.now) own.old.node
+        (context_in H.Pass.rest H.Held.stand own.old.high) }
+    requires fit { IsOwnFit H.Pass.rest H.Held.stand P.calls P.tag H.Held.stands own.old.node own.old.kept own.old.said own.old.high }
+    requires share { MayTurn (course_of (H.tag high.now)) (level + 1) own.old.node share.old }
+    ensures holds { IsHolding level own.new.node own.new.kept (own_tag_of H.Pass.rest H.Held.stand own.old.node own.old.high)
+        (IsStanding H.Held.stands own.new.high) (kept_stand H.Held.stand own.new.high) }
+    ensures made { share.new ≡ record share.old { made = share.old.made + 1 } }
+    ensures opened { IsSomeAnd (kept_stand H.Held.stand own.new.high).root (HasOpened P.calls P.tag (H.tag high.now) level share.new) }
 {
-    low.value.kept = 0;
-    low.value.high = High::Kept(high);
-    low
+    if let Some(pass) = open_kept(own, level, share) {
+        let held = high.acquire(rt, pass, share);
+        keep_high(own, held);
+    }
+}
+
+// Where the high lock is kept, opens a turn that climbed to this level. Else the answer is the node's pass, which is to go up.
+fn open_kept<P: Payload, Pass: Resting, Held: Standing<P>>(
+    own: &mut Own<P, Pass, Held>,
+    level: u32,
+    share: &mut Share,
+) -> Option<Pass>
+    requires above { (context_in Pass.rest Held.stand own.old.high).level ≡ level + 1 }
+    requires fit { IsOwnFit Pass.rest Held.stand P.calls P.tag Held.stands own.old.node own.old.kept own.old.said own.old.high }
+    requires share { MayTurn (course_of (context_in Pass.rest Held.stand own.old.high).tag) (level + 1) own.old.node share.old }
+    ensures holds { IfNone result (IsHolding level own.new.node own.new.kept (own_tag_of Pass.rest Held.stand own.old.node own.old.high)
+        (IsStanding Held.stands own.new.high) (kept_stand Held.stand own.new.high)) }
+    ensures made { IfNone result (share.new ≡ record share.old { made = share.old.made + 1 }) }
+    ensures opened { IfNone result (IsSomeAnd (kept_stand Held.stand own.new.high).root (HasOpened P.calls P.tag
+        (context_in Pass.rest Held.stand own.old.high).tag level share.new)) }
+    ensures pass { IfSome result (λ p. own.old.high ≡ Idle p) }
+    ensures away { IfSome result (λ _. own.new ≡ record own.old { high = Away }) }
+    ensures not_made { IfSome result (λ _. share.new ≡ share.old) }
+{
+    if own.parked() {
+        open_turn(kept_root(&mut own.high), share, level);
+        return None;
+    }
+    let High::Idle(pass) = own.high.replace(High::Away) else {
+        unreachable!()
+    };
+    Some(pass)
+}
+
+/// Puts the high lock that a node's holder has taken anew into the value.
+pub(crate) fn keep_high<P, Pass: Drop, Held: Drop>(own: &mut Own<P, Pass, Held>, high: Held)
+    ensures { own.new ≡ record own.old { kept = 0; high = Kept high } }
+{
+    own.kept = 0;
+    *own.high.get_mut() = High::Kept(high);
 }

@@ -52,7 +52,7 @@ pub(crate) fn close_nodes<P: Payload, H: Composed<P>, B: Basic<Own<P, H::Pass, H
 {
     while let Some(node) = nodes.pop() {
         let Own { high, .. } = node.lock.close(node.list);
-        let High::Idle(pass) = high else {
+        let High::Idle(pass) = high.into_inner() else {
             unreachable!()
         };
         passes.push_reserved(pass);

@@ -14,7 +14,6 @@ ghost use Rattle.clof_compose.specs.contracts.root.Root.{the_row};
 use crate::payload::Payload;
 use crate::root::Root;
 use crate::token::{Climbing, Descending, Resting, Standing};
-use crossbeam_utils::Backoff;
 use keep_local::Share;
 use lock_rules::Step;
 use std::sync::Wait;
@@ -111,6 +110,26 @@ pub trait Composed<P: Payload>: Sized {
         ensures pass { IfGot result (λ p. (Self.Pass.rest p).context ≡ (Self.Leave.descent leave).context) }
         ensures tests { IfGot result (λ p. (Self.Pass.rest p).tests ≡ (Self.Leave.descent leave).tests) };
 
+    /// Waits until the pass holds the lock.
+    fn acquire<R: Wait>(&self, rt: &R, pass: Self::Pass, share: &mut Share) -> Self::Held
+        requires sound { sound self.now }
+        requires own { has self.now (Self.Pass.rest pass).context }
+        requires share { MayTurn (course_of (tag self.now)) (level self.now) (Self.Pass.rest pass).context.number share.old }
+        ensures held { (Self.Held.stand result).context ≡ (Self.Pass.rest pass).context }
+        ensures stands { Self.Held.stands result }
+        ensures made { share.new ≡ record share.old { made = share.old.made + 1 } }
+        ensures opened { IsSomeAnd (Self.Held.stand result).root (HasOpened P.calls P.tag (tag self.now) (level self.now) share.new) };
+
+    /// Leaves the lock, and waits until the pass is idle again.
+    fn release<R: Wait>(&self, rt: &R, held: Self::Held) -> Self::Pass
+        requires sound { sound self.now }
+        requires own { has self.now (Self.Held.stand held).context }
+        requires stands { Self.Held.stands held }
+        requires root { IsSomeAnd (Self.Held.stand held).root (MayRelease P.calls P.tag (tag self.now) (level self.now)
+            (Self.Held.stand held).context.number) }
+        ensures pass { (Self.Pass.rest result).context ≡ (Self.Held.stand held).context }
+        ensures tests { SameBelow (level self.now) (tests_in (Self.Held.stand held).root) (Self.Pass.rest result).tests };
+
     /// Takes the lock apart, with all its passes in the order of their numbers.
     fn close(self, passes: Vec<Self::Pass>) -> Root<P>
         requires sound { sound self }
@@ -143,55 +162,5 @@ pub trait Composed<P: Payload>: Sized {
             → Self.Held.stands (Self.Held.put_root held.old r) }
     {
         held.root()
-    }
-
-    /// Waits until the pass holds the lock.
-    final fn acquire<R: Wait>(&self, rt: &R, pass: Self::Pass, share: &mut Share) -> Self::Held
-        requires sound { sound self.now }
-        requires own { has self.now (Self.Pass.rest pass).context }
-        requires share { MayTurn (course_of (tag self.now)) (level self.now) (Self.Pass.rest pass).context.number share.old }
-        ensures held { (Self.Held.stand result).context ≡ (Self.Pass.rest pass).context }
-        ensures stands { Self.Held.stands result }
-        ensures made { share.new ≡ record share.old { made = share.old.made + 1 } }
-        ensures opened { IsSomeAnd (Self.Held.stand result).root (HasOpened P.calls P.tag (tag self.now) (level self.now) share.new) }
-    {
-        let mut queue = match self.begin(pass, share) {
-            Step::Got(held) => return held,
-            Step::Not(queue) => queue,
-        };
-        let backoff = Backoff::new();
-        for _ in rt.forever() {
-            queue = match self.poll(queue, share) {
-                Step::Got(held) => return held,
-                Step::Not(queue) => queue,
-            };
-            backoff.snooze();
-        }
-        unreachable!()
-    }
-
-    /// Leaves the lock, and waits until the pass is idle again.
-    final fn release<R: Wait>(&self, rt: &R, held: Self::Held) -> Self::Pass
-        requires sound { sound self.now }
-        requires own { has self.now (Self.Held.stand held).context }
-        requires stands { Self.Held.stands held }
-        requires root { IsSomeAnd (Self.Held.stand held).root (MayRelease P.calls P.tag (tag self.now) (level self.now)
-            (Self.Held.stand held).context.number) }
-        ensures pass { (Self.Pass.rest result).context ≡ (Self.Held.stand held).context }
-        ensures tests { SameBelow (level self.now) (tests_in (Self.Held.stand held).root) (Self.Pass.rest result).tests }
-    {
-        let mut leave = match self.begin_release(held) {
-            Step::Got(pass) => return pass,
-            Step::Not(leave) => leave,
-        };
-        let backoff = Backoff::new();
-        for _ in rt.forever() {
-            leave = match self.poll_release(leave) {
-                Step::Got(pass) => return pass,
-                Step::Not(leave) => leave,
-            };
-            backoff.snooze();
-        }
-        unreachable!()
     }
 }

@@ -5,7 +5,7 @@ ghost use Rattle.clof_compose.specs.Levels.{level_context};
 ghost use Rattle.clof_compose.specs.Passes.{AreAll};
 ghost use Rattle.clof_compose.specs.Roots.{root_tag, IsFit};
 
-use crate::climb::keep_high;
+use crate::climb::{keep_high, wait_for_high};
 use crate::closing::{close_nodes, take_passes};
 use crate::composed::Composed;
 use crate::level_tokens::{LevelHeld, LevelLeave, LevelPass, LevelQueue};
@@ -13,11 +13,12 @@ use crate::node::{Node, lock_of};
 use crate::own::Own;
 use crate::passing::go_up;
 use crate::payload::Payload;
-use crate::release::{let_go, put_back};
+use crate::release::{let_go, let_go_and_wait, put_back};
 use crate::root::Root;
 use crate::stage::{LeaveStage, QueueStage};
 use keep_local::Share;
 use lock_rules::{Basic, Held as Holds, Step};
+use std::sync::Wait;
 
 /// A basic lock for each node of a level, over a high lock of which each node has one context.
 #[derive(Drop)]
@@ -85,15 +86,15 @@ impl<
                 }),
                 Step::Got(low) => go_up(&self.high, low, id, share),
             },
-            QueueStage::High(low, queue) => match self.high.poll(queue, share) {
+            QueueStage::High(mut low, queue) => match self.high.poll(queue, share) {
                 Step::Not(queue) => Step::Not(LevelQueue {
                     stage: QueueStage::High(low, queue),
                     id,
                 }),
-                Step::Got(held) => Step::Got(LevelHeld {
-                    low: keep_high(low, held),
-                    id,
-                }),
+                Step::Got(held) => {
+                    keep_high(&mut low.value, held);
+                    Step::Got(LevelHeld { low, id, filler: 0 })
+                }
             },
         }
     }
@@ -102,10 +103,10 @@ impl<
         &self,
         held: LevelHeld<P, H::Pass, H::Held>,
     ) -> Step<LevelLeave<P, B::Leave, H::Pass, H::Held, H::Leave>, LevelPass<B::Pass>> {
-        let LevelHeld { mut low, id } = held;
+        let LevelHeld { mut low, id, .. } = held;
         let lock = lock_of(&self.nodes, id.node);
-        let yes = lock.waiter(&mut low);
-        match let_go(&self.high, low, id.level, self.keep, yes) {
+        low.value.said = lock.waiter(&mut low);
+        match let_go(&self.high, low, id.level, self.keep) {
             Step::Not((low, leave)) => Step::Not(LevelLeave {
                 stage: LeaveStage::High(low, leave),
                 id,
@@ -128,7 +129,7 @@ impl<
         let lock = lock_of(&self.nodes, id.node);
         let (left, tests) = match stage {
             LeaveStage::Low(low, tests) => (lock.poll_release(low), tests),
-            LeaveStage::High(low, leave) => match self.high.poll_release(leave) {
+            LeaveStage::High(mut low, leave) => match self.high.poll_release(leave) {
                 Step::Not(leave) => {
                     return Step::Not(LevelLeave {
                         stage: LeaveStage::High(low, leave),
@@ -136,7 +137,7 @@ impl<
                     });
                 }
                 Step::Got(pass) => {
-                    let (low, tests) = put_back(low, pass);
+                    let tests = put_back(&mut low.value, pass);
                     (lock.begin_release(low), tests)
                 }
             },
@@ -148,6 +149,27 @@ impl<
             }),
             Step::Got(low) => Step::Got(LevelPass { low, id, tests }),
         }
+    }
+
+    fn acquire<R: Wait>(
+        &self,
+        rt: &R,
+        pass: LevelPass<B::Pass>,
+        share: &mut Share,
+    ) -> LevelHeld<P, H::Pass, H::Held> {
+        let id = pass.id;
+        let mut low = lock_of(&self.nodes, id.node).acquire(rt, pass.low);
+        wait_for_high(&self.high, rt, &mut low.value, id.level, share);
+        LevelHeld { low, id, filler: 0 }
+    }
+
+    fn release<R: Wait>(&self, rt: &R, held: LevelHeld<P, H::Pass, H::Held>) -> LevelPass<B::Pass> {
+        let LevelHeld { mut low, id, .. } = held;
+        let lock = lock_of(&self.nodes, id.node);
+        low.value.said = lock.waiter(&mut low);
+        let tests = let_go_and_wait(&self.high, rt, &mut low.value, id.level, self.keep);
+        let low = lock.release(rt, low);
+        LevelPass { low, id, tests }
     }
 
     fn close(self, passes: Vec<LevelPass<B::Pass>>) -> Root<P>

@@ -5,7 +5,9 @@ ghost use Rattle.clof_compose.specs.Contexts.{AreContexts, own_tag};
 ghost use Rattle.clof_compose.specs.Courses.{course_of};
 ghost use Rattle.clof_compose.specs.Levels.{level_context};
 ghost use Rattle.clof_compose.specs.Nodes.{AreFilled, AreLocks, IsGiven, IsInShape, IsLevel, IsOfLevel, locks_of, under};
+ghost use Rattle.clof_compose.specs.Owns.{IsIdlePart};
 ghost use Rattle.clof_compose.specs.Passes.{AreAll};
+ghost use Rattle.clof_compose.specs.declared.own.High.TheVariants.{Idle};
 
 use crate::closing::close_nodes;
 use crate::composed::Composed;
@@ -16,6 +18,7 @@ use crate::node::Node;
 use crate::own::{High, Own};
 use crate::payload::Payload;
 use crate::token::{Resting, Standing};
+use boxed_value::Boxed;
 use lock_rules::{Basic, Cargo, Held as Holds};
 use std::alloc::Global;
 use std::marker::PhantomData;
@@ -166,22 +169,32 @@ fn make_node<
     ensures lows { IfOk result (λ n. AreAllLow B.Pass.place (B.name n.lock) (B.tag n.lock) (B.count n.lock) n.list.items) }
     ensures refused { IfErr result (λ p. p ≡ pass) }
 {
+    let high = match Boxed::new(alloc, High::Idle(pass)) {
+        Ok(high) => high,
+        Err(high) => return Err(idle_pass(high)),
+    };
     let own = Own {
         node: number,
         kept: 0,
         said: false,
-        high: High::Idle(pass),
+        filler: [0; 7],
+        high,
         payload: PhantomData,
     };
     match B::make(alloc, recipe, contexts, own) {
         Ok((lock, list)) => Ok(Node { lock, list }),
-        Err(refused) => {
-            let Own { high, .. } = refused.value;
-            let High::Idle(pass) = high else {
-                unreachable!()
-            };
-            Err(pass)
-        }
+        Err(refused) => Err(idle_pass(refused.value.high.into_inner())),
+    }
+}
+
+// The pass of a high part that is idle.
+fn idle_pass<Pass: Drop, Held: Drop>(high: High<Pass, Held>) -> Pass
+    requires { IsIdlePart high }
+    ensures { high ≡ Idle result }
+{
+    match high {
+        High::Idle(pass) => pass,
+        _ => unreachable!(),
     }
 }
 

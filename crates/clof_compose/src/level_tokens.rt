@@ -26,6 +26,8 @@ pub struct LevelPass<L> {
 pub struct LevelHeld<P, Pass, Held> {
     pub(crate) low: Holds<Own<P, Pass, Held>>,
     pub(crate) id: ContextId,
+    // So that no byte only pads.
+    pub(crate) filler: u32,
 }
 
 #[derive(Drop)]

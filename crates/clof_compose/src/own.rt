@@ -1,4 +1,5 @@
 //! The value of a level's basic lock.
+use boxed_value::Boxed;
 use std::marker::PhantomData;
 
 /// What a level has of its high lock: the pass of its node, or the holder's token. It is away while the high lock is being taken or
@@ -17,6 +18,8 @@ pub struct Own<P, Pass, Held> {
     pub node: u32,
     pub kept: u32,
     pub said: bool,
-    pub high: High<Pass, Held>,
+    // The bytes up to the next word, so that none only pads.
+    pub(crate) filler: [u8; 7],
+    pub high: Boxed<High<Pass, Held>>,
     pub payload: PhantomData<P>,
 }

@@ -1,6 +1,7 @@
 //! How a node's value stands at home, and the loan of the root that it leads to.
 ghost use Rattle.std.specs.Prelude.{◌≡◌, true, Some};
 ghost use Rattle.std.specs.Borrow.{Lends, sem};
+ghost use Rattle.boxed_value.specs.contracts.Boxed.{the_row as the_boxed_row};
 ghost use Rattle.lock_rules.specs.Views.{answer_of};
 ghost use Rattle.clof_compose.specs.Levels.{kept_stand, high_with_root, IsStanding};
 ghost use Rattle.clof_compose.specs.Owns.{own_tag_of, is_kept, IsOwnFit};
@@ -13,6 +14,7 @@ use crate::own::{High, Own};
 use crate::payload::Payload;
 use crate::root::Root;
 use crate::token::{Resting, Standing};
+use boxed_value::Boxed;
 use lock_rules::Cargo;
 
 impl<P: Payload, Pass: Resting, Held: Standing<P>> Cargo for Own<P, Pass, Held> {
@@ -25,7 +27,7 @@ impl<P: Payload, Pass: Resting, Held: Standing<P>> Cargo for Own<P, Pass, Held> 
     ghost said = { λ o. answer_of o.said };
 
     fn parked(&self) -> bool {
-        match &self.high {
+        match self.high.get() {
             High::Kept(_) => true,
             _ => false,
         }
@@ -34,10 +36,10 @@ impl<P: Payload, Pass: Resting, Held: Standing<P>> Cargo for Own<P, Pass, Held> 
 
 /// Lends the root that is reached from a kept high lock.
 pub(crate) fn kept_root<P: Payload, Pass: Drop, Held: Standing<P>>(
-    high: &mut High<Pass, Held>,
+    high: &mut Boxed<High<Pass, Held>>,
 ) -> &mut Root<P>
     requires stands { IsStanding Held.stands high.old }
-    ensures* writes_back { sem 𝓛 (Lends (the_high_row Pass.row Held.row) (the_root_row P.row) high.entry result
+    ensures* writes_back { sem 𝓛 (Lends (the_boxed_row (the_high_row Pass.row Held.row)) (the_root_row P.row) high.entry result
         (high_with_root Held.put_root high.old)) }
     ensures value { (kept_stand Held.stand high.old).root ≡ Some result.now }
     ensures others { (r : TheRoot P) → kept_stand Held.stand (high_with_root Held.put_root high.old r) ≡ record
@@ -45,7 +47,7 @@ pub(crate) fn kept_root<P: Payload, Pass: Drop, Held: Standing<P>>(
     ensures stays { (r : TheRoot P) → IsKept P.calls (kept_stand Held.stand high.old).context.level result.now r
         → IsStanding Held.stands (high_with_root Held.put_root high.old r) }
 {
-    match high {
+    match high.get_mut() {
         High::Kept(held) => held.root(),
         _ => unreachable!(),
     }

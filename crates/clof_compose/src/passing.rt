@@ -53,6 +53,6 @@ pub(crate) fn go_up<P: Payload, H: Composed<P>, Q: Queueing>(
             stage: QueueStage::High(low, queue),
             id,
         }),
-        Step::Got(low) => Step::Got(LevelHeld { low, id }),
+        Step::Got(low) => Step::Got(LevelHeld { low, id, filler: 0 }),
     }
 }

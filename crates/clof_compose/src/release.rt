@@ -8,7 +8,7 @@ ghost use Rattle.clof_compose.specs.Contexts.{own_tag};
 ghost use Rattle.clof_compose.specs.Nodes.{IsContextOfNode};
 ghost use Rattle.clof_compose.specs.Owns.{IsOwnFit, bit_of, is_kept, own_tag_of};
 ghost use Rattle.clof_compose.specs.Releases.{IsReleasing};
-ghost use Rattle.clof_compose.specs.declared.own.High.TheVariants.{Idle, Away};
+ghost use Rattle.clof_compose.specs.declared.own.High.TheVariants.{Idle, Kept, Away};
 ghost use Rattle.keep_local.specs.Turns.{run};
 
 use crate::climb::InHand;
@@ -18,17 +18,15 @@ use crate::own_cargo::kept_root;
 use crate::payload::Payload;
 use crate::token::{Resting, Standing};
 use crate::turns::{close_turn, note_waiter};
-use lock_rules::{Held as Holds, Step};
-use std::mem;
+use lock_rules::Step;
+use std::sync::Wait;
 
-/// Keeps the answer of `waiter` in the value and notes it for the open turn. Where it is a yes and the value has kept the high lock for
-/// fewer turns than the
-/// level's threshold, the turn is closed there, and the answer is its tests.
+/// Notes the answer of `waiter` that the value keeps for the open turn. Where it is a yes and the value has kept the high lock for fewer
+/// turns than the level's threshold, the turn is closed there, and the answer is its tests.
 pub(crate) fn keep_for_next<P: Payload, Pass: Resting, Held: Standing<P>>(
     own: &mut Own<P, Pass, Held>,
     level: u32,
     keep: u32,
-    yes: bool,
 ) -> Option<u32>
     requires stands { IsStanding Held.stands own.old.high }
     requires above { (kept_stand Held.stand own.old.high).context.level ≡ level + 1 }
@@ -37,36 +35,41 @@ pub(crate) fn keep_for_next<P: Payload, Pass: Resting, Held: Standing<P>>(
     requires root { IsSomeAnd (kept_stand Held.stand own.old.high).root (IsReleasing P.calls P.tag
         (kept_stand Held.stand own.old.high).context.tag level keep own.old.node) }
     ensures node { own.new.node ≡ own.old.node }
-    ensures said { own.new.said ≡ yes }
+    ensures said { own.new.said ≡ own.old.said }
     ensures raised { IfSome result (λ _. own.new.kept ≡ own.old.kept + 1) }
     ensures not_raised { IfNone result (own.new.kept ≡ own.old.kept) }
     ensures context { (kept_stand Held.stand own.new.high).context ≡ (kept_stand Held.stand own.old.high).context }
     ensures stands { IsStanding Held.stands own.new.high }
-    ensures kept { IfSome result (λ _. (yes ≡ true)
+    ensures kept { IfSome result (λ _. (own.old.said ≡ true)
         × IsOwnFit Pass.rest Held.stand P.calls P.tag Held.stands own.new.node own.new.kept own.new.said own.new.high) }
     ensures tests { IfSome result (λ tests. SameBelow level (tests_in (kept_stand Held.stand own.old.high).root) tests) }
     ensures not_kept { IfNone result (IsSomeAnd (kept_stand Held.stand own.new.high).root (MayRelease P.calls P.tag
         (kept_stand Held.stand own.old.high).context.tag (level + 1) own.new.node)) }
-    ensures noted { IfNone result (bit_at (tests_in (kept_stand Held.stand own.new.high).root) level ≡ bit_of yes) }
+    ensures noted { IfNone result (bit_at (tests_in (kept_stand Held.stand own.new.high).root) level ≡ bit_of own.old.said) }
     ensures same { IfNone result (SameBelow level (tests_in (kept_stand Held.stand own.old.high).root) (tests_in
         (kept_stand Held.stand own.new.high).root)) }
 {
-    own.said = yes;
-    note_waiter(kept_root(&mut own.high), level, yes);
-    if !may_keep(yes, own.kept, keep) {
+    note_waiter(kept_root(&mut own.high), level, own.said);
+    let Some(kept) = count_if_kept(own.said, own.kept, keep) else {
         return None;
-    }
-    own.kept += 1;
+    };
+    own.kept = kept;
     Some(close_turn(kept_root(&mut own.high), level))
 }
 
-// Whether the high lock is kept for the next one: somebody is queued behind, and the level has kept it for fewer turns than its threshold.
-fn may_keep(yes: bool, kept: u32, keep: u32) -> bool
-    ensures yes { result ≡ true → yes ≡ true }
-    ensures below { result ≡ true → kept < keep }
-    ensures not { result ≡ false → yes ≡ true → keep ≤ kept }
+// How many turns will have kept the high lock, where this one keeps it for the next: somebody is queued behind, and fewer than the level's
+// threshold have kept it.
+fn count_if_kept(yes: bool, kept: u32, keep: u32) -> Option<u32>
+    ensures yes { IfSome result (λ _. yes ≡ true) }
+    ensures below { IfSome result (λ _. kept < keep) }
+    ensures raised { IfSome result (λ count. count ≡ kept + 1) }
+    ensures not { IfNone result (yes ≡ true → keep ≤ kept) }
 {
-    yes && kept < keep
+    if yes && kept < keep {
+        Some(kept + 1)
+    } else {
+        None
+    }
 }
 
 /// Releases the high lock of a node, whose pass comes back into the value. The answer has the tests of the closed turn.
@@ -90,23 +93,34 @@ pub(crate) fn release_high<P: Payload, H: Composed<P>>(
     ensures idle { IfGot result (λ w. IsIdleAgain H.Pass.rest (kept_stand H.Held.stand low.value.high).context low.value w.0.value w.1) }
     ensures tests { IfGot result (λ w. SameBelow (H.level high.now) (tests_in (kept_stand H.Held.stand low.value.high).root) w.1) }
 {
-    let High::Kept(held) = mem::replace(&mut low.value.high, High::Away) else {
-        unreachable!()
-    };
-    match high.begin_release(held) {
+    match high.begin_release(take_kept(&mut low.value)) {
         Step::Not(leave) => Step::Not((low, leave)),
-        Step::Got(pass) => Step::Got(put_back(low, pass)),
+        Step::Got(pass) => {
+            let tests = put_back(&mut low.value, pass);
+            Step::Got((low, tests))
+        }
     }
 }
 
-/// Keeps the high lock of a node for the next one, or releases it, by the answer of `waiter`. The value may then be put back, and the
-/// answer beside it is the tests of the closed turn.
+// Takes the token of the kept high lock out of the value.
+fn take_kept<P: Payload, Pass: Resting, Held: Standing<P>>(own: &mut Own<P, Pass, Held>) -> Held
+    requires { IsStanding Held.stands own.old.high }
+    ensures held { own.old.high ≡ Kept result }
+    ensures away { own.new ≡ record own.old { high = Away } }
+{
+    let High::Kept(held) = own.high.replace(High::Away) else {
+        unreachable!()
+    };
+    held
+}
+
+/// Keeps the high lock of a node for the next one, or releases it, by the answer of `waiter` that the value keeps. The value may then be put
+/// back, and the answer beside it is the tests of the closed turn.
 pub(crate) fn let_go<P: Payload, H: Composed<P>>(
     high: &H,
     mut low: InHand<P, H>,
     level: u32,
     keep: u32,
-    yes: bool,
 ) -> Step<(InHand<P, H>, H::Leave), (InHand<P, H>, u32)>
     requires sound { H.sound high.now }
     requires above { H.level high.now ≡ level + 1 }
@@ -119,7 +133,7 @@ pub(crate) fn let_go<P: Payload, H: Composed<P>>(
     ensures seat { IfNot result (λ w. w.0.seat ≡ low.seat) }
     ensures descends { IfNot result (λ w. IsDescending level w.0.value.node w.0.value.said (own_tag low.value.node
         (kept_stand H.Held.stand low.value.high).context) (H.Leave.descends w.1) (H.Leave.descent w.1)) }
-    ensures said { IfNot result (λ w. w.0.value.said ≡ yes) }
+    ensures said { IfNot result (λ w. w.0.value.said ≡ low.value.said) }
     ensures noted { IfNot result (λ w. SameBelow level (tests_in (kept_stand H.Held.stand low.value.high).root)
         (H.Leave.descent w.1).tests) }
     ensures same_seat { IfGot result (λ w. w.0.seat ≡ low.seat) }
@@ -127,26 +141,55 @@ pub(crate) fn let_go<P: Payload, H: Composed<P>>(
         w.0.value.said w.0.value.high) }
     ensures tagged { IfGot result (λ w. own_tag_of H.Pass.rest H.Held.stand w.0.value.node w.0.value.high ≡ own_tag low.value.node
         (kept_stand H.Held.stand low.value.high).context) }
-    ensures answered { IfGot result (λ w. w.0.value.said ≡ yes) }
-    ensures parked { IfGot result (λ w. is_kept H.Pass.rest H.Held.stand w.0.value.high ≡ true → yes ≡ true) }
+    ensures same_said { IfGot result (λ w. w.0.value.said ≡ low.value.said) }
+    ensures parked { IfGot result (λ w. is_kept H.Pass.rest H.Held.stand w.0.value.high ≡ true → low.value.said ≡ true) }
     ensures tests { IfGot result (λ w. SameBelow level (tests_in (kept_stand H.Held.stand low.value.high).root) w.1) }
 {
-    if let Some(tests) = keep_for_next(&mut low.value, level, keep, yes) {
+    if let Some(tests) = keep_for_next(&mut low.value, level, keep) {
         return Step::Got((low, tests));
     }
     release_high(high, low)
 }
 
-/// Puts the pass of a released high lock back into the value. The answer has its tests.
+/// Keeps the high lock of a node for the next one, or releases it, as `let_go` does, and waits for the release. The answer is the tests
+/// of the closed turn.
+pub(crate) fn let_go_and_wait<P: Payload, H: Composed<P>, R: Wait>(
+    high: &H,
+    rt: &R,
+    own: &mut Own<P, H::Pass, H::Held>,
+    level: u32,
+    keep: u32,
+) -> u32
+    requires sound { H.sound high.now }
+    requires above { H.level high.now ≡ level + 1 }
+    requires context { IsContextOfNode (H.has high.now) level (H.tag high.now) own.old.node (kept_stand H.Held.stand own.old.high).context }
+    requires stands { IsStanding H.Held.stands own.old.high }
+    requires kept { IfSome (kept_stand H.Held.stand own.old.high).root (λ r. own.old.kept ≡ run level r.trail.closed) }
+    requires root { IsSomeAnd (kept_stand H.Held.stand own.old.high).root (IsReleasing P.calls P.tag (H.tag high.now) level keep
+        own.old.node) }
+    ensures fit { IsOwnFit H.Pass.rest H.Held.stand P.calls P.tag H.Held.stands own.new.node own.new.kept own.new.said own.new.high }
+    ensures tagged { own_tag_of H.Pass.rest H.Held.stand own.new.node own.new.high ≡ own_tag own.old.node
+        (kept_stand H.Held.stand own.old.high).context }
+    ensures said { own.new.said ≡ own.old.said }
+    ensures parked { is_kept H.Pass.rest H.Held.stand own.new.high ≡ true → own.old.said ≡ true }
+    ensures tests { SameBelow level (tests_in (kept_stand H.Held.stand own.old.high).root) result }
+{
+    if let Some(tests) = keep_for_next(own, level, keep) {
+        return tests;
+    }
+    let pass = high.release(rt, take_kept(own));
+    put_back(own, pass)
+}
+
+/// Puts the pass of a released high lock back into the value. The answer is its tests.
 pub(crate) fn put_back<P, Pass: Resting, Held: Drop>(
-    mut low: Holds<Own<P, Pass, Held>>,
+    own: &mut Own<P, Pass, Held>,
     pass: Pass,
-) -> (Holds<Own<P, Pass, Held>>, u32)
-    ensures seat { result.0.seat ≡ low.seat }
-    ensures value { result.0.value ≡ record low.value { high = Idle pass } }
-    ensures tests { result.1 ≡ (Pass.rest pass).tests }
+) -> u32
+    ensures value { own.new ≡ record own.old { high = Idle pass } }
+    ensures tests { result ≡ (Pass.rest pass).tests }
 {
     let tests = pass.tests();
-    low.value.high = High::Idle(pass);
-    (low, tests)
+    *own.high.get_mut() = High::Idle(pass);
+    tests
 }

@@ -13,6 +13,7 @@ use crate::top_tokens::{TopHeld, TopLeave, TopPass, TopQueue};
 use crate::turns::{close_turn, open_turn};
 use keep_local::Share;
 use lock_rules::{Basic, Held, Step};
+use std::sync::Wait;
 
 /// A basic lock at the top, whose value is the root.
 #[derive(Drop)]
@@ -51,7 +52,11 @@ impl<P: Payload, B: Basic<Root<P>, Held = Held<Root<P>>>> Composed<P> for Top<B,
             Step::Not(low) => Step::Not(TopQueue { low, level }),
             Step::Got(mut low) => {
                 open_turn(&mut low.value, share, level);
-                Step::Got(TopHeld { low, level })
+                Step::Got(TopHeld {
+                    low,
+                    level,
+                    filler: 0,
+                })
             }
         }
     }
@@ -66,7 +71,11 @@ impl<P: Payload, B: Basic<Root<P>, Held = Held<Root<P>>>> Composed<P> for Top<B,
             Step::Not(low) => Step::Not(TopQueue { low, level }),
             Step::Got(mut low) => {
                 open_turn(&mut low.value, share, level);
-                Step::Got(TopHeld { low, level })
+                Step::Got(TopHeld {
+                    low,
+                    level,
+                    filler: 0,
+                })
             }
         }
     }
@@ -90,6 +99,25 @@ impl<P: Payload, B: Basic<Root<P>, Held = Held<Root<P>>>> Composed<P> for Top<B,
             Step::Not(low) => Step::Not(TopLeave { low, level, tests }),
             Step::Got(low) => Step::Got(TopPass { low, level, tests }),
         }
+    }
+
+    fn acquire<R: Wait>(&self, rt: &R, pass: TopPass<B::Pass>, share: &mut Share) -> TopHeld<P> {
+        let level = self.level;
+        let mut low = self.low.acquire(rt, pass.low);
+        open_turn(&mut low.value, share, level);
+        TopHeld {
+            low,
+            level,
+            filler: 0,
+        }
+    }
+
+    fn release<R: Wait>(&self, rt: &R, held: TopHeld<P>) -> TopPass<B::Pass> {
+        let level = self.level;
+        let mut low = held.low;
+        let tests = close_turn(&mut low.value, level);
+        let low = self.low.release(rt, low);
+        TopPass { low, level, tests }
     }
 
     fn close(self, passes: Vec<TopPass<B::Pass>>) -> Root<P>

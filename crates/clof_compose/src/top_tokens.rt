@@ -27,6 +27,8 @@ pub struct TopQueue<L> {
 pub struct TopHeld<P> {
     pub(crate) low: Held<Root<P>>,
     pub(crate) level: u32,
+    // So that no byte only pads.
+    pub(crate) filler: u32,
 }
 
 #[derive(Drop)]

@@ -60,6 +60,26 @@ impl<'a, R: Wait> Works<Job<LowPass>> for Shift<'a, R> {
     }
 }
 
+// Each caller of a lock of five levels makes all the turns that it has left, in a thread of its own. The answer is `None` for want of memory.
+fn run_in_threads<R: Threads + Wait + Sync>(
+    rt: &R,
+    lock: &Lock5,
+    jobs: Vec<Job<LowPass>>,
+) -> Option<Vec<Job<LowPass>>>
+    requires sound { ⟦<Lock5 as Composed<Roll>>⟧.sound lock.now }
+    requires lowest { ⟦<Lock5 as Composed<Roll>>⟧.level lock.now ≡ 0 }
+    requires room { HasRoom (course_of (⟦<Lock5 as Composed<Roll>>⟧.tag lock.now)) }
+    requires each { (k : ℕ) (j : _) → slice_get jobs.items k ≡ Some j → IsJob ⟦<LowPass as Resting>⟧.rest
+        (⟦<Lock5 as Composed<Roll>>⟧.has lock.now) (⟦<Lock5 as Composed<Roll>>⟧.level lock.now)
+        (⟦<Lock5 as Composed<Roll>>⟧.tag lock.now) k j }
+    ensures many { IfSome result (λ ended. length ended.items ≡ length jobs.items) }
+    ensures each { IfSome result (λ ended. (k : ℕ) (j : _) → slice_get ended.items k ≡ Some j
+        → IsEnded ⟦<LowPass as Resting>⟧.rest (⟦<Lock5 as Composed<Roll>>⟧.has lock.now)
+        (⟦<Lock5 as Composed<Roll>>⟧.level lock.now) (⟦<Lock5 as Composed<Roll>>⟧.tag lock.now) k j) }
+{
+    by_all(rt, &Shift { rt, lock }, jobs)
+}
+
 /// Each caller of a lock of five levels does its job in a thread of its own.
 pub struct InThreads;
 
@@ -77,7 +97,7 @@ impl<R: Threads + Wait + Sync> Runs<Lock5, R> for InThreads {
             → IsEnded ⟦<LowPass as Resting>⟧.rest (⟦<Lock5 as Composed<Roll>>⟧.has lock.now)
             (⟦<Lock5 as Composed<Roll>>⟧.level lock.now) (⟦<Lock5 as Composed<Roll>>⟧.tag lock.now) k j) }
     {
-        by_all(rt, &Shift { rt, lock }, jobs)
+        run_in_threads(rt, lock, jobs)
     }
 }
 

@@ -93,14 +93,16 @@ impl<K: Lacking> Lacking for AboveTicket<K> {
         shares: Vec<Share>,
     ) -> Option<Root<Roll>> {
         let below = level - 1;
-        let (lock, passes) = add_level::<Roll, C, Ticket<Owned<C>>>(
+        let Ok((lock, passes)) = add_level::<Roll, C, Ticket<Owned<C>>>(
             alloc,
             (),
             below,
             shape,
             lock,
             passes,
-        ).ok()?;
+        ) else {
+            return None;
+        };
         K::walk_below(rt, alloc, shape, below, lock, passes, shares)
     }
 }

@@ -63,7 +63,7 @@ impl<V: Cargo> Basic<V> for Ticket<V> {
         ensures tagged { IfGot result (λ h. V.tag h.value ≡ V.tag (padded_value self.now.words.table).shared.key.value.value) }
         ensures untested { IfGot result (λ h. (holder_of h).tested ≡ Open) }
     {
-        let (mut seat, _) = pass.into_parts();
+        let mut seat = self.words.pass_seat(pass);
         let ticket = self.words.fetch_and_increment_next(&mut seat);
         Step::Not(Queue::of(seat, ticket, 0))
     }
@@ -82,7 +82,7 @@ impl<V: Cargo> Basic<V> for Ticket<V> {
         ensures tagged { IfGot result (λ h. V.tag h.value ≡ V.tag (padded_value self.now.words.table).shared.key.value.value) }
         ensures untested { IfGot result (λ h. (holder_of h).tested ≡ Open) }
     {
-        let (mut seat, ticket, predecessor) = queue.into_parts();
+        let (mut seat, ticket, predecessor) = self.words.queue_parts(queue);
         if self.words.load_serving(&mut seat) != ticket {
             return Step::Not(Queue::of(seat, ticket, predecessor));
         }
@@ -100,8 +100,8 @@ impl<V: Cargo> Basic<V> for Ticket<V> {
         ensures loaded { (holder_of held.new).loads ≡ (holder_of held.old).loads + 1 }
         ensures noted { (holder_of held.new).tested ≡ answer_of result }
     {
-        let next = self.words.load_next(&mut held.seat.seat);
-        next != held.seat.mark.wrapping_add(1)
+        let ticket = self.words.held_ticket(held);
+        self.words.load_next(&mut held.seat.seat) != ticket.wrapping_add(1)
     }
 
     /// The answer is never `Not`: the value is put back, and the next ticket is served.
@@ -120,7 +120,7 @@ impl<V: Cargo> Basic<V> for Ticket<V> {
         ensures rests { IfNot result (λ _. Unit {0}) }
         ensures pass { IfGot result (λ p. badge_place p.badge ≡ (holder_of held).place) }
     {
-        let (mut seat, value, ticket, _) = held.into_parts();
+        let (mut seat, value, ticket) = self.words.held_parts(held);
         self.words.put(&mut seat, value);
         let next = ticket.wrapping_add(1);
         self.words.store_serving(&mut seat, next);

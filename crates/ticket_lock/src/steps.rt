@@ -1,20 +1,21 @@
 //! The lock's words, and the atomic steps on them, by their names in the published pseudo-code. Nothing else reaches the words.
 ghost use Rattle.std.specs.Prelude.{◌≡◌, ◌≢◌, ◌<◌, [], ◌∷◌, false, Some, None, IfOk, IfErr};
 ghost use Rattle.crossbeam_utils.specs.Padded.{padded_value};
+ghost use Rattle.lock_rules.specs.Holders.{held_view, holder_of};
 ghost use Rattle.lock_rules.specs.Passes.{AreAll};
-ghost use Rattle.lock_rules.specs.Tokens.{badge_place};
-ghost use Rattle.lock_rules.specs.Views.{lock_name};
+ghost use Rattle.lock_rules.specs.Tokens.{view_of, badge_place, badge_waiting};
+ghost use Rattle.lock_rules.specs.Views.{lock_name, mark_of};
 ghost use Rattle.lock_rules.specs.declared.view.Algorithm.TheVariants.{Ticket as ticket_algorithm};
 ghost use Rattle.lock_rules.specs.declared.view.Phase.TheVariants.{Idle, Queued, Holding};
 ghost use Rattle.lock_tables.specs.Happened.{MayRest};
-ghost use Rattle.lock_tables.specs.Seats.{IsSized, seat_as};
+ghost use Rattle.lock_tables.specs.Seats.{IsOwn, IsSized, seat_as};
 ghost use Rattle.ticket_lock.specs.Kinds.{after, Entered, Took, Missed, Tested, Left};
 
 use crate::kinds::{AddNext, LoadNext, LoadServing, StoreServing};
 use crate::laws::TicketWords;
 use atomic_table::Seat;
 use crossbeam_utils::CachePadded;
-use lock_rules::{Cargo, Pass, Refused, View};
+use lock_rules::{Cargo, Held, Pass, Queue, Refused, View};
 use lock_tables::{LockTable, into_value, join_passes, new_table, put, split_passes, take};
 use std::alloc::Global;
 
@@ -71,12 +72,65 @@ impl<V: Cargo> Words<V> {
         into_value(table, seat)
     }
 
+    /// The seat of a pass of this lock.
+    pub(crate) fn pass_seat(&self, pass: Pass) -> Seat<Option<V>, View>
+        requires of { IsOwn V.tag ticket_algorithm (padded_value self.now.table).shared.table_id
+            (padded_value self.now.table).shared.key (badge_place pass.badge) }
+        ensures table { result.table_id ≡ (padded_value self.now.table).shared.table_id }
+        ensures seat { result.table_id ≡ pass.badge.table_id }
+        ensures view { result.me ≡ (view_of pass.badge, []) }
+        ensures algorithm { result.me.0.algorithm ≡ ticket_algorithm }
+    {
+        let (seat, _) = pass.into_parts();
+        seat
+    }
+
+    /// The seat of a queued pass of this lock, its ticket and its predecessor, which a Ticket lock doesn't read.
+    pub(crate) fn queue_parts(&self, queue: Queue) -> (Seat<Option<V>, View>, u64, u64)
+        requires of { IsOwn V.tag ticket_algorithm (padded_value self.now.table).shared.table_id
+            (padded_value self.now.table).shared.key (badge_waiting queue.badge).place }
+        ensures table { result.0.table_id ≡ (padded_value self.now.table).shared.table_id }
+        ensures seat { result.0.table_id ≡ queue.badge.table_id }
+        ensures view { result.0.me ≡ (view_of queue.badge, []) }
+        ensures own { result.1 ≡ result.0.me.0.ticket }
+        ensures marked { result.1 ≡ mark_of result.0.me.0 }
+        ensures predecessor { result.2 ≡ result.0.me.0.predecessor }
+    {
+        queue.into_parts()
+    }
+
+    /// The seat of the holder of this lock, its value and its ticket.
+    pub(crate) fn held_parts(&self, held: Held<V>) -> (Seat<Option<V>, View>, V, u64)
+        requires of { IsOwn V.tag ticket_algorithm (padded_value self.now.table).shared.table_id
+            (padded_value self.now.table).shared.key (holder_of held).place }
+        ensures table { result.0.table_id ≡ (padded_value self.now.table).shared.table_id }
+        ensures seat { result.0 ≡ held.seat.seat }
+        ensures value { result.1 ≡ held.value }
+        ensures own { result.2 ≡ result.0.me.0.ticket }
+        ensures algorithm { result.0.me.0.algorithm ≡ ticket_algorithm }
+    {
+        let (seat, value, ticket, _) = held.into_parts();
+        (seat, value, ticket)
+    }
+
+    /// The ticket of the holder of this lock.
+    pub(crate) fn held_ticket(&self, held: &Held<V>) -> u64
+        requires of { IsOwn V.tag ticket_algorithm (padded_value self.now.table).shared.table_id
+            (padded_value self.now.table).shared.key (holder_of held.now).place }
+        ensures table { held.now.seat.seat.table_id ≡ (padded_value self.now.table).shared.table_id }
+        ensures own { result ≡ (held_view held.now).ticket }
+    {
+        held.seat.mark
+    }
+
     /// Draws the next ticket, by which the pass enters the queue.
     pub(crate) fn fetch_and_increment_next(&self, seat: &mut Seat<Option<V>, View>) -> u64
         requires table { seat.old.table_id ≡ (padded_value self.now.table).shared.table_id }
         requires idle { seat.old.me.0.phase ≡ Idle }
         requires unspent { seat.old.me.0.spent ≡ false }
+        requires algorithm { seat.old.me.0.algorithm ≡ ticket_algorithm }
         ensures table { seat.new.table_id ≡ seat.old.table_id }
+        ensures marked { result ≡ mark_of seat.new.me.0 }
         ensures step { Entered V.fit V.tag V.parked seat.old.me result seat.new.me }
     {
         self.table.shared.fetch_add::<AddNext>(seat, NEXT, 1)

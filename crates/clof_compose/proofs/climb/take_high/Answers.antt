@@ -1,59 +1,17 @@
 use Rattle.std.proofs.Common.{ap, sym, ◌∙◌, subst}
 use Rattle.lock_rules.specs.Holders.{held_view}
-use Rattle.keep_local.specs.Turns.{run}
 use Rattle.clof_compose.specs.Levels.{IsHolding, IsStanding, kept_stand}
 use Rattle.clof_compose.specs.Owns.{context_in}
-use Rattle.clof_compose.proofs.Climbs.{share_own, kept_begins, kept_opened, kept_in_hand}
-use Rattle.clof_compose.proofs.Owned.{handed_over, kept_above, kept_tagged, holding_with, holding_anew, some_with}
+use Rattle.clof_compose.proofs.Owned.{holding_anew}
 use Rattle.clof_compose.proofs.climb.take_high.Goals as goal
-
-pub open_turn-requires-clause-own : goal.open_turn-requires-clause-own
-open_turn-requires-clause-own g c =
-    let over = handed_over g.H.Pass.Resting.rest g.H.Held.Standing.stand g.H.Held.Standing.stands g.P.Payload.calls g.P.Payload.tag _ _ _
-    _ _ _ c.args.low.value.high _ (sym c.parked.ensures ∙ c.if-parked.true) c.requires.fit c.requires.context
-    c.kept_root.ensures.value in
-    share_own g.P.Payload.calls g.P.Payload.tag _ _ _ _ _ _ over c.requires.share
-
-pub open_turn-requires-clause-begins : goal.open_turn-requires-clause-begins
-open_turn-requires-clause-begins g c =
-    let over = handed_over g.H.Pass.Resting.rest g.H.Held.Standing.stand g.H.Held.Standing.stands g.P.Payload.calls g.P.Payload.tag _ _ _
-    _ _ _ c.args.low.value.high _ (sym c.parked.ensures ∙ c.if-parked.true) c.requires.fit c.requires.context
-    c.kept_root.ensures.value in
-    kept_begins g.P.Payload.calls g.P.Payload.tag _ _ _ _ _ _ over c.requires.share
-
-pub returns-then-parked-clause-holds : goal.returns-then-parked-clause-holds
-returns-then-parked-clause-holds g c =
-    let e = sym c.parked.ensures ∙ c.if-parked.true in
-    let over = handed_over g.H.Pass.Resting.rest g.H.Held.Standing.stand g.H.Held.Standing.stands g.P.Payload.calls g.P.Payload.tag _ _ _
-    _ _ _ c.args.low.value.high _ e c.requires.fit c.requires.context c.kept_root.ensures.value in
-    let kept = kept_in_hand g.P.Payload.calls g.P.Payload.tag _ _ _ _ _ c.kept_root.result.now over c.requires.share c.open_turn.new.root
-    c.open_turn.new.share c.open_turn.ensures.payload c.open_turn.ensures.opened
-    (ap (λ s. s.caller) c.open_turn.ensures.made) c.open_turn.ensures.lawful c.open_turn.ensures.counted (kept_stand
-    g.H.Held.Standing.stand c.args.low.value.high).context.level in
-    holding_with _ _ _ _ _ (kept_stand g.H.Held.Standing.stand c.args.low.value.high) _ c.open_turn.new.root (c.kept_root.ensures.others
-    c.open_turn.new.root)
-    (kept_above g.H.Pass.Resting.rest g.H.Held.Standing.stand g.H.Held.Standing.stands g.P.Payload.calls g.P.Payload.tag _ _ _ _
-    c.args.low.value.high e c.requires.context)
-    (kept_tagged g.H.Pass.Resting.rest g.H.Held.Standing.stand g.H.Held.Standing.stands g.P.Payload.calls g.P.Payload.tag _ _
-    c.args.low.value.high e c.requires.tagged)
-    (c.kept_root.ensures.stays c.open_turn.new.root kept)
-    (over.kept_is ∙ sym (ap (λ s. run c.args.level s.closed) c.open_turn.ensures.opened))
-
-pub returns-then-parked-clause-opened : goal.returns-then-parked-clause-opened
-returns-then-parked-clause-opened g c =
-    let over = handed_over g.H.Pass.Resting.rest g.H.Held.Standing.stand g.H.Held.Standing.stands g.P.Payload.calls g.P.Payload.tag _ _ _
-    _ _ _ c.args.low.value.high _ (sym c.parked.ensures ∙ c.if-parked.true) c.requires.fit c.requires.context
-    c.kept_root.ensures.value in
-    some_with _ (kept_stand g.H.Held.Standing.stand c.args.low.value.high) _ c.open_turn.new.root (c.kept_root.ensures.others
-    c.open_turn.new.root)
-    (kept_opened g.P.Payload.calls g.P.Payload.tag _ _ _ _ _ c.kept_root.result.now over c.requires.share c.open_turn.new.root
-    c.open_turn.new.share c.open_turn.ensures.payload c.open_turn.ensures.opened
-    (ap (λ s. s.caller) c.open_turn.ensures.made) c.open_turn.ensures.lawful c.open_turn.ensures.counted)
 
 pub returns-in-Got-clause-holds : goal.returns-in-Got-clause-holds
 returns-in-Got-clause-holds g c =
-    let same = ap (context_in g.H.Pass.Resting.rest g.H.Held.Standing.stand) c.in-Idle.ensures.value in
-    let anew = holding_anew g.P.Payload.calls g.P.Payload.tag _ _ _ _ _ _ _ (g.H.Held.Standing.stand c.in-Got.held) _ c.requires.above
-    (c.in-Got.ensures.held ∙ same) c.requires.context.level_is c.requires.tagged c.in-Got.ensures.stands c.in-Got.ensures.opened in
+    let same = sym (ap (context_in g.H.Pass.Resting.rest g.H.Held.Standing.stand) c.in-Some.ensures.pass) in
+    let anew = holding_anew g.P.Payload.calls g.P.Payload.tag _ _ _ c.args.low.value.node _ _ _ (g.H.Held.Standing.stand c.in-Got.held) _
+    c.requires.above (c.in-Got.ensures.held ∙ same) c.requires.context.level_is c.requires.tagged c.in-Got.ensures.stands
+    c.in-Got.ensures.opened in
+    let there = subst (λ n. IsHolding c.args.level n 0 (held_view c.args.low).tag.tag (g.H.Held.Standing.stands c.in-Got.held)
+    (g.H.Held.Standing.stand c.in-Got.held)) (sym (ap (λ o. o.node) c.in-Some.ensures.away)) anew in
     subst (λ v. IsHolding c.args.level v.node v.kept (held_view c.args.low).tag.tag (IsStanding g.H.Held.Standing.stands v.high)
-    (kept_stand g.H.Held.Standing.stand v.high)) (sym c.keep_high.ensures.value) anew
+    (kept_stand g.H.Held.Standing.stand v.high)) (sym c.keep_high.ensures) there

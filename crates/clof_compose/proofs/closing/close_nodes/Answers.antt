@@ -19,7 +19,7 @@ loop-node-preserved g c =
     let cut = c.in-Some.ensures.items in
     let fewer = length_more c.pop.new.self.items c.loop-node.nodes.items c.in-Some.node cut in
     let here = ap (λ l. slice_get l (length c.pop.new.self.items)) cut ∙ get_last c.pop.new.self.items c.in-Some.node in
-    let told = sym (ap (own_tag_of g.H.Pass.Resting.rest g.H.Held.Standing.stand c.close-high.result.node) c.in-Idle.is)
+    let told = sym (ap (own_tag_of g.H.Pass.Resting.rest g.H.Held.Standing.stand c.close-high.result.node) (sym c.into_inner.ensures ∙ c.in-Idle.is))
     ∙ c.close-high.ensures.tagged in
     let is = told_number _ _ _ _ _ _ _ _ _ c.loop-node.invariant.locks (lock_here c.loop-node.nodes.items (length c.pop.new.self.items)
     c.in-Some.node here) told in

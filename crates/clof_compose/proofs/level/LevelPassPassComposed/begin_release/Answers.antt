@@ -16,8 +16,8 @@ pub lock_of-lock-requires : goal.lock_of-lock-requires
 lock_of-lock-requires g c = subst (λ l. c.args.held.id.node < length l) (sym c.deref.ensures.value) (node_within c.requires.sound
     c.requires.own)
 
-pub waiter-yes-requires : goal.waiter-yes-requires
-waiter-yes-requires g c =
+pub waiter-low-requires : goal.waiter-low-requires
+waiter-low-requires g c =
     let here = ap (λ l. slice_get (locks_of l) c.args.held.id.node) (sym c.deref.ensures.value) ∙ c.lock_of-lock.ensures in
     record { own = pass_of c.requires.sound c.requires.own c.lock_of-lock.result.now here }
 
@@ -26,20 +26,20 @@ let_go-requires-clause-context g c =
     let here = ap (λ l. slice_get (locks_of l) c.args.held.id.node) (sym c.deref.ensures.value) ∙ c.lock_of-lock.ensures in
     let told = c.requires.stands.0.tag_same ∙ (pass_of c.requires.sound c.requires.own c.lock_of-lock.result.now here).tag_is in
     subst (λ v. IsContextOfNode (g.H.Composed.has c.args.self.now.high) c.args.held.id.level (g.H.Composed.tag c.args.self.now.high)
-    v.node (kept_stand g.H.Held.Standing.stand v.high).context) (sym c.waiter-yes.ensures.value)
+    v.node (kept_stand g.H.Held.Standing.stand v.high).context) (sym c.waiter-low.ensures.value)
     (node_context c.requires.sound c.requires.own c.lock_of-lock.result.now here _ _ told)
 
 pub let_go-requires-clause-kept : goal.let_go-requires-clause-kept
 let_go-requires-clause-kept g c =
     subst (λ v. IfSome (kept_stand g.H.Held.Standing.stand v.high).root (λ r. v.kept ≡ run c.args.held.id.level r.trail.closed)) (sym
-    c.waiter-yes.ensures.value) c.requires.stands.0.kept_is
+    c.waiter-low.ensures.value) c.requires.stands.0.kept_is
 
 pub let_go-requires-clause-root : goal.let_go-requires-clause-root
 let_go-requires-clause-root g c =
     let here = ap (λ l. slice_get (locks_of l) c.args.held.id.node) (sym c.deref.ensures.value) ∙ c.lock_of-lock.ensures in
     let told = c.requires.stands.0.tag_same ∙ (pass_of c.requires.sound c.requires.own c.lock_of-lock.result.now here).tag_is in
     subst (λ v. IsSomeAnd (kept_stand g.H.Held.Standing.stand v.high).root (IsReleasing g.P.Payload.calls g.P.Payload.tag
-    (g.H.Composed.tag c.args.self.now.high) c.args.held.id.level c.args.self.now.keep v.node)) (sym c.waiter-yes.ensures.value)
+    (g.H.Composed.tag c.args.self.now.high) c.args.held.id.level c.args.self.now.keep v.node)) (sym c.waiter-low.ensures.value)
     (and_weaker _ _ _ (λ r may. releasing c.requires.sound c.requires.own c.lock_of-lock.result.now here _ _ told g.P.Payload.calls
     g.P.Payload.tag r may) c.requires.root)
 
@@ -47,26 +47,26 @@ pub begin_release-requires-clause-own : goal.begin_release-requires-clause-own
 begin_release-requires-clause-own g c =
     let here = ap (λ l. slice_get (locks_of l) c.args.held.id.node) (sym c.deref.ensures.value) ∙ c.lock_of-lock.ensures in
     subst (λ p. IsOf (g.B.Basic.name c.lock_of-lock.result.now) (g.B.Basic.tag c.lock_of-lock.result.now) p)
-    (sym (ap (λ s. place_of s.seat.table_id s.seat.me.0) c.in-Got.ensures.same_seat ∙ c.waiter-yes.ensures.place))
+    (sym (ap (λ s. place_of s.seat.table_id s.seat.me.0) c.in-Got.ensures.same_seat ∙ c.waiter-low.ensures.place))
     (pass_of c.requires.sound c.requires.own c.lock_of-lock.result.now here)
 
 pub begin_release-requires-clause-tagged : goal.begin_release-requires-clause-tagged
 begin_release-requires-clause-tagged g c =
     let here = ap (λ l. slice_get (locks_of l) c.args.held.id.node) (sym c.deref.ensures.value) ∙ c.lock_of-lock.ensures in
-    c.in-Got.ensures.tagged ∙ ap (λ v. own_tag v.node (kept_stand g.H.Held.Standing.stand v.high).context) c.waiter-yes.ensures.value
+    c.in-Got.ensures.tagged ∙ ap (λ v. own_tag v.node (kept_stand g.H.Held.Standing.stand v.high).context) c.waiter-low.ensures.value
     ∙ c.requires.stands.0.tag_same ∙ (pass_of c.requires.sound c.requires.own c.lock_of-lock.result.now here).tag_is
 
 pub returns-in-Not-clause-noted : goal.returns-in-Not-clause-noted
 returns-in-Not-clause-noted g c = λ j h.
     c.in-Not.ensures.noted j (subst (λ k. j < k) (sym (level_same c.requires.sound c.requires.own)) h) ∙ ap (λ v. bit_at
-    (tests_in (kept_stand g.H.Held.Standing.stand v.high).root) j) c.waiter-yes.ensures.value
+    (tests_in (kept_stand g.H.Held.Standing.stand v.high).root) j) c.waiter-low.ensures.value
 
 pub returns-in-Not-begin_release-clause-noted : goal.returns-in-Not-begin_release-clause-noted
 returns-in-Not-begin_release-clause-noted g c = λ j h.
     c.in-Got.ensures.tests j (subst (λ k. j < k) (sym (level_same c.requires.sound c.requires.own)) h) ∙ ap (λ v. bit_at
-    (tests_in (kept_stand g.H.Held.Standing.stand v.high).root) j) c.waiter-yes.ensures.value
+    (tests_in (kept_stand g.H.Held.Standing.stand v.high).root) j) c.waiter-low.ensures.value
 
 pub returns-in-Got-begin_release-clause-tests : goal.returns-in-Got-begin_release-clause-tests
 returns-in-Got-begin_release-clause-tests g c = λ j h.
     c.in-Got.ensures.tests j (subst (λ k. j < k) (sym (level_same c.requires.sound c.requires.own)) h) ∙ ap (λ v. bit_at
-    (tests_in (kept_stand g.H.Held.Standing.stand v.high).root) j) c.waiter-yes.ensures.value
+    (tests_in (kept_stand g.H.Held.Standing.stand v.high).root) j) c.waiter-low.ensures.value

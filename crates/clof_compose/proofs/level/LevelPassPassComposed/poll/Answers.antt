@@ -1,6 +1,5 @@
-use Rattle.std.proofs.Common.{◌≡◌, ap, sym, ◌∙◌, subst}
+use Rattle.std.proofs.Common.{ap, sym, ◌∙◌, subst}
 use Rattle.std.specs.Prelude.{slice_get}
-use Rattle.lock_rules.specs.declared.step.Answer.TheVariants.{Open}
 use Rattle.clof_compose.specs.Calls.{MayTurn, HasClimbed}
 use Rattle.clof_compose.specs.Courses.{course_of}
 use Rattle.clof_compose.specs.Levels.{IsHolding, IsStanding, kept_stand}
@@ -78,11 +77,8 @@ returns-in-Got-poll-clause-stands g c =
     let at = high_context c.requires.sound own _ _ climbs.0.tag_same in
     let anew = holding_anew g.P.Payload.calls g.P.Payload.tag _ _ _ _ _ _ _ (g.H.Held.Standing.stand c.in-Got-poll.held) _ (above
     c.requires.sound own) c.in-Got-poll.ensures.held at.level_is climbs.0.tag_same c.in-Got-poll.ensures.stands
-    c.in-Got-poll.ensures.opened in
-    let valued = subst (λ v. IsHolding c.args.queue.id.level v.node v.kept c.in-High.low.seat.seat.me.0.tag.tag (IsStanding
-    g.H.Held.Standing.stands v.high) (kept_stand g.H.Held.Standing.stand v.high)) (sym c.keep_high.ensures.value) anew in (
-      subst (λ s. IsHolding c.args.queue.id.level c.keep_high.result.value.node c.keep_high.result.value.kept s.seat.me.0.tag.tag (IsStanding
-          g.H.Held.Standing.stands c.keep_high.result.value.high) (kept_stand g.H.Held.Standing.stand c.keep_high.result.value.high)) (sym
-          c.keep_high.ensures.seat) valued,
-      subst (λ s. s.seat.me.0.tested ≡ Open) (sym c.keep_high.ensures.seat) climbs.1,
+    c.in-Got-poll.ensures.opened in (
+      subst (λ v. IsHolding c.args.queue.id.level v.node v.kept c.in-High.low.seat.seat.me.0.tag.tag (IsStanding
+          g.H.Held.Standing.stands v.high) (kept_stand g.H.Held.Standing.stand v.high)) (sym c.keep_high.ensures) anew,
+      climbs.1,
     )

@@ -1,8 +1,6 @@
 use Rattle.std.proofs.Common.{◌<◌, length, ap, sym, ◌∙◌, subst}
 use Rattle.std.specs.Prelude.{slice_get}
 use Rattle.std.specs.Int.{bit_at}
-use Rattle.lock_rules.specs.Passes.{IsOf}
-use Rattle.lock_rules.specs.Views.{place_of}
 use Rattle.clof_compose.specs.Contexts.{own_tag}
 use Rattle.clof_compose.specs.Nodes.{IsOfLevel, locks_of}
 use Rattle.clof_compose.specs.Owns.{IsOwnFit, own_tag_of}
@@ -32,8 +30,7 @@ begin_release-requires-clause-own g c =
     c.args.self.now.nodes.items) (leave_descent g.B.Leave.Departing.waiting g.H.Leave.Descending.descent c.args.leave.id.level
     c.args.leave.id.node c.args.leave.id.number s).context) c.in-High.is c.requires.own in
     let here = ap (λ l. slice_get (locks_of l) c.args.leave.id.node) (sym c.deref.ensures.value) ∙ c.lock_of-lock.ensures in
-    subst (λ s. IsOf (g.B.Basic.name c.lock_of-lock.result.now) (g.B.Basic.tag c.lock_of-lock.result.now) (place_of s.seat.table_id
-    s.seat.me.0)) (sym c.put_back-low.ensures.seat) (pass_of c.requires.sound own c.lock_of-lock.result.now here)
+    pass_of c.requires.sound own c.lock_of-lock.result.now here
 
 pub begin_release-requires-clause-fit : goal.begin_release-requires-clause-fit
 begin_release-requires-clause-fit g c =
@@ -44,7 +41,7 @@ begin_release-requires-clause-fit g c =
     c.args.leave.id.level s) c.in-High.is c.requires.descends in
     let at = high_context c.requires.sound own _ _ owes.0.tag_same in
     subst (λ v. IsOwnFit g.H.Pass.Resting.rest g.H.Held.Standing.stand g.P.Payload.calls g.P.Payload.tag g.H.Held.Standing.stands v.node
-    v.kept v.said v.high) (sym c.put_back-low.ensures.value) (record {
+    v.kept v.said v.high) (sym c.put_back-tests.ensures.value) (record {
       level = c.args.leave.id.level;
       above = ap (λ x. x.level) c.in-Got.ensures.pass ∙ at.level_is;
       number_is = ap (λ x. x.number) c.in-Got.ensures.pass ∙ at.number_is;
@@ -59,6 +56,6 @@ begin_release-requires-clause-tagged g c =
     let owes = subst (λ s. IsLeaving g.B.Leave.Departing.rests g.H.Leave.Descending.descent g.H.Leave.Descending.descends
     c.args.leave.id.level s) c.in-High.is c.requires.descends in
     let here = ap (λ l. slice_get (locks_of l) c.args.leave.id.node) (sym c.deref.ensures.value) ∙ c.lock_of-lock.ensures in
-    ap (λ v. own_tag_of g.H.Pass.Resting.rest g.H.Held.Standing.stand v.node v.high) c.put_back-low.ensures.value
+    ap (λ v. own_tag_of g.H.Pass.Resting.rest g.H.Held.Standing.stand v.node v.high) c.put_back-tests.ensures.value
     ∙ ap (own_tag c.in-High.low.value.node) c.in-Got.ensures.pass ∙ owes.0.tag_same
     ∙ (pass_of c.requires.sound own c.lock_of-lock.result.now here).tag_is
