@@ -60,7 +60,8 @@ impl<'a, R: Wait> Works<Job<LowPass>> for Shift<'a, R> {
     }
 }
 
-// Each caller of a lock of five levels makes all the turns that it has left, in a thread of its own. The answer is `None` for want of memory.
+// Each caller of a lock of five levels makes all the turns that it has left, in a thread of its own. The answer is `None` for want of
+// memory.
 fn run_in_threads<R: Threads + Wait + Sync>(
     rt: &R,
     lock: &Lock5,

@@ -70,7 +70,7 @@ pub struct Whole<W> {
 }
 
 impl<C: Composed<Roll> + Drop, R: Threads + Wait + Sync, W: Runs<C, R>> Finishes<C, R>
-for Whole<W> {
+    for Whole<W> {
     ghost levels = { 0 };
 
     fn finish(
@@ -105,8 +105,10 @@ pub struct Above<K> {
     rest: PhantomData<K>,
 }
 
-impl<C: Composed<Roll> + Drop, R: Threads + Wait + Sync, K: Finishes<LevelOver<C>, R>> Finishes<C, R>
-for Above<K> {
+impl<C: Composed<Roll> + Drop, R: Threads + Wait + Sync, K: Finishes<LevelOver<C>, R>> Finishes<
+    C,
+    R,
+> for Above<K> {
     ghost levels = { K.levels + 1 };
 
     fn finish(
@@ -147,13 +149,7 @@ pub fn hold_under<
     B: Basic<Root<Roll>, Held = Held<Root<Roll>>> + Drop,
     K: Finishes<Top<B, B::Pass>, R>,
     R: Threads + Wait + Sync,
->(
-    rt: &R,
-    alloc: Global,
-    recipe: B::Recipe,
-    shape: Shape,
-    quotas: &[u32],
-) -> Option<Root<Roll>>
+>(rt: &R, alloc: Global, recipe: B::Recipe, shape: Shape, quotas: &[u32]) -> Option<Root<Roll>>
     requires shaped { IsWellFormed shape }
     requires few { callers_of shape < 2 ^ 32 }
     requires lacking { top_of shape ≡ K.levels }
