@@ -10,6 +10,9 @@ ghost use Rattle.level_trials.specs.Jobs.{IsEnded, IsJob};
 ghost use Rattle.level_trials.specs.Rooms.{HasRoom};
 ghost use Rattle.five_threads.specs.Shifts.{HasWorked, MayWork};
 
+mod shared;
+
+use crate::shared::{is_shared, passes_are_shared};
 use clof_compose::{Composed, LevelPass, Resting, Root, Top};
 use keep_local::Shape;
 use level_threads::{Above, LevelOver, Runs, Whole, hold_under};
@@ -78,6 +81,8 @@ fn run_in_threads<R: Threads + Wait + Sync>(
         → IsEnded ⟦<LowPass as Resting>⟧.rest (⟦<Lock5 as Composed<Roll>>⟧.has lock.now)
         (⟦<Lock5 as Composed<Roll>>⟧.level lock.now) (⟦<Lock5 as Composed<Roll>>⟧.tag lock.now) k j) }
 {
+    passes_are_shared();
+    is_shared::<Lock5>();
     by_all(rt, &Shift { rt, lock }, jobs)
 }
 
