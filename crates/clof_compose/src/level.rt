@@ -151,6 +151,7 @@ impl<
         }
     }
 
+    #[inline(always)]
     fn acquire<R: Wait>(
         &self,
         rt: &R,
@@ -163,6 +164,7 @@ impl<
         LevelHeld { low, id, filler: 0 }
     }
 
+    #[inline(always)]
     fn release<R: Wait>(&self, rt: &R, held: LevelHeld<P, H::Pass, H::Held>) -> LevelPass<B::Pass> {
         let LevelHeld { mut low, id, .. } = held;
         let lock = lock_of(&self.nodes, id.node);

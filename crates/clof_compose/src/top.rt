@@ -101,6 +101,7 @@ impl<P: Payload, B: Basic<Root<P>, Held = Held<Root<P>>>> Composed<P> for Top<B,
         }
     }
 
+    #[inline(always)]
     fn acquire<R: Wait>(&self, rt: &R, pass: TopPass<B::Pass>, share: &mut Share) -> TopHeld<P> {
         let level = self.level;
         let mut low = self.low.acquire(rt, pass.low);
@@ -112,6 +113,7 @@ impl<P: Payload, B: Basic<Root<P>, Held = Held<Root<P>>>> Composed<P> for Top<B,
         }
     }
 
+    #[inline(always)]
     fn release<R: Wait>(&self, rt: &R, held: TopHeld<P>) -> TopPass<B::Pass> {
         let level = self.level;
         let mut low = held.low;
