@@ -67,6 +67,7 @@ pub(crate) fn take_high<P: Payload, H: Composed<P>>(
 }
 
 /// Takes the high lock for a node's holder, as `take_high` does, and waits for it.
+#[inline(always)]
 pub(crate) fn wait_for_high<P: Payload, H: Composed<P>, R: Wait>(
     high: &H,
     rt: &R,

@@ -153,6 +153,7 @@ pub(crate) fn let_go<P: Payload, H: Composed<P>>(
 
 /// Keeps the high lock of a node for the next one, or releases it, as `let_go` does, and waits for the release. The answer is the tests
 /// of the closed turn.
+#[inline(always)]
 pub(crate) fn let_go_and_wait<P: Payload, H: Composed<P>, R: Wait>(
     high: &H,
     rt: &R,
