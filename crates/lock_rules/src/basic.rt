@@ -133,6 +133,7 @@ pub trait Basic<V: Cargo>: Sized {
     }
 
     /// Waits until the pass holds the value.
+    #[inline(always)]
     final fn acquire<R: Wait>(&self, rt: &R, pass: Self::Pass) -> Self::Held
         requires own { IsOf (name self.now) (tag self.now) (Self.Pass.place pass) }
         ensures held { (Self.Held.holder result).place ≡ Self.Pass.place pass }
