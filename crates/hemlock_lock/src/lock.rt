@@ -91,7 +91,7 @@ impl<V: Cargo> Basic<V> for Hemlock<V> {
         ensures tagged { IfGot result (λ h. V.tag h.value ≡ V.tag (padded_value self.now.words.table).shared.key.value.value) }
         ensures untested { IfGot result (λ h. (holder_of h).tested ≡ Open) }
     {
-        let (mut seat, number, predecessor) = queue.into_parts();
+        let (mut seat, number, predecessor) = self.words.queue_parts(queue);
         if self.words.load_predecessor_grant(&mut seat, predecessor) != 1 {
             return Step::Not(Queue::of(seat, number, predecessor));
         }
@@ -110,8 +110,9 @@ impl<V: Cargo> Basic<V> for Hemlock<V> {
         ensures loaded { (holder_of held.new).loads ≡ (holder_of held.old).loads + 1 }
         ensures noted { (holder_of held.new).tested ≡ answer_of result }
     {
+        let number = self.words.held_number(held);
         let last = self.words.load_tail(&mut held.seat.seat);
-        last != held.seat.mark + 1
+        last != number + 1
     }
 
     /// The answer is `Got` where `tail` named the holder, or the one behind it has cleared its grant already.
@@ -155,7 +156,7 @@ impl<V: Cargo> Basic<V> for Hemlock<V> {
         ensures rests { IfNot result (λ _. Unit {0}) }
         ensures pass { IfGot result (λ p. badge_place p.badge ≡ (badge_waiting leave.badge).place) }
     {
-        let (mut seat, number) = leave.into_parts();
+        let (mut seat, number) = self.words.leave_parts(leave);
         if self.words.load_grant(&mut seat, number + 1) != 0 {
             return Step::Not(Leave::of(seat, number));
         }

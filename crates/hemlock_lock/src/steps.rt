@@ -1,13 +1,14 @@
 //! The lock's words, and the atomic steps on them, by their names in the published pseudo-code. Nothing else reaches the words.
 ghost use Rattle.std.specs.Prelude.{◌≡◌, ◌≢◌, ◌+◌, ◌<◌, ◌≤◌, ◌^◌, [], ◌∷◌, false, true, Some, None, IfOk, IfErr};
 ghost use Rattle.crossbeam_utils.specs.Padded.{padded_value};
+ghost use Rattle.lock_rules.specs.Holders.{held_view, holder_of};
 ghost use Rattle.lock_rules.specs.Passes.{AreAll};
-ghost use Rattle.lock_rules.specs.Tokens.{badge_place};
-ghost use Rattle.lock_rules.specs.Views.{IsPlain, lock_name};
+ghost use Rattle.lock_rules.specs.Tokens.{view_of, badge_place, badge_waiting};
+ghost use Rattle.lock_rules.specs.Views.{IsPlain, lock_name, mark_of};
 ghost use Rattle.lock_rules.specs.declared.view.Algorithm.TheVariants.{Hemlock as hemlock_algorithm};
 ghost use Rattle.lock_rules.specs.declared.view.Phase.TheVariants.{Idle, Queued, Holding, Leaving};
 ghost use Rattle.lock_tables.specs.Happened.{MayRest};
-ghost use Rattle.lock_tables.specs.Seats.{IsSized, seat_as};
+ghost use Rattle.lock_tables.specs.Seats.{IsOwn, IsSized, seat_as};
 ghost use Rattle.hemlock_lock.specs.Rule.{grant};
 ghost use Rattle.hemlock_lock.specs.Kinds.{own_name, TookAtOnce, Entered, Took, Missed, Cleared, Tested, Left, Followed, Granted, Done};
 ghost use Rattle.hemlock_lock.specs.Kinds.{Uncleared};
@@ -17,9 +18,10 @@ use crate::kinds::{
     SwapTail,
 };
 use crate::laws::HemlockWords;
+use crate::leave::Leave;
 use atomic_table::Seat;
 use crossbeam_utils::CachePadded;
-use lock_rules::{Cargo, Pass, Refused, View};
+use lock_rules::{Cargo, Held, Pass, Queue, Refused, View};
 use lock_tables::{LockTable, into_value, join_passes, new_table, put, split_passes, take};
 use std::alloc::Global;
 
@@ -84,6 +86,47 @@ impl<V: Cargo> Words<V> {
         into_value(table, seat)
     }
 
+    /// The seat of a queued pass of this lock, its number and the name of its predecessor.
+    pub(crate) fn queue_parts(&self, queue: Queue) -> (Seat<Option<V>, View>, u64, u64)
+        requires of { IsOwn V.tag hemlock_algorithm (padded_value self.now.table).shared.table_id (padded_value self.now.table).shared.key
+            (badge_waiting queue.badge).place }
+        ensures table { result.0.table_id ≡ (padded_value self.now.table).shared.table_id }
+        ensures seat { result.0.table_id ≡ queue.badge.table_id }
+        ensures view { result.0.me ≡ (view_of queue.badge, []) }
+        ensures number { result.1 ≡ result.0.me.0.number }
+        ensures marked { result.1 ≡ mark_of result.0.me.0 }
+        ensures named { result.2 ≡ result.0.me.0.predecessor }
+        ensures within { result.2 ≤ (padded_value self.now.table).shared.key.passes }
+    {
+        queue.into_parts()
+    }
+
+    /// The number of the holder of this lock.
+    pub(crate) fn held_number(&self, held: &Held<V>) -> u64
+        requires of { IsOwn V.tag hemlock_algorithm (padded_value self.now.table).shared.table_id (padded_value self.now.table).shared.key
+            (holder_of held.now).place }
+        ensures table { held.now.seat.seat.table_id ≡ (padded_value self.now.table).shared.table_id }
+        ensures number { result ≡ (held_view held.now).number }
+        ensures small { result < 2 ^ 32 }
+    {
+        held.seat.mark
+    }
+
+    /// The seat of a pass that leaves this lock, and its number.
+    pub(crate) fn leave_parts(&self, leave: Leave) -> (Seat<Option<V>, View>, u64)
+        requires of { IsOwn V.tag hemlock_algorithm (padded_value self.now.table).shared.table_id (padded_value self.now.table).shared.key
+            (badge_waiting leave.badge).place }
+        ensures table { result.0.table_id ≡ (padded_value self.now.table).shared.table_id }
+        ensures seat { result.0.table_id ≡ leave.badge.table_id }
+        ensures view { result.0.me ≡ (view_of leave.badge, []) }
+        ensures number { result.1 ≡ result.0.me.0.number }
+        ensures marked { result.1 ≡ mark_of result.0.me.0 }
+        ensures within { result.1 < (padded_value self.now.table).shared.key.passes }
+        ensures small { result.1 < 2 ^ 32 }
+    {
+        leave.into_parts()
+    }
+
     /// Swaps the own name into `tail`, by which the pass enters the queue. Where the word was 0, the pass takes the slot.
     pub(crate) fn swap_tail(&self, seat: &mut Seat<Option<V>, View>, own: u64) -> u64
         requires table { seat.old.table_id ≡ (padded_value self.now.table).shared.table_id }
@@ -109,6 +152,7 @@ impl<V: Cargo> Words<V> {
         requires name { predecessor ≡ seat.old.me.0.predecessor }
         requires within { predecessor ≤ (padded_value self.now.table).shared.key.passes }
         ensures table { seat.new.table_id ≡ seat.old.table_id }
+        ensures some { predecessor ≢ 0 }
         ensures took { result ≡ 1 → Took V.fit V.tag V.parked seat.old.me result seat.new.me }
         ensures missed { result ≢ 1 → Missed V.fit V.tag V.parked seat.old.me result seat.new.me }
     {

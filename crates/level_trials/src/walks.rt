@@ -1,5 +1,5 @@
 //! A walk over a composed lock.
-ghost use Rattle.std.specs.Prelude.{◌≡◌, ◌<◌, ◌≤◌, ℕ, [], length, slice_get, slice_index, Some, IfSome, vec_capacity};
+ghost use Rattle.std.specs.Prelude.{◌≡◌, ◌<◌, ◌≤◌, ℕ, [], length, map, slice_get, slice_index, Some, IfSome, vec_capacity};
 ghost use Rattle.keep_local.specs.Shapes.{callers_of};
 ghost use Rattle.keep_local.specs.States.{new_shares};
 ghost use Rattle.keep_local.specs.Turns.{turns_of};
@@ -13,13 +13,14 @@ use crate::roll::Roll;
 use crate::rounds::{are_done, round};
 use crate::walker::{State, Walker, WalkerIn};
 use clof_compose::{Composed, Resting, Root};
-use keep_local::Share;
+use keep_local::{Share, Turn};
 use std::alloc::Global;
 use std::sync::Wait;
 
 /// All callers take turns on one thread. A round is a step of each, in ascending order: an idle caller with turns left begins to take the
 /// lock, a queued one asks again, a holder makes one call and begins to leave, and one that leaves asks again. The lock is taken apart when
-/// all are idle with no turn left. The answer is its root, or `None` for want of memory.
+/// all are idle with no turn left. The answer is its root, or `None` for want of memory, or where a pass tells other tests than those of its
+/// caller's last turn.
 pub fn walk<C: Composed<Roll> + Drop, R: Wait>(
     rt: &R,
     alloc: Global,
@@ -41,7 +42,44 @@ pub fn walk<C: Composed<Roll> + Drop, R: Wait>(
     let (mut walkers, passes) = seat(&lock, passes, shares, walkers);
     make_rounds(rt, &lock, &mut walkers);
     let passes = idle_passes(&lock, walkers, passes);
-    Some(lock.close(passes))
+    let told = tests_of(alloc, &passes)?;
+    let root = lock.close(passes);
+    if !tell_last(root.trail().turns(), &told) {
+        return None;
+    }
+    Some(root)
+}
+
+// The tests that each pass tells. The answer is `None` for want of memory.
+fn tests_of<P: Resting>(alloc: Global, passes: &[P]) -> Option<Vec<u32>>
+    ensures { IfSome result (λ told. told.items ≡ map (λ p. (P.rest p).tests) passes.now) }
+{
+    let mut told = Vec::new(alloc);
+    for pass in passes {
+        told.push(pass.tests()).ok()?;
+    }
+    Some(told)
+}
+
+// Whether each caller's tests are those of its last turn, or 0 where it made none.
+fn tell_last(turns: &[Turn], told: &[u32]) -> bool {
+    for (caller, tests) in told.iter().enumerate() {
+        if last_tests(turns, caller) != *tests {
+            return false;
+        }
+    }
+    true
+}
+
+// The tests of a caller's last turn, or 0 where it made none.
+fn last_tests(turns: &[Turn], caller: usize) -> u32 {
+    let mut tests = 0;
+    for turn in turns {
+        if turn.caller as usize == caller {
+            tests = turn.tests;
+        }
+    }
+    tests
 }
 
 // Makes rounds until every caller is idle with no turn left.

@@ -28,8 +28,8 @@ idle_passes-passes-requires-clause-done g c =
     ∙ ap length c.deref_mut.ensures.value) c.seat-walkers.result.0.ok.0 in
     λ k w e. c.make_rounds.ensures.done k w (ap (λ l. slice_get l k) (sym same) ∙ e)
 
-pub close-requires-clause-all : goal.close-requires-clause-all
-close-requires-clause-all g c =
+pub close-root-requires-clause-all : goal.close-root-requires-clause-all
+close-root-requires-clause-all g c =
     let long = c.make_rounds.auto.walkers ∙ ap length c.deref_mut.ensures.value in
     let same = written_all c.seat-walkers.result.0.items c.make_rounds.new.walkers c.seat-walkers.result.0.len long
     c.seat-walkers.result.0.ok.0 in
