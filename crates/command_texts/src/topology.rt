@@ -8,9 +8,10 @@ ghost use Rattle.command_texts.specs.TopoText.{synth_status, build_status, IsBui
 ghost use Rattle.command_texts.specs.Ends.{EndsEarly};
 
 use crate::{Fault, Status};
+use out_of_memory::OutOfMemory;
 use std::alloc::Global;
 use synth_text::{SynthFault, read};
-use topo_tree::{BuildFault, Topology};
+use topo_tree::{BuildFault, Topology, Tree};
 
 /// The topology that a text describes, or the status with which the text is refused.
 pub fn topology(alloc: Global, text: &[u8]) -> Result<Topology, Status>
@@ -21,12 +22,30 @@ pub fn topology(alloc: Global, text: &[u8]) -> Result<Topology, Status>
     ensures complete { (described : Described) → IsBuilt text.now described → IsOk result ⊎ (result ≡ Err Status.OutOfMemory) }
     ensures early { IfErr result EndsEarly }
 {
+    match tree(alloc, text) {
+        Ok(tree) => match Topology::from_tree(alloc, tree) {
+            Ok(topology) => Ok(topology),
+            Err(OutOfMemory) => Err(Status::OutOfMemory),
+        },
+        Err(status) => Err(status),
+    }
+}
+
+/// The tree of the topology that a text describes, or the status with which the text is refused.
+pub fn tree(alloc: Global, text: &[u8]) -> Result<Tree, Status>
+    ensures ok { IfOk result (IsBuilt text.now) }
+    ensures only { IfOk result (λ tree. (described : Described) → Describes text.now described → described ≡ tree) }
+    ensures err { IfErr result (λ status. (status ≡ Status.OutOfMemory) ⊎ TopoRefuses text.now status) }
+    ensures refused { (status : AnyStatus) → TopoRefuses text.now status → (result ≡ Err status) ⊎ (result ≡ Err Status.OutOfMemory) }
+    ensures complete { (described : Described) → IsBuilt text.now described → IsOk result ⊎ (result ≡ Err Status.OutOfMemory) }
+    ensures early { IfErr result EndsEarly }
+{
     let description = match read(alloc, text) {
         Ok(description) => description,
         Err(fault) => return Err(synth_status(fault)),
     };
-    match Topology::build(alloc, description) {
-        Ok(topology) => Ok(topology),
+    match Tree::build(alloc, description) {
+        Ok(tree) => Ok(tree),
         Err(fault) => Err(build_status(fault)),
     }
 }

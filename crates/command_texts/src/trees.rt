@@ -4,10 +4,10 @@ ghost use Rattle.command_texts.specs.declared.status.Status.{Status as AnyStatus
 ghost use Rattle.command_texts.specs.TopoText.{text_of, PrintsTopo, TopoRefuses};
 
 use crate::Status;
-use crate::topology::topology;
+use crate::topology::tree;
 use out_of_memory::OutOfMemory;
 use std::alloc::Global;
-use topo_tree::Topology;
+use topo_tree::Tree;
 
 /// The tree of the description that a text tells, or its canonical text, or the status with which it is refused.
 pub fn topo_text(alloc: Global, export: bool, text: &[u8]) -> Result<Vec<u8>, Status>
@@ -16,8 +16,8 @@ pub fn topo_text(alloc: Global, export: bool, text: &[u8]) -> Result<Vec<u8>, St
     ensures refused { (status : AnyStatus) → TopoRefuses text.now status → (result ≡ Err status) ⊎ (result ≡ Err Status.OutOfMemory) }
     ensures complete { (printed : List ℕ) → PrintsTopo export text.now printed → IsOk result ⊎ (result ≡ Err Status.OutOfMemory) }
 {
-    match topology(alloc, text) {
-        Ok(topology) => match text_of(alloc, export, &topology) {
+    match tree(alloc, text) {
+        Ok(tree) => match text_of(alloc, export, &tree) {
             Ok(printed) => Ok(printed),
             Err(OutOfMemory) => Err(Status::OutOfMemory),
         },
@@ -25,13 +25,13 @@ pub fn topo_text(alloc: Global, export: bool, text: &[u8]) -> Result<Vec<u8>, St
     }
 }
 
-// The tree of a topology, or its canonical text.
-fn text_of(alloc: Global, export: bool, topology: &Topology) -> Result<Vec<u8>, OutOfMemory>
-    ensures { IfOk result (λ printed. printed.items ≡ text_of export topology.now) }
+// A tree as its lines, or as its canonical text.
+fn text_of(alloc: Global, export: bool, tree: &Tree) -> Result<Vec<u8>, OutOfMemory>
+    ensures { IfOk result (λ printed. printed.items ≡ text_of export tree.now) }
 {
     if export {
-        topology.export(alloc)
+        tree.export(alloc)
     } else {
-        topology.show(alloc)
+        tree.show(alloc)
     }
 }

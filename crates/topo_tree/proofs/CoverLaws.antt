@@ -1,72 +1,12 @@
 -- Laws of the sets of PUs that stand side by side.
-use Rattle.std.proofs.Common.{
-  ◌≡◌,
-  ◌≢◌,
-  ℕ,
-  zero,
-  suc,
-  ◌+◌,
-  ◌-◌,
-  ◌<◌,
-  ◌≤◌,
-  Bool,
-  true,
-  false,
-  ◌||◌,
-  ◌&&◌,
-  ◌==◌,
-  cond,
-  nat_lt,
-  nat_le,
-  List,
-  [],
-  ◌∷◌,
-  ◌++◌,
-  length,
-  take,
-  drop,
-  get_or,
-  slice_index,
-  slice_range,
-  refl,
-  sym,
-  ap,
-  subst,
-  ◌∙◌,
-  inl,
-  inr,
-  arith,
-}
+use Rattle.std.proofs.Common.{◌≡◌, ◌≢◌, ℕ, zero, suc, ◌+◌, ◌-◌, ◌<◌, ◌≤◌, Bool, true, false, ◌||◌, ◌&&◌, ◌==◌, cond, nat_lt, nat_le, List, [], ◌∷◌, ◌++◌, length, take, drop, get_or, slice_index, slice_range, refl, sym, ap, ◌∙◌, inl, inr, arith}
 use Rattle.std.specs.List.{range_with_len, filter}
-use Rattle.std.proofs.lemmas.Bool.{
-  cases_lt,
-  cases_eq,
-  false≢true,
-  eq-eqb,
-  ne_eqb,
-  eqb-true,
-  leb-true,
-  ltb-true,
-  le-leb,
-  lt-ltb,
-  le-ltb,
-  lt-leb,
-  leb-false,
-  and_parts,
-  and_from,
-  and_left,
-  and_right,
-  or_left,
-  or_right,
-  or_cases,
-  or_parts,
-  false_from_ne_true as false_unless,
-}
-use Rattle.std.proofs.lemmas.List.{get_or-drop, length-drop, take_more, append-nil}
-use Rattle.cpu_set.specs.Sets.{has, numbers_where, numbers_below}
+use Rattle.std.proofs.lemmas.Bool.{cases_lt, false≢true, eq-eqb, ne_eqb, eqb-true, leb-true, ltb-true, le-leb, lt-ltb, le-ltb, lt-leb, leb-false, and_parts, and_from, and_left, and_right, or_left, or_right, or_cases, or_parts, false_from_ne_true as false_unless}
+use Rattle.std.proofs.lemmas.List.{get_or-drop, length-drop, take_more}
+use Rattle.cpu_set.specs.Sets.{has, numbers_below}
 use Rattle.cpu_set.specs.Tests.{meets, is_inside}
 use Rattle.cpu_set.proofs.TestLaws.{same_tests, passes-has, inside-at, inside-by, meets-none}
-use Rattle.cpu_set.specs.SetLaws.{has-numbers_below, numbers_below-same}
+use Rattle.cpu_set.specs.SetLaws.{has-numbers_below}
 use Rattle.topo_tree.specs.Numbers.{is_bad}
 use Rattle.topo_tree.proofs.Covered.{AreGood, set_between}
 

@@ -1,38 +1,6 @@
 -- What the tables of a topology have at a place.
-use Rattle.std.proofs.Common.{
-  ◌≡◌,
-  ℕ,
-  ◌+◌,
-  ◌-◌,
-  ◌<◌,
-  ◌≤◌,
-  false,
-  ◌==◌,
-  cond,
-  min,
-  ◌^◌,
-  List,
-  length,
-  map,
-  take,
-  get_or,
-  slice_index,
-  Option,
-  Some,
-  None,
-  IfSome,
-  unwrap_or,
-  refl,
-  sym,
-  ap,
-  ◌∙◌,
-  subst,
-  inl,
-  inr,
-  arith,
-}
+use Rattle.std.proofs.Common.{◌≡◌, ℕ, ◌+◌, ◌-◌, ◌<◌, false, ◌==◌, cond, min, ◌^◌, List, length, map, take, get_or, slice_index, Option, Some, None, IfSome, unwrap_or, refl, sym, ap, ◌∙◌, subst, inl, inr, arith}
 use Rattle.std.specs.Option.{option_map}
-use Rattle.std.specs.List.{position}
 use Rattle.std.proofs.lemmas.Bool.{cases_Bool, eqb-true}
 use Rattle.std.proofs.lemmas.List.{length-map, get_or-map}
 use Rattle.std.proofs.lemmas.List.FromFn.{length-map-range_with_len, get_or-map-range_with_len}
@@ -43,6 +11,7 @@ use Rattle.synth_text.specs.declared.description.Description.{Description}
 use Rattle.synth_text.specs.declared.description.Indexes.{Indexes}
 use Rattle.synth_text.specs.Rules.{arities, product, node_count, pu_count}
 use Rattle.synth_text.specs.Sound.{IsSound, IsSoundMemory}
+use Rattle.topo_tree.specs.declared.tree.Tree.TheInside.{Inside as TreeInside}
 use Rattle.topo_tree.specs.declared.topology.Topology.TheInside.{Inside}
 use Rattle.topo_tree.specs.declared.layer.Layer.{Layer}
 use Rattle.topo_tree.specs.declared.layer.Layer.TheVariants as layers
@@ -52,23 +21,28 @@ use Rattle.topo_tree.specs.Objects.{count_of, IsLayer}
 use Rattle.topo_tree.specs.Numbers.{numbers_of, index_count, is_bad, first_fault, indexes_fault}
 use Rattle.topo_tree.specs.Building.{pu_indexes, node_indexes, pu_numbers, node_numbers, or_next, build_fault, IsBuilt}
 use Rattle.topo_tree.specs.Coverage.{set_covered, layer_depth}
-use Rattle.topo_tree.specs.TableLists.{sets_covered, depth_sets, leaf_table}
-use Rattle.topo_tree.specs.Tables.{IsTabled}
+use Rattle.topo_tree.specs.TableLists.{depth_counts, sets_covered, depth_sets}
+use Rattle.topo_tree.specs.Tables.{IsNumbered, IsTabled}
 use Rattle.topo_tree.proofs.Faults.{length-numbers_of, all_good}
-use Rattle.topo_tree.proofs.Positions.{good_low, position-large}
+use Rattle.topo_tree.proofs.Positions.{good_low}
 
--- the tables as those of the description that a topology is seen as
-pub record AreTables (now : Description) (inside : Inside) : Type 0 where
+-- the counts and numbers as those of the description that a tree is seen as
+pub record AreNumbered (now : Description) (inside : TreeInside) : Type 0 where
   pub built : IsBuilt now
-  pub sets : map (λ depth. depth.items) inside.sets.items ≡ depth_sets (pu_numbers now) now.levels
+  pub counts : inside.counts.items ≡ depth_counts now.levels
   pub numbers : inside.numbers.items ≡ pu_numbers now
   pub nodes : inside.nodes.items ≡ node_numbers now
-  pub leaves : inside.leaves.items ≡ leaf_table (pu_numbers now)
 
-pub tables : (inside : Inside) (now : Description) → IsTabled inside → inside.description ≡ now → AreTables now inside
-tables inside now tabled is =
-    subst (λ described. AreTables described inside) is
-    (record { built = tabled.built; sets = tabled.sets; numbers = tabled.numbers; nodes = tabled.nodes; leaves = tabled.leaves })
+pub numbered : (inside : TreeInside) (now : Description) → IsNumbered inside → inside.description ≡ now → AreNumbered now inside
+numbered inside now kept is =
+    subst (λ described. AreNumbered described inside) is
+    (record { built = kept.built; counts = kept.counts; numbers = kept.numbers; nodes = kept.nodes })
+
+-- the sets as those of the description that a topology is seen as
+pub tabled : (inside : Inside) (now : Description) → IsTabled inside → inside.tree ≡ now
+    → map (λ depth. depth.items) inside.sets.items ≡ depth_sets (pu_numbers now) now.levels
+tabled inside now kept is = subst (λ described. map (λ depth. depth.items) inside.sets.items
+    ≡ depth_sets (pu_numbers described) described.levels) is kept
 
 -- ---- how many numbers there are
 
@@ -79,6 +53,18 @@ length-pu_numbers described = length-numbers_of (pu_indexes described) (pu_count
 pub length-node_numbers : (described : Description) → length (node_numbers described) ≡ node_count described.levels described.memory
 unfolding node_numbers
 length-node_numbers described = length-numbers_of (node_indexes described.memory) (node_count described.levels described.memory)
+
+-- ---- the table of counts
+
+pub length-depth_counts : (levels : List Level) → length (depth_counts levels) ≡ length levels + 1
+unfolding depth_counts
+length-depth_counts levels = length-map-range_with_len (λ depth. product (take depth (arities levels))) 0 (length levels + 1)
+
+pub depth_counts-at : (levels : List Level) (depth d : ℕ) → depth < length levels + 1
+    → get_or (depth_counts levels) depth d ≡ product (take depth (arities levels))
+unfolding depth_counts
+depth_counts-at levels depth d within =
+    get_or-map-range_with_len (λ depth. product (take depth (arities levels))) 0 (length levels + 1) depth depth d within (omega arith)
 
 -- ---- the table of sets
 
@@ -172,11 +158,6 @@ pus_numbered described built =
 pub pus_low : (described : Description) → indexes_fault (pu_indexes described) (pu_count described) ≡ None → (k : ℕ)
     → k < length (pu_numbers described) → slice_index (pu_numbers described) k < 4096
 pus_low described none k within = good_low (pu_numbers described) k (pus_good described none k within)
-
-pub no_leaf : (described : Description) (physical : ℕ) → IsBuilt described → 4096 ≤ physical
-    → position (λ number. number == physical) (pu_numbers described) ≡ None
-no_leaf described physical built large =
-    position-large (pu_numbers described) physical large (λ k within. pus_low described (pus_numbered described built) k within)
 
 -- ---- refusals
 

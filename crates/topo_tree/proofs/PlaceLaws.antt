@@ -1,53 +1,22 @@
 -- Laws of the sets of objects, by the positions of the PUs that they cover.
-use Rattle.std.proofs.Common.{
-  ◌≡◌,
-  ◌≢◌,
-  ℕ,
-  zero,
-  suc,
-  ◌+◌,
-  ◌-◌,
-  ◌*◌,
-  ◌/◌,
-  ◌<◌,
-  ◌≤◌,
-  Bool,
-  true,
-  false,
-  ◌&&◌,
-  nat_le,
-  nat_lt,
-  List,
-  length,
-  take,
-  drop,
-  get_or,
-  refl,
-  sym,
-  ap,
-  subst,
-  ◌∙◌,
-  inl,
-  inr,
-  arith,
-}
+use Rattle.std.proofs.Common.{◌≡◌, ◌≢◌, ℕ, zero, suc, ◌+◌, ◌-◌, ◌*◌, ◌/◌, ◌<◌, ◌≤◌, Bool, true, false, ◌&&◌, nat_le, length, refl, sym, ap, ◌∙◌, inl, inr, arith}
 use Rattle.std.proofs.Math.Nat.{mul_comm, mul_assoc, div-eq_of_eq-mul_left, eq_of_mul-eq-mul_left, mul-le-mul_right}
 use Rattle.std.specs.List.{range_with_len, list_any}
-use Rattle.std.proofs.lemmas.Bool.{cases_lt, cases_order, or_cases, false≢true}
+use Rattle.std.proofs.lemmas.Bool.{cases_order, or_cases, false≢true}
 use Rattle.std.proofs.lemmas.Nat.{div_below, le-div, div-add-mod', mod_below}
 use Rattle.std.proofs.lemmas.List.Folds.{list_any_at}
 use Rattle.std.proofs.lemmas.List.FromFn.{length-range_with_len, get_or-range_with_len}
-use Rattle.cpu_set.specs.Sets.{has, numbers_where}
+use Rattle.cpu_set.specs.Sets.{has}
 use Rattle.cpu_set.specs.Tests.{meets, is_inside}
 use Rattle.cpu_set.proofs.TestLaws.{same_tests}
 use Rattle.synth_text.specs.declared.description.Description.{Description}
-use Rattle.synth_text.specs.Rules.{arities, product, pu_count}
+use Rattle.synth_text.specs.Rules.{arities, pu_count}
 use Rattle.topo_tree.specs.Objects.{count_at, arity_at}
 use Rattle.topo_tree.specs.Building.{pu_numbers, IsBuilt}
 use Rattle.topo_tree.specs.Coverage.{first_covered, set_covered, set_at}
 use Rattle.topo_tree.proofs.Covered.{AreGood, set_between}
 use Rattle.topo_tree.specs.Beginnings.{width_at}
-use Rattle.topo_tree.proofs.CountLaws.{have_arities, count_some, width_some, product_split, count_more, children_within}
+use Rattle.topo_tree.proofs.CountLaws.{have_arities, count_some, width_some, product_split, count_more}
 use Rattle.topo_tree.proofs.Lookups.{length-pu_numbers, pus_good, pus_numbered}
 use Rattle.topo_tree.proofs.CoverLaws.{between-has, has-between, between-inside, between-apart, between-behind, length-set_between}
 

@@ -7,7 +7,6 @@ mod counts;
 mod fault;
 mod laws;
 mod layer;
-mod leaves;
 mod lines;
 mod naming;
 mod numbers;
@@ -16,6 +15,7 @@ mod sets;
 mod show;
 mod sizes;
 mod topology;
+mod tree;
 
 pub use fault::BuildFault;
 pub use laws::{
@@ -24,6 +24,7 @@ pub use laws::{
 };
 pub use layer::{Layer, Object};
 pub use topology::Topology;
+pub use tree::Tree;
 
 #[cfg(test)]
 mod tests;

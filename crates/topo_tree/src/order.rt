@@ -1,4 +1,4 @@
-// The objects of a topology in tree order.
+// The objects of a tree, in tree order.
 ghost use Rattle.std.specs.Prelude.{◌≡◌, ◌<◌, ◌++◌, length, All, IfOk, OnOk};
 ghost use Rattle.synth_text.specs.Rules.{pu_count};
 ghost use Rattle.topo_tree.specs.declared.layer.Layer.TheVariants as layers;
@@ -8,14 +8,13 @@ ghost use Rattle.topo_tree.specs.Order.{tree_order};
 ghost use Rattle.topo_tree.specs.Beginnings.{objects_at};
 
 use crate::layer::{Layer, Object};
-use crate::topology::Topology;
+use crate::tree::Tree;
 use out_of_memory::OutOfMemory;
 use std::alloc::{AllocError, Global};
 
-impl Topology {
-    /// The objects of all depths in tree order: each before all that lie under it, these in their order. The nodes of
-    /// memory are left out.
-    pub fn tree_order(&self, alloc: Global) -> Result<Vec<Object>, OutOfMemory>
+impl Tree {
+    // The objects of all depths in tree order.
+    pub(crate) fn tree_order(&self, alloc: Global) -> Result<Vec<Object>, OutOfMemory>
         ensures order { IfOk result (λ objects. objects.items ≡ tree_order self.now) }
         ensures objects { IfOk result (λ objects. All (IsObject self.now) objects.items) }
     {

@@ -1,4 +1,4 @@
-// The two texts of a topology.
+// The two texts of a tree.
 ghost use Rattle.std.specs.Prelude.{◌≡◌, ◌<◌, ◌+◌, ◌++◌, ◌∷◌, [], None, length, slice_index_or, IfOk, OnOk};
 ghost use Rattle.synth_text.specs.Canonical.{canonical};
 ghost use Rattle.synth_text.specs.Kinds.{short_name_of};
@@ -10,12 +10,12 @@ ghost use Rattle.topo_tree.specs.Lines.{sizes, group_numbers, node_detail, line,
 
 use crate::layer::{Layer, Object};
 use crate::lines::{push_detail, push_indent, push_index, push_node_detail, push_short_name};
-use crate::topology::Topology;
+use crate::tree::Tree;
 use out_of_memory::OutOfMemory;
 use std::alloc::{AllocError, Global};
 use synth_text::{Kind, write};
 
-impl Topology {
+impl Tree {
     /// The canonical text of the description, and a line end.
     pub fn export(&self, alloc: Global) -> Result<Vec<u8>, OutOfMemory>
         ensures { IfOk result (λ text. text.items ≡ canonical self.now ++ 10 ∷ []) }

@@ -1,5 +1,5 @@
 // A topology and its look-ups.
-ghost use Rattle.std.specs.Prelude.{◌≡◌, ◌<◌, ◌≤◌, Some, None, IfOk, OnOk, IfErr, IfSome};
+ghost use Rattle.std.specs.Prelude.{◌≡◌, ◌<◌, ◌≤◌, ◌==◌, ◌++◌, ◌∷◌, [], All, position, Some, None, IfOk, OnOk, IfErr, IfSome};
 ghost use Rattle.synth_text.specs.Canonical.{canonical};
 ghost use Rattle.out_of_memory.specs.Memory.{UnlessMemory};
 ghost use Rattle.synth_text.specs.Limits.{pu_limit};
@@ -7,25 +7,24 @@ ghost use Rattle.synth_text.specs.Sound.{IsSound};
 ghost use Rattle.topo_tree.specs.Objects.{depth_count, kind_at, arity_at, count_of, carrier_of, IsLayer, IsObject, parent_of, children_of};
 ghost use Rattle.topo_tree.specs.Building.{build_fault, IsBuilt};
 ghost use Rattle.topo_tree.specs.Coverage.{set_of, layer_depth, physical_of, leaf_of};
+ghost use Rattle.topo_tree.specs.Order.{tree_order};
+ghost use Rattle.topo_tree.specs.Lines.{topology_text};
 
-use crate::building::{node_numbers, pu_numbers};
 use crate::fault::BuildFault;
 use crate::layer::{Layer, Object};
-use crate::leaves::leaf_table;
 use crate::sets::depth_sets;
-use cpu_set::{CpuSet, LIMIT};
+use crate::tree::Tree;
+use cpu_set::CpuSet;
+use out_of_memory::OutOfMemory;
 use std::alloc::Global;
 use std::marker::Model;
 use synth_text::{Description, Kind};
 
-/// The tree of objects of a description, which contracts see as that description.
+/// The tree of objects of a description and their sets, which contracts see as that description.
 #[derive(Drop)]
 pub struct Topology {
-    description: Description,
+    tree: Tree,
     sets: Vec<Vec<CpuSet>>,
-    numbers: Vec<u32>,
-    nodes: Vec<u32>,
-    leaves: Vec<Option<u32>>,
 }
 
 impl Model for Topology {
@@ -35,7 +34,7 @@ impl Model for Topology {
 
     ghost use Rattle.topo_tree.specs.Tables.{IsTabled};
 
-    ghost view = { λ topology. topology.description };
+    ghost view = { λ topology. topology.tree };
 
     ghost invariant = { IsTabled };
 }
@@ -49,17 +48,19 @@ impl Topology {
         ensures accepted { OnOk result (build_fault description ≡ None) }
         ensures refused { IfErr result (λ fault. UnlessMemory BuildFault.OutOfMemory fault (build_fault description ≡ Some fault)) }
     {
-        let nodes = node_numbers(alloc, &description)?;
-        let numbers = pu_numbers(alloc, &description)?;
-        let sets = depth_sets(alloc, description.levels.as_slice(), &numbers)?;
-        let leaves = leaf_table(alloc, &numbers)?;
-        Ok(Topology {
-            description,
-            sets,
-            numbers,
-            nodes,
-            leaves,
-        })
+        let tree = Tree::build(alloc, description)?;
+        match Topology::from_tree(alloc, tree) {
+            Ok(topology) => Ok(topology),
+            Err(OutOfMemory) => Err(BuildFault::OutOfMemory),
+        }
+    }
+
+    /// A tree, with the sets of its objects.
+    pub fn from_tree(alloc: Global, tree: Tree) -> Result<Topology, OutOfMemory>
+        ensures { IfOk result (λ topology. topology ≡ tree) }
+    {
+        let sets = depth_sets(alloc, tree.description().levels.as_slice(), tree.pus())?;
+        Ok(Topology { tree, sets })
     }
 
     /// The number of depths: Machine, and one for each level.
@@ -68,7 +69,7 @@ impl Topology {
         // What every topology keeps, for callers' proofs.
         ensures built { IsBuilt self.now }
     {
-        self.sets.len() as u32
+        self.tree.depths()
     }
 
     /// The kind of the objects of a depth.
@@ -76,11 +77,7 @@ impl Topology {
         requires { depth < depth_count self.now }
         ensures { result ≡ kind_at self.now depth }
     {
-        if depth == 0 {
-            Kind::Machine
-        } else {
-            self.description.levels.as_slice()[depth as usize - 1].kind
-        }
+        self.tree.kind(depth)
     }
 
     /// The depth of the objects that carry the nodes of memory; `None` where the description has no memory.
@@ -88,7 +85,7 @@ impl Topology {
         ensures depth { result ≡ carrier_of self.now }
         ensures fit { IfSome result (λ depth. depth < depth_count self.now) }
     {
-        match &self.description.memory {
+        match &self.description().memory {
             None => None,
             Some(memory) => Some(memory.above),
         }
@@ -100,10 +97,7 @@ impl Topology {
         ensures count { result ≡ count_of self.now layer }
         ensures few { result ≤ pu_limit }
     {
-        match layer {
-            Layer::Depth(depth) => self.sets[depth as usize].len() as u32,
-            Layer::Memory => self.nodes.len() as u32,
-        }
+        self.tree.count(layer)
     }
 
     /// The numbers of the PUs that an object covers. A NUMANode has the set of the object that carries it.
@@ -120,13 +114,7 @@ impl Topology {
         requires { IsObject self.now object }
         ensures { result ≡ physical_of self.now object.layer object.index }
     {
-        match object.layer {
-            Layer::Depth(depth) if depth as usize == self.description.levels.as_slice().len() => {
-                self.numbers[object.index as usize]
-            }
-            Layer::Depth(_) => object.index,
-            Layer::Memory => self.nodes[object.index as usize],
-        }
+        self.tree.physical(object)
     }
 
     /// The object above, which for a NUMANode is its carrier; `None` for Machine.
@@ -171,12 +159,33 @@ impl Topology {
     pub fn leaf_of(&self, physical: u32) -> Option<u32>
         ensures { result ≡ leaf_of self.now physical }
     {
-        let leaves = &self.leaves;
-        if physical < LIMIT {
-            leaves[physical as usize]
-        } else {
-            None
+        match place_of(self.tree.pus(), physical) {
+            None => None,
+            Some(place) => Some(place as u32),
         }
+    }
+
+    /// The objects of all depths in tree order: each before all that lie under it, these in their order. The nodes of
+    /// memory are left out.
+    pub fn tree_order(&self, alloc: Global) -> Result<Vec<Object>, OutOfMemory>
+        ensures order { IfOk result (λ objects. objects.items ≡ tree_order self.now) }
+        ensures objects { IfOk result (λ objects. All (IsObject self.now) objects.items) }
+    {
+        self.tree.tree_order(alloc)
+    }
+
+    /// The canonical text of the description, and a line end.
+    pub fn export(&self, alloc: Global) -> Result<Vec<u8>, OutOfMemory>
+        ensures { IfOk result (λ text. text.items ≡ canonical self.now ++ 10 ∷ []) }
+    {
+        self.tree.export(alloc)
+    }
+
+    /// The tree of objects, one a line.
+    pub fn show(&self, alloc: Global) -> Result<Vec<u8>, OutOfMemory>
+        ensures { IfOk result (λ text. text.items ≡ topology_text self.now) }
+    {
+        self.tree.show(alloc)
     }
 
     // The description.
@@ -184,7 +193,7 @@ impl Topology {
         ensures description { result.now ≡ self.now }
         ensures built { IsBuilt self.now }
     {
-        &self.description
+        self.tree.description()
     }
 
     // The depth of a layer's objects, or of those that carry the nodes of memory; 0 where there are none.
@@ -192,7 +201,7 @@ impl Topology {
         ensures depth { result ≡ layer_depth self.now layer }
         ensures built { IsBuilt self.now }
     {
-        match (layer, &self.description.memory) {
+        match (layer, &self.description().memory) {
             (Layer::Depth(depth), _) => depth,
             (Layer::Memory, Some(memory)) => memory.above,
             (Layer::Memory, None) => 0,
@@ -204,9 +213,16 @@ impl Topology {
         ensures arity { result ≡ arity_at self.now depth }
         ensures built { IsBuilt self.now }
     {
-        match self.description.levels.as_slice().get(depth as usize) {
+        match self.description().levels.as_slice().get(depth as usize) {
             Some(level) => level.arity,
             None => 0,
         }
     }
+}
+
+// The place of the first of these numbers that is this one.
+fn place_of(numbers: &[u32], number: u32) -> Option<usize>
+    ensures { result ≡ position (λ other. other == number) numbers.now }
+{
+    numbers.iter().position(|other| *other == number)
 }

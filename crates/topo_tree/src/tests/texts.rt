@@ -8,7 +8,10 @@ fn check_texts(
     canonical: &[u8],
     shown: &[u8],
 ) -> Result<(), Fail> {
-    let topology = built(rt, alloc, text);
+    let tree = Tree::build(alloc, read(alloc, text)?)?;
+    assert_eq!(rt; tree.export(alloc)?.as_slice(), canonical);
+    assert_eq!(rt; tree.show(alloc)?.as_slice(), shown);
+    let topology = Topology::from_tree(alloc, tree)?;
     assert_eq!(rt; topology.export(alloc)?.as_slice(), canonical);
     assert_eq!(rt; topology.show(alloc)?.as_slice(), shown);
     Ok(())

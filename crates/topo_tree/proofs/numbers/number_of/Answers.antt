@@ -1,7 +1,7 @@
-use Rattle.std.proofs.Common.{◌≡◌, ◌≤◌, ◌∙◌, sym, ap, subst, arith}
+use Rattle.std.proofs.Common.{◌≤◌, ◌∙◌, sym, ap, subst, arith}
 use Rattle.std.specs.List.{AllByRecursion}
 use Rattle.synth_text.specs.Sound.{AreSoundIndexes, IsSoundLoop}
-use Rattle.topo_tree.specs.Numbers.{loops_number, loop_product, counting_loops, counting_loops_in, index_count, number_of}
+use Rattle.topo_tree.specs.Numbers.{loops_number, loop_product, counting_loops_in, index_count, number_of}
 use Rattle.topo_tree.proofs.CountingLoops.{counted_number, counted_product, counted_sound}
 use Rattle.topo_tree.proofs.numbers.number_of.Goals as goal
 

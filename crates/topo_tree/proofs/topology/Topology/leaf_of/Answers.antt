@@ -1,23 +1,28 @@
-use Rattle.std.proofs.Common.{length, get_or, sym, ap, ◌∙◌, arith}
-use Rattle.topo_tree.specs.Building.{pu_numbers}
-use Rattle.topo_tree.proofs.Positions.{length-leaf_table, leaf_table-at}
-use Rattle.topo_tree.proofs.Lookups.{tables, no_leaf}
+use Rattle.std.proofs.Common.{◌==◌, length, sym, ap, ◌∙◌, arith}
+use Rattle.std.specs.List.{position}
+use Rattle.std.proofs.lemmas.List.Quantifiers.{position-Some}
+use Rattle.topo_tree.specs.Coverage.{leaf_of}
+use Rattle.topo_tree.proofs.Lookups.{length-pu_numbers}
 use Rattle.topo_tree.proofs.topology.Topology.leaf_of.Goals as goal
 
-pub index-requires : goal.index-requires
-index-requires c =
-    let here = tables c.self.inside c.args.self.now c.self.invariant c.self.view_is in
-    omega (arith, ap length here.leaves, length-leaf_table (pu_numbers c.args.self.now))
+pub overflow_cast-result : goal.overflow_cast-result
+overflow_cast-result c =
+    let found = position-Some (λ number. number == c.args.physical) c.pus.result.now c.in-Some.place 0
+    (sym c.place_of.ensures ∙ c.in-Some.is) in
+    omega (
+      arith,
+      found.0,
+      ap length c.pus.ensures.numbers,
+      length-pu_numbers c.self.inside.tree,
+      c.pus.ensures.built.sound.pus,
+    )
 
-pub returns-then-physical-lt-LIMIT : goal.returns-then-physical-lt-LIMIT
-returns-then-physical-lt-LIMIT c =
-    let now = c.args.self.now in
-    let here = tables c.self.inside now c.self.invariant c.self.view_is in
-    c.index.ensures ∙ ap (λ leaves. get_or leaves c.args.physical c.index.result.now) here.leaves
-    ∙ leaf_table-at (pu_numbers now) c.args.physical c.index.result.now c.if-physical-lt-LIMIT.true
+pub returns-in-None : goal.returns-in-None
+returns-in-None c =
+    sym c.in-None.is ∙ c.place_of.ensures ∙ ap (position (λ number. number == c.args.physical)) c.pus.ensures.numbers
+    ∙ ap (λ now. leaf_of now c.args.physical) c.self.view_is
 
-pub returns-else-physical-lt-LIMIT : goal.returns-else-physical-lt-LIMIT
-returns-else-physical-lt-LIMIT c =
-    let now = c.args.self.now in
-    let here = tables c.self.inside now c.self.invariant c.self.view_is in
-    sym (no_leaf now c.args.physical here.built c.if-physical-lt-LIMIT.false)
+pub returns-in-Some : goal.returns-in-Some
+returns-in-Some c =
+    sym c.in-Some.is ∙ c.place_of.ensures ∙ ap (position (λ number. number == c.args.physical)) c.pus.ensures.numbers
+    ∙ ap (λ now. leaf_of now c.args.physical) c.self.view_is

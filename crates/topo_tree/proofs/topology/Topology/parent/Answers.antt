@@ -1,7 +1,7 @@
-use Rattle.std.proofs.Common.{◌≡◌, ◌<◌, ◌+◌, ◌-◌, ◌*◌, ◌/◌, sym, ap, ◌∙◌, subst, arith}
+use Rattle.std.proofs.Common.{◌≡◌, ◌<◌, ◌+◌, ◌-◌, ◌*◌, ap, subst, arith}
 use Rattle.std.proofs.lemmas.Nat.{div_below}
 use Rattle.topo_tree.specs.declared.layer.Layer.TheVariants as layers
-use Rattle.topo_tree.specs.Objects.{arity_at, count_at, count_of, IsLayer}
+use Rattle.topo_tree.specs.Objects.{count_at, count_of, IsLayer}
 use Rattle.topo_tree.proofs.CountLaws.{arity_some, count_more}
 use Rattle.topo_tree.proofs.Lookups.{place_of_object}
 use Rattle.topo_tree.proofs.topology.Topology.parent.Goals as goal

@@ -2,30 +2,30 @@ use Rattle.std.proofs.Common.{◌+◌, ◌<◌, length, take, get_or, ap, ◌∙
 use Rattle.synth_text.specs.Rules.{arities, product}
 use Rattle.topo_tree.specs.Building.{pu_numbers}
 use Rattle.topo_tree.specs.Coverage.{set_covered}
-use Rattle.topo_tree.proofs.Lookups.{tables, table_length, table_at, depth_length, sets_covered-at, place_of_object}
+use Rattle.topo_tree.proofs.Lookups.{tabled, table_length, table_at, depth_length, sets_covered-at, place_of_object}
 use Rattle.topo_tree.proofs.topology.Topology.set.Goals as goal
 
 pub index-requires : goal.index-requires
 index-requires c =
     let now = c.args.self.now in
-    let here = tables c.self.inside now c.self.invariant c.self.view_is in
-    let place = place_of_object now c.args.object.layer c.args.object.index here.built.sound c.requires.layer c.requires.index in
+    let here = tabled c.self.inside now c.self.invariant c.self.view_is in
+    let place = place_of_object now c.args.object.layer c.args.object.index c.depth_of-depth.ensures.built.sound c.requires.layer c.requires.index in
     omega (
       arith,
       c.depth_of-depth.ensures.depth,
       place.0,
       table_length (λ d. d.items) c.self.inside.sets.items
-          (pu_numbers now) now.levels here.sets,
+          (pu_numbers now) now.levels here,
     )
 
 pub index-requires-2 : goal.index-requires-2
 index-requires-2 c =
     let now = c.args.self.now in
     let depth = c.depth_of-depth.result in
-    let here = tables c.self.inside now c.self.invariant c.self.view_is in
-    let place = place_of_object now c.args.object.layer c.args.object.index here.built.sound c.requires.layer c.requires.index in
+    let here = tabled c.self.inside now c.self.invariant c.self.view_is in
+    let place = place_of_object now c.args.object.layer c.args.object.index c.depth_of-depth.ensures.built.sound c.requires.layer c.requires.index in
     let within : depth < length now.levels + 1 = omega (arith, c.depth_of-depth.ensures.depth, place.0) in
-    let long = depth_length (λ d. d.items) c.self.inside.sets.items now depth c.index.result.now here.sets within c.index.ensures in
+    let long = depth_length (λ d. d.items) c.self.inside.sets.items now depth c.index.result.now here within c.index.ensures in
     let counted = ap (λ d. product (take d (arities now.levels))) c.depth_of-depth.ensures.depth in
     omega (arith, long, counted, place.1)
 
@@ -34,11 +34,11 @@ returns c =
     let now = c.args.self.now in
     let depth = c.depth_of-depth.result in
     let index = c.args.object.index in
-    let here = tables c.self.inside now c.self.invariant c.self.view_is in
-    let place = place_of_object now c.args.object.layer index here.built.sound c.requires.layer c.requires.index in
+    let here = tabled c.self.inside now c.self.invariant c.self.view_is in
+    let place = place_of_object now c.args.object.layer index c.depth_of-depth.ensures.built.sound c.requires.layer c.requires.index in
     let within : depth < length now.levels + 1 = omega (arith, c.depth_of-depth.ensures.depth, place.0) in
     let found = table_at (λ d. d.items) c.self.inside.sets.items
-    (pu_numbers now) now.levels depth c.index.result.now here.sets within c.index.ensures in
+    (pu_numbers now) now.levels depth c.index.result.now here within c.index.ensures in
     let below : index < product (take depth (arities now.levels)) =
     omega (arith, ap (λ d. product (take d (arities now.levels))) c.depth_of-depth.ensures.depth, place.1) in
     c.index-2.ensures ∙ ap (λ sets. get_or sets index c.index-2.result.now) found
