@@ -5,11 +5,18 @@ mod options;
 mod set;
 mod topo;
 
-use crate::{Status, calc_text, distrib_text, line, set_text, topo_text};
+use crate::{Fault, OptionName, Status, calc_text, distrib_text, line, set_text, topo_text};
+use calc_query::CalcFault;
 use command_words::{Asked, WordsFault, read_words};
+use cpu_set::SetFault;
+use distrib_rules::DistribFault;
+use out_of_memory::OutOfMemory;
+use placed_runner::SectionFault;
 use std::alloc::Global;
 use std::process::Abort;
 use std::test::Fail;
+use synth_text::SynthFault;
+use topo_tree::BuildFault;
 
 // What is printed for words, or the status.
 fn answered(alloc: Global, words: &[&str]) -> Result<Result<Vec<u8>, Status>, Fail> {
@@ -56,4 +63,41 @@ fn text<R: Abort>(rt: &R, alloc: Global, words: &[&str]) -> Result<Vec<u8>, Fail
         Ok(text) => Ok(text),
         Err(_) => panic!(rt; "the words are refused"),
     }
+}
+
+// Each fault has its words.
+#[test]
+fn tells_each_fault(rt: HostRuntime) -> Result<(), Fail> {
+    let rows = [
+        (
+            Fault::Set(SetFault::Infinite { at: 4 }),
+            "the set: the set at byte 4 has no end",
+        ),
+        (Fault::Synth(SynthFault::Empty), "the description: no level"),
+        (
+            Fault::Build(BuildFault::IndexTwice { number: 5 }),
+            "the topology: the physical number 5 comes twice",
+        ),
+        (
+            Fault::Calc(CalcFault::NoSuchType { word: 1 }),
+            "the locations: no such type in word 1",
+        ),
+        (Fault::TypeOf(OptionName::At), "the type of an option"),
+        (
+            Fault::Distrib(DistribFault::ZeroMasks),
+            "the distribution: no mask",
+        ),
+        (
+            Fault::Section(SectionFault::TooManyCallers),
+            "the sections: more than 256 sections",
+        ),
+        (Fault::Input, "the input is too long"),
+    ];
+    for (fault, wanted) in rows {
+        let told = format!(in rt.alloc(); "{fault}")?;
+        assert_eq!(rt; told.as_str(), wanted);
+    }
+    let told = format!(in rt.alloc(); "{OutOfMemory}")?;
+    assert_eq!(rt; told.as_str(), "out of memory");
+    Ok(())
 }

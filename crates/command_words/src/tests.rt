@@ -123,3 +123,17 @@ fn refuses_words(rt: HostRuntime) -> Result<(), Fail> {
     }
     Ok(())
 }
+
+// Each fault has its words.
+#[test]
+fn tells_each_fault(rt: HostRuntime) -> Result<(), Fail> {
+    let rows = [
+        (WordsFault::Usage, "usage"),
+        (WordsFault::OutOfMemory, "out of memory"),
+    ];
+    for (fault, wanted) in rows {
+        let told = format!(in rt.alloc(); "{fault}")?;
+        assert_eq!(rt; told.as_str(), wanted);
+    }
+    Ok(())
+}

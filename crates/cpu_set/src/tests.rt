@@ -469,3 +469,18 @@ fn combines_sets(rt: HostRuntime) -> Result<(), Fail> {
     assert_eq!(rt; CpuSet::empty().first(), None);
     Ok(())
 }
+
+// Each fault has its words.
+#[test]
+fn tells_each_fault(rt: HostRuntime) -> Result<(), Fail> {
+    let rows = [
+        (Form { at: 5 }, "no set is spelled like the text at byte 5"),
+        (TooLarge { at: 2 }, "the number at byte 2 is 4096 or more"),
+        (Infinite { at: 0 }, "the set at byte 0 has no end"),
+    ];
+    for (fault, wanted) in rows {
+        let told = format!(in rt.alloc(); "{fault}")?;
+        assert_eq!(rt; told.as_str(), wanted);
+    }
+    Ok(())
+}

@@ -222,3 +222,19 @@ fn sixty_pus(rt: HostRuntime) -> Result<(), Fail> {
     0xf00000000000000 0xfc000000000000 0x3ff0000000000 0xffc0000000 0x3ff00000 0xffc00 0x3ff";
     check_masks(&rt, rt.alloc(), b"Package:2 Die:3 Core:5 PU:2", table)
 }
+
+// Each fault has its words.
+#[test]
+fn tells_each_fault(rt: HostRuntime) -> Result<(), Fail> {
+    let rows = [
+        (DistribFault::ZeroMasks, "no mask"),
+        (DistribFault::TooManyMasks, "more than 4096 masks"),
+        (DistribFault::Reversed, "the start is below the end"),
+        (DistribFault::OutOfMemory, "out of memory"),
+    ];
+    for (fault, wanted) in rows {
+        let told = format!(in rt.alloc(); "{fault}")?;
+        assert_eq!(rt; told.as_str(), wanted);
+    }
+    Ok(())
+}

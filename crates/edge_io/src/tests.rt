@@ -228,3 +228,22 @@ fn adapters_tell_of_another_failure(rt: HostRuntime) {
     assert_eq!(rt; sink.write(b"y"), Err(Failed));
     assert_eq!(rt; sink.write(b"y"), Ok(1));
 }
+
+// Each fault has its words.
+#[test]
+fn tells_each_fault(rt: HostRuntime) -> Result<(), Fail> {
+    let rows = [
+        (ReadAllFault::Fault, "a read failed"),
+        (ReadAllFault::TooLong, "more bytes than the limit"),
+        (ReadAllFault::OutOfMemory, "out of memory"),
+    ];
+    for (fault, wanted) in rows {
+        let told = format!(in rt.alloc(); "{fault}")?;
+        assert_eq!(rt; told.as_str(), wanted);
+    }
+    let failed = format!(in rt.alloc(); "{Failed}")?;
+    assert_eq!(rt; failed.as_str(), "the read or the write failed");
+    let stopped = format!(in rt.alloc(); "{}", Stopped { written: 12 })?;
+    assert_eq!(rt; stopped.as_str(), "the writing stopped behind 12 bytes");
+    Ok(())
+}

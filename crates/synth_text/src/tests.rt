@@ -98,3 +98,44 @@ fn words_name_kinds(rt: HostRuntime) {
     assert_eq!(rt; Kind::L1i.short_name(), b"L1i".as_slice());
     assert_eq!(rt; Kind::L1i.long_name(), b"L1iCache".as_slice());
 }
+
+// Each fault has its words.
+#[test]
+fn tells_each_fault(rt: HostRuntime) -> Result<(), Fail> {
+    let rows = [
+        (SynthFault::Empty, "no level"),
+        (SynthFault::BadType { at: 1 }, "unknown type at 1"),
+        (SynthFault::BadArity { at: 20 }, "bad arity at 20"),
+        (SynthFault::BadAttr { at: 3 }, "bad attribute at 3"),
+        (SynthFault::BadIndexes { at: 0 }, "bad indexes at 0"),
+        (
+            SynthFault::LastNotPu { at: 5 },
+            "the last level is not PU, at 5",
+        ),
+        (SynthFault::RepeatedType { at: 64 }, "repeated type at 64"),
+        (SynthFault::TooManyLevels, "too many levels"),
+        (SynthFault::TooManyObjects, "too many objects"),
+        (SynthFault::OutOfMemory, "out of memory"),
+    ];
+    for (fault, wanted) in rows {
+        let told = format!(in rt.alloc(); "{fault}")?;
+        assert_eq!(rt; told.as_str(), wanted);
+    }
+    Ok(())
+}
+
+// Memory behind the last level, which no text describes, stands behind all levels.
+#[test]
+fn writes_memory_behind_the_last_level(rt: HostRuntime) -> Result<(), Fail> {
+    for above in [1, 2] {
+        let mut description = read(rt.alloc(), b"PU:2")?;
+        description.memory = Some(Memory {
+            above,
+            size: None,
+            indexes: Indexes::Ordered,
+        });
+        let text = write(rt.alloc(), &description)?;
+        assert_eq!(rt; text.as_slice(), b"PU:2 [NUMANode]".as_slice());
+    }
+    Ok(())
+}

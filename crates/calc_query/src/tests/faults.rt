@@ -112,3 +112,21 @@ root
         assert!(&rt; read.is_ok());
     }
 }
+
+// Each fault has its words.
+#[test]
+fn tells_each_fault(rt: HostRuntime) -> Result<(), Fail> {
+    let rows = [
+        (
+            CalcFault::Location { word: 3, at: 14 },
+            "bad location in word 3 at 14",
+        ),
+        (CalcFault::NoSuchType { word: 2 }, "no such type in word 2"),
+        (CalcFault::OutOfMemory, "out of memory"),
+    ];
+    for (fault, wanted) in rows {
+        let told = format!(in rt.alloc(); "{fault}")?;
+        assert_eq!(rt; told.as_str(), wanted);
+    }
+    Ok(())
+}

@@ -94,3 +94,19 @@ fn memory_comes_first(rt: HostRuntime) {
     ];
     check_faults(&rt, rt.alloc(), &cases);
 }
+
+// Each fault has its words.
+#[test]
+fn tells_each_fault(rt: HostRuntime) -> Result<(), Fail> {
+    let rows = [
+        (miscounted(3, 2), "3 physical numbers for 2 objects"),
+        (too_large(5000), "the physical number 5000 is 4096 or more"),
+        (twice(7), "the physical number 7 comes twice"),
+        (BuildFault::OutOfMemory, "out of memory"),
+    ];
+    for (fault, wanted) in rows {
+        let told = format!(in rt.alloc(); "{fault}")?;
+        assert_eq!(rt; told.as_str(), wanted);
+    }
+    Ok(())
+}
