@@ -30,7 +30,8 @@ pub fn put<V: Cargo, D: Disciplined>(
     requires empty { seat.old.me.1 ≡ (0, None) ∷ [] }
     ensures seat { seat.new ≡ seat_as seat.old seat.old.me.0 ((0, Some value) ∷ []) }
 {
-    let None = words.exchange(seat, 0, Some(value)) else {
-        unreachable!()
-    };
+    match words.exchange(seat, 0, Some(value)) {
+        None => {}
+        Some(_) => unreachable!(),
+    }
 }
