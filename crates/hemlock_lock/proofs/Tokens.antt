@@ -15,7 +15,7 @@ use Rattle.lock_tables.specs.Happened.{Seated, Happened, missed_view}
 use Rattle.lock_tables.specs.Rule.{IsLock}
 use Rattle.lock_tables.specs.Seats.{IsSized}
 use Rattle.lock_tables.proofs.Seats.{alike, alike_plain}
-use Rattle.hemlock_lock.specs.Kinds.{own_name, queued_view, followed_view, granting_view}
+use Rattle.hemlock_lock.specs.Kinds.{own_name, queued_view, followed_view, granting_view, done_view}
 use Rattle.hemlock_lock.specs.Rule.{tail, queue_of, hemlock_discipline}
 use Rattle.hemlock_lock.proofs.Chains.{tail_within, queued_names}
 use Rattle.std.specs.Prelude.{List, slice_index}
@@ -70,3 +70,7 @@ followed_plain v p = alike_plain v (followed_view v) (alike _ _ refl refl refl r
 pub waited_plain : (v : View) → IsPlain v → IsPlain (missed_view (granting_view v))
 waited_plain v p =
     alike_plain v (missed_view (granting_view v)) (alike _ _ refl refl refl refl refl refl refl refl refl refl p.predecessor_within) p
+
+pub done_plain : (v : View) → IsPlain v → IsPlain (done_view (granting_view v))
+done_plain v p =
+    alike_plain v (done_view (granting_view v)) (alike _ _ refl refl refl refl refl refl refl refl refl refl p.predecessor_within) p

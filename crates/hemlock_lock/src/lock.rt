@@ -67,7 +67,7 @@ impl<V: Cargo> Basic<V> for Hemlock<V> {
         ensures tagged { IfGot result (λ h. V.tag h.value ≡ V.tag (padded_value self.now.words.table).shared.key.value.value) }
         ensures untested { IfGot result (λ h. (holder_of h).tested ≡ Open) }
     {
-        let (mut seat, number) = pass.into_parts();
+        let (mut seat, number) = self.words.pass_parts(pass);
         let predecessor = self.words.swap_tail(&mut seat, number + 1);
         if predecessor != 0 {
             return Step::Not(Queue::of(seat, number, predecessor));
@@ -131,7 +131,7 @@ impl<V: Cargo> Basic<V> for Hemlock<V> {
         ensures rests { IfNot result (λ _. Unit {0}) }
         ensures pass { IfGot result (λ p. badge_place p.badge ≡ (holder_of held).place) }
     {
-        let (mut seat, value, number, _) = held.into_parts();
+        let (mut seat, value, number) = self.words.held_parts(held);
         self.words.put(&mut seat, value);
         let own = number + 1;
         if self.words.exchange_tail(&mut seat, own) == own {

@@ -86,6 +86,21 @@ impl<V: Cargo> Words<V> {
         into_value(table, seat)
     }
 
+    /// The seat of a pass of this lock, and its number.
+    pub(crate) fn pass_parts(&self, pass: Pass) -> (Seat<Option<V>, View>, u64)
+        requires of { IsOwn V.tag hemlock_algorithm (padded_value self.now.table).shared.table_id (padded_value self.now.table).shared.key
+            (badge_place pass.badge) }
+        ensures table { result.0.table_id ≡ (padded_value self.now.table).shared.table_id }
+        ensures seat { result.0.table_id ≡ pass.badge.table_id }
+        ensures view { result.0.me ≡ (view_of pass.badge, []) }
+        ensures number { result.1 ≡ result.0.me.0.number }
+        ensures marked { result.1 ≡ mark_of result.0.me.0 }
+        ensures plain { IsPlain result.0.me.0 }
+        ensures small { result.1 < 2 ^ 32 }
+    {
+        pass.into_parts()
+    }
+
     /// The seat of a queued pass of this lock, its number and the name of its predecessor.
     pub(crate) fn queue_parts(&self, queue: Queue) -> (Seat<Option<V>, View>, u64, u64)
         requires of { IsOwn V.tag hemlock_algorithm (padded_value self.now.table).shared.table_id (padded_value self.now.table).shared.key
@@ -99,6 +114,23 @@ impl<V: Cargo> Words<V> {
         ensures within { result.2 ≤ (padded_value self.now.table).shared.key.passes }
     {
         queue.into_parts()
+    }
+
+    /// The seat of the holder of this lock, its value and its number.
+    pub(crate) fn held_parts(&self, held: Held<V>) -> (Seat<Option<V>, View>, V, u64)
+        requires of { IsOwn V.tag hemlock_algorithm (padded_value self.now.table).shared.table_id (padded_value self.now.table).shared.key
+            (holder_of held).place }
+        ensures table { result.0.table_id ≡ (padded_value self.now.table).shared.table_id }
+        ensures seat { result.0 ≡ held.seat.seat }
+        ensures value { result.1 ≡ held.value }
+        ensures number { result.2 ≡ result.0.me.0.number }
+        ensures marked { result.2 ≡ mark_of result.0.me.0 }
+        ensures plain { IsPlain result.0.me.0 }
+        ensures within { result.2 < (padded_value self.now.table).shared.key.passes }
+        ensures small { result.2 < 2 ^ 32 }
+    {
+        let (seat, value, number, _) = held.into_parts();
+        (seat, value, number)
     }
 
     /// The number of the holder of this lock.
@@ -134,6 +166,7 @@ impl<V: Cargo> Words<V> {
         requires unspent { seat.old.me.0.spent ≡ false }
         requires name { own ≡ own_name seat.old.me.0 }
         ensures table { seat.new.table_id ≡ seat.old.table_id }
+        ensures plain { IsPlain seat.old.me.0 → result ≢ 0 → IsPlain seat.new.me.0 }
         ensures took { result ≡ 0 → TookAtOnce V.fit V.tag V.parked seat.old.me result seat.new.me }
         ensures entered { result ≢ 0 → Entered V.fit V.tag V.parked seat.old.me result seat.new.me }
     {
@@ -197,6 +230,7 @@ impl<V: Cargo> Words<V> {
         requires name { own ≡ own_name seat.old.me.0 }
         requires home { (x : V) × (seat.old.me.1 ≡ (0, Some x) ∷ []) × MayRest V.fit V.tag V.parked seat.old.me.0 x }
         ensures table { seat.new.table_id ≡ seat.old.table_id }
+        ensures plain { result ≢ own → IsPlain seat.new.me.0 }
         ensures left { result ≡ own → Left V.fit V.tag V.parked seat.old.me result seat.new.me }
         ensures followed { result ≢ own → Followed V.fit V.tag V.parked seat.old.me result seat.new.me }
     {

@@ -19,8 +19,8 @@ use std::sync::Wait;
 
 /// All callers take turns on one thread. A round is a step of each, in ascending order: an idle caller with turns left begins to take the
 /// lock, a queued one asks again, a holder makes one call and begins to leave, and one that leaves asks again. The lock is taken apart when
-/// all are idle with no turn left. The answer is its root, or `None` for want of memory, or where a pass tells other tests than those of its
-/// caller's last turn.
+/// all are idle with no turn left. The answer is its root, or `None` for want of memory, or where a pass tells other tests than those of
+/// its caller's last turn.
 pub fn walk<C: Composed<Roll> + Drop, R: Wait>(
     rt: &R,
     alloc: Global,

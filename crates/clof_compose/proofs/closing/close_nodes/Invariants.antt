@@ -4,8 +4,8 @@ use Rattle.clof_compose.specs.Passes.{AreFrom}
 use Rattle.clof_compose.proofs.closing.close_nodes.Given as goal
 
 -- the nodes that were taken apart have given their passes to the list
-abbrev pub invariant-loop-node : goal.invariant-loop-node
-invariant-loop-node g l = record {
+abbrev pub invariant-loop-pass : goal.invariant-loop-pass
+invariant-loop-pass g l = record {
   locks : AreLocks g.B.Basic.tag (g.H.Composed.has l.high) (g.H.Composed.level l.high) (g.H.Composed.tag l.high) (locks_of l.nodes.items);
   full : AreFull g.B.Basic.name g.B.Basic.tag g.B.Basic.count g.B.Pass.Placed.place l.nodes.items;
   behind : AreFrom (λ p. (g.H.Pass.Resting.rest p).context) (g.H.Composed.has l.high) (g.H.Composed.level l.high) (g.H.Composed.tag
@@ -14,5 +14,5 @@ invariant-loop-node g l = record {
   room : vec_capacity l.passes ≡ vec_capacity l.fn.passes;
 }
 
-abbrev pub decreases-loop-node : goal.decreases-loop-node
-decreases-loop-node g l = vec_len l.nodes
+abbrev pub decreases-loop-pass : goal.decreases-loop-pass
+decreases-loop-pass g l = vec_len l.nodes

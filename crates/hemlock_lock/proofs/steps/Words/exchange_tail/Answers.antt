@@ -1,5 +1,7 @@
-use Rattle.std.proofs.Common.{ap, sym, ◌∙◌, arith}
+use Rattle.std.proofs.Common.{ap, sym, ◌∙◌, subst, arith}
+use Rattle.lock_rules.specs.Views.{IsPlain}
 use Rattle.hemlock_lock.proofs.Kept.{exchanges}
+use Rattle.hemlock_lock.proofs.Tokens.{followed_plain}
 use Rattle.hemlock_lock.proofs.steps.Words.exchange_tail.Goals as goal
 
 pub compare_exchange-requires : goal.compare_exchange-requires
@@ -11,3 +13,8 @@ compare_exchange-requires g c =
       exchanges g.V.Cargo.fit g.V.Cargo.tag g.V.Cargo.parked _ _ _ _ _ home.0 _ _ c.requires.holds c.requires.plain c.requires.name home.1
           home.2,
     )
+
+pub returns-clause-plain : goal.returns-clause-plain
+returns-clause-plain g c other =
+    let followed = c.compare_exchange.ensures.2.1 (λ e. other (e ∙ sym c.requires.name)) in
+    subst IsPlain (sym (ap (λ m. m.0) followed.0)) (followed_plain c.args.seat.now.me.0 c.requires.plain)
