@@ -5,11 +5,14 @@ ghost use Rattle.std.specs.Process.{exit_status};
 ghost use Rattle.command_texts.specs.declared.status.Status.{Status as AnyStatus};
 ghost use Rattle.clof_tool.specs.Process.{words_of_process, IsUnused};
 ghost use Rattle.command_texts.specs.Status.{code_of};
+ghost use Rattle.command_texts.specs.Line.{line_of};
 ghost use Rattle.command_words.specs.Words.{IsTabled, IsUsage};
+ghost use Rattle.edge_io.specs.Counts.{Rose};
+ghost use Rattle.edge_io.specs.Contents.{Gains};
 
 use crate::report::report;
 use crate::{Status, top};
-use edge_io::{StdSink, StdSource};
+use edge_io::{Sink, Source, StdSink, StdSource};
 use std::alloc::Global;
 use std::io::{ErrorKind, Stderr, Stdin, Stdout};
 use std::process::ExitCode;
@@ -55,15 +58,37 @@ impl Process {
             mut output,
             mut errors,
         } = self;
-        let status = match words {
-            Ok(words) => top(rt, alloc, &words, &mut input, &mut output, &mut errors),
-            Err(error) => {
-                let status = status_of(error.kind());
-                report(&mut errors, &status);
-                status
-            }
-        };
+        let status = ended(rt, alloc, words, &mut input, &mut output, &mut errors);
         ExitCode::from(status.code())
+    }
+}
+
+// Makes the top call on the words. Where they can't be had, nothing is read or printed, and standard error is told why.
+fn ended<R: Threads + Wait + Sync, S: Source, K: Sink, E: Sink>(
+    rt: &R,
+    alloc: Global,
+    words: io::Result<Vec<String>>,
+    source: &mut S,
+    out: &mut K,
+    err: &mut E,
+) -> Status
+    ensures usage { IfOk words (λ words. result ≡ Status.Usage → IsUsage words.items) }
+    ensures usage_else { IfOk words (λ words. IsUsage words.items →
+        (result ≡ Status.Usage) ⊎ ((result ≡ Status.OutOfMemory) × IsTabled words.items)) }
+    ensures no_words { IfErr words (λ error. error_kind error ≢ ErrorKind.OutOfMemory → result ≡ Status.Usage) }
+    ensures no_memory { IfErr words (λ error. error_kind error ≡ ErrorKind.OutOfMemory → result ≡ Status.OutOfMemory) }
+    ensures unread { IfErr words (λ _. source.new ≡ source.old) }
+    ensures unwritten { IfErr words (λ _. out.new ≡ out.old) }
+    ensures told { IfErr words (λ _. (Rose (E.faults err.old) (E.faults err.new) → ⊥) →
+        (Rose (E.stalls err.old) (E.stalls err.new) → ⊥) → Gains (E.held err.old) (E.held err.new) (line_of result)) }
+{
+    match words {
+        Ok(words) => top(rt, alloc, &words, source, out, err),
+        Err(error) => {
+            let status = status_of(error.kind());
+            report(err, &status);
+            status
+        }
     }
 }
 

@@ -107,17 +107,18 @@ fn takes_256_sections(rt: HostRuntime) -> Result<(), Fail> {
     Ok(())
 }
 
-fn printed(alloc: Global, first: &[u8], second: &[u8]) -> Result<Vec<u8>, Fail>
+// The text of a run of two sections, whose callers stand on these PUs.
+fn printed(alloc: Global, pus: (u32, u32), first: &[u8], second: &[u8]) -> Result<Vec<u8>, Fail>
     requires first { length first.now < 2 ^ 20 }
     requires second { length second.now < 2 ^ 20 }
 {
     let sections = [
         Section {
-            pu: 3,
+            pu: pus.0,
             bytes: first,
         },
         Section {
-            pu: 0,
+            pu: pus.1,
             bytes: second,
         },
     ];
@@ -132,6 +133,7 @@ fn printed(alloc: Global, first: &[u8], second: &[u8]) -> Result<Vec<u8>, Fail>
 fn prints_a_run(rt: HostRuntime) -> Result<(), Fail> {
     let text = printed(
         rt.alloc(),
+        (3, 0),
         b"set a 5 0 3\r\n\x01\"\xff\r\nquit\r\nget a\r\n",
         b"get a\r\nge",
     )?;
@@ -143,5 +145,45 @@ fn prints_a_run(rt: HostRuntime) -> Result<(), Fail> {
           caller 1 pu 0 commands 1 rest 2\n";
     assert_eq!(rt; text.as_slice(), want.as_slice());
     assert_eq!(rt; text.capacity(), text.len());
+    Ok(())
+}
+
+// Each fault has its words.
+#[test]
+fn tells_each_fault(rt: HostRuntime) -> Result<(), Fail> {
+    let rows = [
+        (SectionFault::BadHead { at: 12 }, "the head at byte 12"),
+        (
+            SectionFault::BadPlace { at: 3 },
+            "the place of the head at byte 3",
+        ),
+        (
+            SectionFault::Short { at: 0 },
+            "the bytes behind the head at byte 0",
+        ),
+        (SectionFault::TooManyCallers, "more than 256 sections"),
+        (SectionFault::OutOfMemory, "out of memory"),
+    ];
+    for (fault, wanted) in rows {
+        let told = format!(in rt.alloc(); "{fault}")?;
+        assert_eq!(rt; told.as_str(), wanted);
+    }
+    Ok(())
+}
+
+// The buffer of a text has its size, whatever digits its numbers and whatever signs its commands have.
+#[test]
+fn makes_a_text_in_a_buffer_of_its_size(rt: HostRuntime) -> Result<(), Fail> {
+    let mut gets = Vec::new(rt.alloc());
+    for _ in 0..1001 {
+        gets.extend_from_slice(b"get ~\r\n")?;
+        gets.extend_from_slice(b"get \\\r\n")?;
+    }
+    gets.extend_from_slice(b"get 1234567")?;
+    for pus in [(0, 9), (10, 4095), (100, 99)] {
+        assert!(rt; gets.len() < 1_048_576);
+        let text = printed(rt.alloc(), pus, b"set ~ 0 0 4\r\n\n\x7f\x1f\"\r\n", &gets)?;
+        assert_eq!(rt; text.capacity(), text.len());
+    }
     Ok(())
 }
