@@ -1,0 +1,17 @@
+use Rattle.std.proofs.Common.{◌≡◌, ℕ, length, Some}
+use Rattle.std.specs.Prelude.{slice_get}
+use Rattle.level_trials.specs.Jobs.{IsEnded}
+use Rattle.level_threads.specs.Shifts.{HasWorked}
+use Rattle.level_threads.proofs.Shifts.{all_ended, if_both, may_work}
+use Rattle.level_threads.proofs.five.run_in_threads.Goals as goal
+
+pub by_all-requires-clause-allowed : goal.by_all-requires-clause-allowed
+by_all-requires-clause-allowed g c κs within = λ k j e.
+    may_work _ _ _ _ _ c.requires.sound c.requires.lowest c.requires.room k j (c.requires.each k j e)
+
+pub returns-clause-each : goal.returns-clause-each
+returns-clause-each g c = if_both (λ done. length done.items ≡ length c.args.jobs.items)
+    (λ done. (k : ℕ) (j j' : _) → slice_get c.args.jobs.items k ≡ Some j → slice_get done.items k ≡ Some j' → HasWorked _ j j')
+    (λ done. (k : ℕ) (j' : _) → slice_get done.items k ≡ Some j' → IsEnded _ _ _ _ k j') c.by_all.result
+    (λ done many worked. all_ended _ _ _ _ c.args.jobs.items done.items many c.requires.each worked) c.by_all.ensures.many
+    c.by_all.ensures.each

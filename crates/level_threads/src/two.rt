@@ -1,0 +1,114 @@
+//! The callers of a lock of two levels, each in a thread of its own.
+ghost use Rattle.std.specs.Prelude.{◌≡◌, ◌^◌, ◌<◌, ℕ, length, sum, slice_get, Some, IfSome};
+ghost use Rattle.keep_local.specs.Shapes.{IsWellFormed, callers_of, top_of};
+ghost use Rattle.clof_compose.specs.Courses.{course_of};
+ghost use Rattle.clof_compose.specs.Roots.{IsFit, root_tag};
+ghost use Rattle.level_trials.specs.Jobs.{IsEnded, IsJob};
+ghost use Rattle.level_trials.specs.Rooms.{HasRoom, roll_tag};
+ghost use Rattle.ticket_levels.specs.Ready.{IsReady};
+ghost use Rattle.level_threads.specs.Shifts.{HasWorked, MayWork};
+
+use crate::shared::{is_shared, passes_are_shared};
+use clof_compose::{Composed, Resting, Root};
+use keep_local::Shape;
+use level_trials::{Job, Roll, close_ended, deal, hold_all};
+use lock_trials::{Works, by_all};
+use std::alloc::Global;
+use std::sync::Wait;
+use std::thread::Threads;
+use ticket_levels::{Lock2, LowPass, Ready, make_two};
+
+/// What each thread needs: they share the lock by a plain borrow.
+#[derive(Drop)]
+struct Shift<'a, R> {
+    rt: &'a R,
+    lock: &'a Lock2,
+}
+
+impl<'a, R: Wait> Works<Job<LowPass>> for Shift<'a, R> {
+    // the pass and the share are those of one caller of this lock, which has room for all calls
+    ghost allows = { λ s j. MayWork ⟦<LowPass as Resting>⟧.rest (⟦<Lock2 as Composed<Roll>>⟧.has s.lock.now)
+        (⟦<Lock2 as Composed<Roll>>⟧.level s.lock.now) (⟦<Lock2 as Composed<Roll>>⟧.tag s.lock.now)
+        (⟦<Lock2 as Composed<Roll>>⟧.sound s.lock.now) j };
+
+    // and the same come back, with all turns made
+    ghost gives = { λ _ j k. HasWorked ⟦<LowPass as Resting>⟧.rest j k };
+
+    fn work(&self, job: Job<LowPass>) -> Job<LowPass> {
+        hold_all::<Lock2, R>(self.rt, self.lock, job)
+    }
+}
+
+// Each caller makes all the turns that it has left, in a thread of its own. The answer is `None` for want of memory.
+fn run_in_threads<R: Threads + Wait + Sync>(
+    rt: &R,
+    lock: &Lock2,
+    jobs: Vec<Job<LowPass>>,
+) -> Option<Vec<Job<LowPass>>>
+    requires sound { ⟦<Lock2 as Composed<Roll>>⟧.sound lock.now }
+    requires lowest { ⟦<Lock2 as Composed<Roll>>⟧.level lock.now ≡ 0 }
+    requires room { HasRoom (course_of (⟦<Lock2 as Composed<Roll>>⟧.tag lock.now)) }
+    requires each { (k : ℕ) (j : _) → slice_get jobs.items k ≡ Some j → IsJob ⟦<LowPass as Resting>⟧.rest
+        (⟦<Lock2 as Composed<Roll>>⟧.has lock.now) (⟦<Lock2 as Composed<Roll>>⟧.level lock.now)
+        (⟦<Lock2 as Composed<Roll>>⟧.tag lock.now) k j }
+    ensures many { IfSome result (λ ended. length ended.items ≡ length jobs.items) }
+    ensures each { IfSome result (λ ended. (k : ℕ) (j : _) → slice_get ended.items k ≡ Some j
+        → IsEnded ⟦<LowPass as Resting>⟧.rest (⟦<Lock2 as Composed<Roll>>⟧.has lock.now)
+        (⟦<Lock2 as Composed<Roll>>⟧.level lock.now) (⟦<Lock2 as Composed<Roll>>⟧.tag lock.now) k j) }
+{
+    passes_are_shared();
+    is_shared::<Lock2>();
+    by_all(rt, &Shift { rt, lock }, jobs)
+}
+
+// The callers of a lock that is ready make all their turns, and it is taken apart. The answer is its root, or `None` for want of memory.
+fn hold_ready<R: Threads + Wait + Sync>(
+    rt: &R,
+    alloc: Global,
+    ready: Ready<Lock2, LowPass>,
+) -> Option<Root<Roll>>
+    requires ready { IsReady ⟦<LowPass as Resting>⟧.rest (⟦<Lock2 as Composed<Roll>>⟧.has ready.lock)
+        (⟦<Lock2 as Composed<Roll>>⟧.sound ready.lock) (⟦<Lock2 as Composed<Roll>>⟧.level ready.lock)
+        (⟦<Lock2 as Composed<Roll>>⟧.count ready.lock) (⟦<Lock2 as Composed<Roll>>⟧.tag ready.lock) ready.shape ready.passes.items
+        ready.shares.items }
+    requires lowest { ⟦<Lock2 as Composed<Roll>>⟧.level ready.lock ≡ 0 }
+    ensures fit { IfSome result (IsFit (λ r. r.callers.items)) }
+    ensures tagged { IfSome result (λ r. root_tag roll_tag r ≡ ⟦<Lock2 as Composed<Roll>>⟧.tag ready.lock) }
+{
+    let Ready {
+        shape: _,
+        lock,
+        passes,
+        shares,
+    } = ready;
+    let Some((jobs, passes)) = deal::<Lock2>(alloc, &lock, passes, shares) else {
+        return None;
+    };
+    let Some(ended) = run_in_threads(rt, &lock, jobs) else {
+        return None;
+    };
+    Some(close_ended::<Lock2>(lock, ended, passes))
+}
+
+/// All callers of a shape hold a lock of two levels in threads of their own, each as often as its quota, and the lock is taken apart. The
+/// answer is its root, or `None` for want of memory, and where the shape has no callers.
+pub fn hold_in_two<R: Threads + Wait + Sync>(
+    rt: &R,
+    alloc: Global,
+    shape: Shape,
+    quotas: &[u32],
+) -> Option<Root<Roll>>
+    requires shaped { IsWellFormed shape }
+    requires few { callers_of shape < 2 ^ 32 }
+    requires top { top_of shape ≡ 1 }
+    requires quotas { length quotas.now ≡ callers_of shape }
+    requires fits { sum quotas.now < 2 ^ 32 }
+    ensures fit { IfSome result (IsFit (λ r. r.callers.items)) }
+    ensures shape { IfSome result (λ r. r.trail.shape ≡ shape) }
+    ensures quotas { IfSome result (λ r. r.trail.quotas ≡ quotas.now) }
+{
+    let Some(ready) = make_two(alloc, shape, quotas) else {
+        return None;
+    };
+    hold_ready(rt, alloc, ready)
+}

@@ -1,0 +1,27 @@
+-- How a lock stands whose lower levels are still lacking.
+use Rattle.std.specs.Prelude.{◌≡◌, ℕ, ◌^◌, ◌<◌, ◌≤◌, List, All, length}
+use Rattle.lock_rules.specs.Tag.{Tag}
+use Rattle.keep_local.specs.declared.shape.Shape.{Shape}
+use Rattle.keep_local.specs.Shapes.{IsWellFormed, callers_of, top_of}
+use Rattle.keep_local.specs.States.{ShareState, new_shares}
+use Rattle.clof_compose.specs.Contexts.{AreContexts, Context}
+use Rattle.clof_compose.specs.Courses.{course_of}
+use Rattle.clof_compose.specs.Meanings.{Rest}
+use Rattle.clof_compose.specs.Passes.{AreAll}
+use Rattle.level_trials.specs.Rooms.{HasRoom}
+
+-- the lock is one of this shape whose lowest level has this number; it is sound and has all its passes, as they were made, and all shares
+-- of its trail, and its payload has room for all calls
+pub record IsReady {P : Type 0} (rest : P → Rest) (has : Context → Type 0) (sound : Type 0) (level count : ℕ) (tag : Tag) (shape : Shape)
+    (passes : List P) (shares : List ShareState) : Type 0 where
+  pub shaped : IsWellFormed shape
+  pub few : callers_of shape < 2 ^ 32
+  pub below : level ≤ top_of shape
+  pub sound_is : sound
+  pub same : (course_of tag).shape ≡ shape
+  pub contexts : AreContexts shape level count
+  pub all : AreAll (λ p. (rest p).context) has level tag count passes
+  pub fresh : All (λ p. (rest p).tests ≡ 0) passes
+  pub quotas : length (course_of tag).quotas ≡ callers_of shape
+  pub dealt : shares ≡ new_shares (course_of tag).name (course_of tag).quotas
+  pub room : HasRoom (course_of tag)
