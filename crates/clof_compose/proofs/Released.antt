@@ -1,7 +1,7 @@
 -- How a node's holder notes the answer of `waiter`, and keeps the high lock or not.
 use Rattle.std.proofs.Common.{◌≡◌, ℕ, ◌+◌, ◌<◌, Bool, true, false, List, [], ◌∷◌, ◌++◌, refl, ap, sym, ◌∙◌, subst, arith}
 use Rattle.std.proofs.Common.{Option, Some, None}
-use Rattle.std.specs.Prelude.{All, IfSome, option_map, slice_index}
+use Rattle.std.specs.Prelude.{All, IfSome, IsSomeAnd, option_map, slice_index}
 use Rattle.std.specs.Int.{bit_at}
 use Rattle.std.proofs.lemmas.List.{append-nil}
 use Rattle.std.proofs.lemmas.List.Elements.{All-nil, All-cons}
@@ -191,6 +191,11 @@ module _ {P : Type 0} (calls : P → List ℕ) (tag : P → Tag) (t : Tag) (leve
                 ∙ ap (λ s. node_of s is.turn.caller level) shape_same ∙ near;
             kept_is = omega (arith, counted, before, after, kept_is);
           }
+
+      -- the last turn has the tests that it was closed with
+      pub left_told : (n : ℕ) → n ≡ noted_turn.tests → IsSomeAnd (last_turn r₂.trail.closed) (λ u. u.tests ≡ n)
+      left_told n e = subst (λ (o : Option Turn). IsSomeAnd o (λ u. u.tests ≡ n)) (sym (ap (λ (s : TrailState). last_turn s.closed) left_is
+          ∙ last_push r₁.trail.closed (left_at noted_turn level))) (sym e)
 
       pub left_kept : (above : ℕ) → level < above → IsKept calls above r₁ r₂
       left_kept above h = record {

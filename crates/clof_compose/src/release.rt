@@ -3,7 +3,7 @@ ghost use Rattle.std.specs.Prelude.{◌≡◌, ◌+◌, ◌<◌, ◌≤◌, true
 ghost use Rattle.std.specs.Int.{bit_at};
 ghost use Rattle.lock_rules.specs.Steps.{IfNot, IfGot};
 ghost use Rattle.clof_compose.specs.Calls.{ClosesWith, MayRelease, tests_in};
-ghost use Rattle.clof_compose.specs.Levels.{IsDescending, IsIdleAgain, IsStanding, kept_stand};
+ghost use Rattle.clof_compose.specs.Levels.{AreTold, IsDescending, IsIdleAgain, IsStanding, kept_stand};
 ghost use Rattle.clof_compose.specs.Contexts.{own_tag};
 ghost use Rattle.clof_compose.specs.Nodes.{IsContextOfNode};
 ghost use Rattle.clof_compose.specs.Owns.{IsOwnFit, bit_of, is_kept, own_tag_of};
@@ -43,6 +43,7 @@ pub(crate) fn keep_for_next<P: Payload, Pass: Resting, Held: Standing<P>>(
     ensures kept { IfSome result (λ _. (own.old.said ≡ true)
         × IsOwnFit Pass.rest Held.stand P.calls P.tag Held.stands own.new.node own.new.kept own.new.said own.new.high) }
     ensures tests { IfSome result (λ tests. IsSomeAnd (kept_stand Held.stand own.old.high).root (ClosesWith level tests)) }
+    ensures told { IfSome result (AreTold Pass.rest Held.stand own.new.high) }
     ensures not_kept { IfNone result (IsSomeAnd (kept_stand Held.stand own.new.high).root (MayRelease P.calls P.tag
         (kept_stand Held.stand own.old.high).context.tag (level + 1) own.new.node)) }
     ensures noted { IfNone result (bit_at (tests_in (kept_stand Held.stand own.new.high).root) level ≡ bit_of own.old.said) }
@@ -144,6 +145,7 @@ pub(crate) fn let_go<P: Payload, H: Composed<P>>(
     ensures same_said { IfGot result (λ w. w.0.value.said ≡ low.value.said) }
     ensures parked { IfGot result (λ w. is_kept H.Pass.rest H.Held.stand w.0.value.high ≡ true → low.value.said ≡ true) }
     ensures tests { IfGot result (λ w. IsSomeAnd (kept_stand H.Held.stand low.value.high).root (ClosesWith level w.1)) }
+    ensures told { IfGot result (λ w. AreTold H.Pass.rest H.Held.stand w.0.value.high w.1) }
 {
     if let Some(tests) = keep_for_next(&mut low.value, level, keep) {
         return Step::Got((low, tests));
@@ -174,6 +176,7 @@ pub(crate) fn let_go_and_wait<P: Payload, H: Composed<P>, R: Wait>(
     ensures said { own.new.said ≡ own.old.said }
     ensures parked { is_kept H.Pass.rest H.Held.stand own.new.high ≡ true → own.old.said ≡ true }
     ensures tests { IsSomeAnd (kept_stand H.Held.stand own.old.high).root (ClosesWith level result) }
+    ensures told { AreTold H.Pass.rest H.Held.stand own.new.high result }
 {
     if let Some(tests) = keep_for_next(own, level, keep) {
         return tests;
