@@ -6,7 +6,6 @@ pub mod Closes
 pub mod Climbs
 pub mod Owned
 pub mod Released
-pub mod Tried
 pub mod Keeping
 pub mod Nodes
 pub mod Stages

@@ -18,8 +18,6 @@ mod payload;
 mod release;
 mod root;
 mod stage;
-#[cfg(test)]
-mod tests;
 mod token;
 mod top;
 mod top_tokens;
