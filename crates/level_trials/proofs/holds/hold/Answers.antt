@@ -5,9 +5,9 @@ use Rattle.clof_compose.specs.Calls.{HasOpened}
 use Rattle.clof_compose.specs.Contexts.{IsContextOf}
 use Rattle.clof_compose.specs.Courses.{course_of}
 use Rattle.clof_compose.proofs.Owned.{some_with}
-use Rattle.clof_compose.proofs.Tried.{may_release_lowest}
 use Rattle.level_trials.specs.Rooms.{roll_tag}
 use Rattle.level_trials.proofs.Rooms.{calls_of, room_left}
+use Rattle.level_trials.proofs.Releasing.{may_release_lowest}
 use Rattle.level_trials.proofs.holds.hold.Goals as goal
 
 pub call-requires : goal.call-requires
