@@ -1,5 +1,5 @@
 -- One hold of a lock of the lowest level.
-use Rattle.std.proofs.Common.{◌≡◌, ℕ, List, [], ◌∷◌, ◌++◌, refl, ap, sym, ◌∙◌, arith, Some}
+use Rattle.std.proofs.Common.{◌≡◌, ℕ, List, [], ◌∷◌, ◌++◌, refl, ap, sym, ◌∙◌, arith, Option, Some}
 use Rattle.lock_rules.specs.Tag.{Tag}
 use Rattle.keep_local.specs.declared.turn.Turn.{Turn}
 use Rattle.keep_local.specs.States.{TrailState, ShareState, callers_in, option_list, all_turns}
