@@ -12,8 +12,8 @@ use Rattle.calc_query.proofs.answers.hierarchical.Goals as goal
 
 pub loop-layer-init : goal.loop-layer-init
 unfolding chains
-loop-layer-init c =
-    let now = c.args.topology.now in
+loop-layer-init g c =
+    let now = c.as_tree-tree.result.now in
     let start : Path = record { steps = [] } in
     let Ends : Path → Type 0 = λ p. IsObject now (end_of p) in
     let none : c.from_vec.result ≡ [] = c.from_vec.ensures ∙ c.new.ensures.items in
@@ -27,8 +27,8 @@ loop-layer-init c =
 
 pub loop-layer-preserved : goal.loop-layer-preserved
 unfolding chains
-loop-layer-preserved c =
-    let step = λ (paths : List Path) (layer : Layer). flat_map (extended c.args.topology.now c.args.set.now layer) paths in
+loop-layer-preserved g c =
+    let step = λ (paths : List Path) (layer : Layer). flat_map (extended c.as_tree-tree.result.now c.args.set.now layer) paths in
     let start : Path = record { steps = [] } in
     record {
       paths =
@@ -39,8 +39,8 @@ loop-layer-preserved c =
     }
 
 pub returns-clause-fit : goal.returns-clause-fit
-returns-clause-fit c =
-    let now = c.args.topology.now in
+returns-clause-fit g c =
+    let now = c.as_tree-tree.result.now in
     let Fit : Path → Type 0 = λ path. All (λ step. IsObject now step.object) path.steps in
     All-same Fit _ _
     (c.loop-layer.invariant.paths ∙ ap (chains now c.args.set.now)

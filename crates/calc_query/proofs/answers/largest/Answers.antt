@@ -8,8 +8,8 @@ use Rattle.calc_query.specs.Answers.{is_largest, largest}
 use Rattle.calc_query.proofs.answers.largest.Goals as goal
 
 pub returns-clause-fit : goal.returns-clause-fit
-returns-clause-fit c =
-    let now = c.args.topology.now in
+returns-clause-fit g c =
+    let now = c.as_tree-tree.result.now in
     let Fit : Object → Type 0 = λ object. IsObject now object in
     let objects = c.in_ok-tree_order.field-0.items in
     let seen : take c.loop-object.object-index c.deref-object-items.result.now ≡ objects =
@@ -20,8 +20,8 @@ returns-clause-fit c =
 
 pub returns-clause-objects : goal.returns-clause-objects
 unfolding largest
-returns-clause-objects c =
-    let now = c.args.topology.now in
+returns-clause-objects g c =
+    let now = c.as_tree-tree.result.now in
     let objects = c.in_ok-tree_order.field-0.items in
     c.loop-object.invariant
     ∙ ap (filter (is_largest now c.args.set.now))

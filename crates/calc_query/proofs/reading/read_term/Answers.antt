@@ -6,10 +6,10 @@ use Rattle.calc_query.proofs.LocationReadings.{fails_after, op_fits, term_behind
 use Rattle.calc_query.proofs.reading.read_term.Goals as goal
 
 pub split_at-requires : goal.split_at-requires
-split_at-requires c = omega (arith, c.len.ensures, ap op_len c.read_op-op.ensures, op_fits c.args.word.now)
+split_at-requires g c = omega (arith, c.len.ensures, ap op_len c.read_op-op.ensures, op_fits c.args.word.now)
 
 pub returns-in_err-location-clause-term : goal.returns-in_err-location-clause-term
-returns-in_err-location-clause-term c =
+returns-in_err-location-clause-term g c =
     let now = c.args.topology.now in
     let word = c.args.word.now in
     let fault = c.in_err-location.field-0.0 in
@@ -23,7 +23,7 @@ returns-in_err-location-clause-term c =
     rw (p.1, p.2) failed
 
 pub returns-clause-term : goal.returns-clause-term
-returns-clause-term c =
+returns-clause-term g c =
     let op = c.read_op-op.result in
     term_behind c.args.topology.now c.args.number c.args.word.now op c.len.result c.split_at.result.1.now c.read_op-op.ensures c.len.ensures
     c.split_at.ensures.back
