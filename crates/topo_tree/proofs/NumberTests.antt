@@ -1,7 +1,7 @@
 -- Numbers and the set of them: both pass the same tests against another set.
-use Rattle.std.proofs.Common.{◌≡◌, ℕ, ◌<◌, ◌↔◌, Bool, true, false, List, [], ◌∷◌, length, take, get_or, IsTrue, refl, sym, ap, ◌∙◌, subst, inl, inr, ◌==◌, arith}
+use Rattle.std.proofs.Common.{◌≡◌, ℕ, ◌<◌, ◌↔◌, Bool, true, List, [], ◌∷◌, length, IsTrue, refl, ap, ◌∙◌, subst, inl, inr, ◌==◌, arith}
 use Rattle.std.specs.List.{All, Contains, list_any}
-use Rattle.std.proofs.lemmas.Bool.{cases_Bool, eq-eqb, false≢true, or_left, or_right, or_cases}
+use Rattle.std.proofs.lemmas.Bool.{eq-eqb, false≢true, or_left, or_right, or_cases}
 use Rattle.std.proofs.lemmas.List.{take_all}
 use Rattle.cpu_set.specs.Sets.{has, numbers_where}
 use Rattle.cpu_set.specs.SetLaws.{has-numbers_below, Decides-has}

@@ -1,10 +1,10 @@
-use Rattle.std.proofs.Common.{◌≡◌, List, [], ◌∷◌, ◌++◌, lit<, sym, ap, ◌∙◌, arith}
-use Rattle.std.specs.List.{All, flat_map}
+use Rattle.std.proofs.Common.{◌≡◌, List, [], ◌∷◌, ◌++◌, lit<, sym, ap, subst, ◌∙◌, arith}
+use Rattle.std.specs.List.{All, AllByRecursion, flat_map}
 use Rattle.std.proofs.lemmas.List.Elements.{All-cons, All-nil, All-same}
 use Rattle.std.proofs.lemmas.List.{take_all}
 use Rattle.std.proofs.lemmas.List.Sums.{fold_more}
 use Rattle.topo_tree.specs.declared.layer.Layer.{Layer}
-use Rattle.topo_tree.specs.Objects.{IsObject}
+use Rattle.topo_tree.specs.Objects.{IsLayer, IsObject}
 use Rattle.calc_query.specs.declared.query.Path.{Path}
 use Rattle.calc_query.specs.Answers.{end_of, extended, chains}
 use Rattle.calc_query.proofs.FitLaws.{chains_fit}
@@ -42,7 +42,10 @@ pub returns-clause-fit : goal.returns-clause-fit
 returns-clause-fit g c =
     let now = c.as_tree-tree.result.now in
     let Fit : Path → Type 0 = λ path. All (λ step. IsObject now step.object) path.steps in
-    All-same Fit _ _
+    let layers = subst (λ described. AllByRecursion (IsLayer described) c.args.layers.now) (sym c.as_tree-tree.ensures) c.requires in
+    subst (λ described. All (λ path. All (λ step. IsObject described step.object) path.steps) c.loop-layer.paths.items)
+    c.as_tree-tree.ensures
+    (All-same Fit _ _
     (c.loop-layer.invariant.paths ∙ ap (chains now c.args.set.now)
     (take_all c.loop-layer.layer-index c.args.layers.now c.loop-layer-test.false))
-    (chains_fit now c.args.set.now c.args.layers.now c.requires)
+    (chains_fit now c.args.set.now c.args.layers.now layers))

@@ -1,5 +1,5 @@
-use Rattle.std.proofs.Common.{◌≡◌, ◌<◌, ℕ, Bool, [], ◌∷◌, ◌++◌, sym, ap, ◌∙◌, arith}
-use Rattle.std.specs.List.{filter, range_with_len}
+use Rattle.std.proofs.Common.{◌≡◌, ◌<◌, ℕ, Bool, [], ◌∷◌, ◌++◌, sym, ap, subst, ◌∙◌, arith}
+use Rattle.std.specs.List.{All, filter, range_with_len}
 use Rattle.std.proofs.lemmas.List.Elements.{All-same}
 use Rattle.cpu_set.specs.Tests.{meets}
 use Rattle.topo_tree.specs.Objects.{count_of}
@@ -30,6 +30,7 @@ returns-clause-indexes g c =
     let all : c.loop-index.index ≡ c.count-index-end.result = omega arith in
     c.loop-index.invariant ∙ ap (λ count. filter (λ i. meets (set_of c.as_tree-tree.result.now c.args.layer i) c.args.set.now)
     (range_with_len 0 count)) (all ∙ c.count-index-end.ensures.count)
+    ∙ ap (λ now. intersecting now c.args.set.now c.args.layer) c.as_tree-tree.ensures
 
 pub returns-clause-fit : goal.returns-clause-fit
 returns-clause-fit g c =
@@ -40,4 +41,5 @@ returns-clause-fit g c =
     ∙ c.count-index-end.ensures.count in
     let items : c.loop-index.indexes.items ≡ filter test (range_with_len 0 (count_of now layer)) =
     c.loop-index.invariant ∙ ap (λ count. filter test (range_with_len 0 count)) all in
-    All-same (λ index. index < count_of now layer) _ _ items (kept_below test (count_of now layer))
+    subst (λ described. All (λ index. index < count_of described layer) c.loop-index.indexes.items) c.as_tree-tree.ensures
+    (All-same (λ index. index < count_of now layer) _ _ items (kept_below test (count_of now layer)))

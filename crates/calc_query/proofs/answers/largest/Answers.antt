@@ -1,5 +1,5 @@
-use Rattle.std.proofs.Common.{◌≡◌, length, take, ap, ◌∙◌, arith}
-use Rattle.std.specs.List.{filter}
+use Rattle.std.proofs.Common.{◌≡◌, length, take, ap, subst, ◌∙◌, arith}
+use Rattle.std.specs.List.{All, filter}
 use Rattle.std.proofs.lemmas.List.{take_all}
 use Rattle.std.proofs.lemmas.List.Elements.{All-filter, All-same}
 use Rattle.topo_tree.specs.declared.layer.Object.{Object}
@@ -15,8 +15,9 @@ returns-clause-fit g c =
     let seen : take c.loop-object.object-index c.deref-object-items.result.now ≡ objects =
     ap (take c.loop-object.object-index) c.deref-object-items.ensures.value
     ∙ take_all c.loop-object.object-index objects (omega (arith, c.loop-object-test.false, ap length c.deref-object-items.ensures.value)) in
-    All-same Fit _ _ (c.loop-object.invariant ∙ ap (filter (is_largest now c.args.set.now)) seen)
-    (All-filter (is_largest now c.args.set.now) Fit objects c.in_ok-tree_order.ensures.objects)
+    subst (λ described. All (λ object. IsObject described object) c.loop-object.objects.items) c.as_tree-tree.ensures
+    (All-same Fit _ _ (c.loop-object.invariant ∙ ap (filter (is_largest now c.args.set.now)) seen)
+    (All-filter (is_largest now c.args.set.now) Fit objects c.in_ok-tree_order.ensures.objects))
 
 pub returns-clause-objects : goal.returns-clause-objects
 unfolding largest
@@ -28,3 +29,4 @@ returns-clause-objects g c =
     (ap (take c.loop-object.object-index) c.deref-object-items.ensures.value
     ∙ take_all c.loop-object.object-index objects
     (omega (arith, c.loop-object-test.false, ap length c.deref-object-items.ensures.value)) ∙ c.in_ok-tree_order.ensures.order)
+    ∙ ap (λ described. largest described c.args.set.now) c.as_tree-tree.ensures
