@@ -43,7 +43,8 @@ pub fn hierarchical<T: AsTree>(
 ) -> Result<Vec<Path>, OutOfMemory>
     requires { AllByRecursion (IsLayer (T.described topology.now)) layers.now }
     ensures paths { IfOk result (λ paths. paths.items ≡ chains (T.described topology.now) set.now layers.now) }
-    ensures fit { IfOk result (λ paths. All (λ path. All (λ step. IsObject (T.described topology.now) step.object) path.steps) paths.items) }
+    ensures fit { IfOk result (λ paths.
+        All (λ path. All (λ step. IsObject (T.described topology.now) step.object) path.steps) paths.items) }
 {
     let tree = topology.as_tree();
     let mut paths = Vec::new(alloc);
@@ -131,7 +132,11 @@ fn with_step(alloc: Global, path: &Path, step: Step2) -> Result<Path, AllocError
 }
 
 /// The objects of a depth that a set has all PUs of, while it hasn't all of the object above; in tree order.
-pub fn largest<T: AsTree>(alloc: Global, topology: &T, set: &CpuSet) -> Result<Vec<Object>, OutOfMemory>
+pub fn largest<T: AsTree>(
+    alloc: Global,
+    topology: &T,
+    set: &CpuSet,
+) -> Result<Vec<Object>, OutOfMemory>
     ensures objects { IfOk result (λ objects. objects.items ≡ largest (T.described topology.now) set.now) }
     ensures fit { IfOk result (λ objects. All (IsObject (T.described topology.now)) objects.items) }
 {

@@ -30,12 +30,7 @@ pub(crate) fn push_label(
 }
 
 /// The number that is shown of an object: this one, or its physical one where that is asked for and it has one.
-pub(crate) fn shown_number(
-    tree: &Tree,
-    numbering: Numbering,
-    object: Object,
-    number: u32,
-) -> u32
+pub(crate) fn shown_number(tree: &Tree, numbering: Numbering, object: Object, number: u32) -> u32
     requires { IsObject tree.now object }
     ensures { result ≡ shown_number tree.now numbering object number }
 {
@@ -61,9 +56,7 @@ fn push_name(out: &mut Vec<u8>, tree: &Tree, layer: Layer) -> Result<(), AllocEr
     ensures { OnOk result (out.new.items ≡ out.old.items ++ layer_name tree.now layer) }
 {
     match layer {
-        Layer::Depth(depth) => {
-            push_long_name(out, tree.kind(depth), tree.group_number(depth))
-        }
+        Layer::Depth(depth) => { push_long_name(out, tree.kind(depth), tree.group_number(depth)) }
         Layer::Memory => out.extend_from_slice(Kind::NumaNode.long_name()),
     }
 }

@@ -14,11 +14,7 @@ use std::alloc::Global;
 use topo_tree::{Layer, Tree};
 
 /// Reads words as terms, which are numbered from 0. A fault is that of the first bad word.
-pub fn read_terms(
-    alloc: Global,
-    tree: &Tree,
-    words: &[&[u8]],
-) -> Result<Vec<Term>, CalcFault>
+pub fn read_terms(alloc: Global, tree: &Tree, words: &[&[u8]]) -> Result<Vec<Term>, CalcFault>
     requires { length words.now ≤ 2 ^ 32 }
     ensures terms { IfOk result (λ terms. terms_from tree.now 0 (map (λ word. word.now) words.now) ≡ Ok terms.items) }
     ensures refused { IfErr result (λ fault. FailsWith fault (terms_from tree.now 0 (map (λ word. word.now) words.now))) }

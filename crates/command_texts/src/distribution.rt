@@ -41,11 +41,7 @@ pub fn distrib_text(alloc: Global, asked: &Distribution<'_>) -> Result<Vec<u8>, 
 
 // The masks of a tree, one a line, or the status with which they are refused.
 #[tactic(auto, unfolding(crate::specs::DistribText::answer_on))]
-fn answer_on(
-    alloc: Global,
-    tree: &Tree,
-    asked: &Distribution<'_>,
-) -> Result<Vec<u8>, Status>
+fn answer_on(alloc: Global, tree: &Tree, asked: &Distribution<'_>) -> Result<Vec<u8>, Status>
     ensures ok { IfOk result (λ printed. answer_on tree.now (plain_distribution asked.now) ≡ Ok printed.items) }
     ensures err { IfErr result (λ status. (status ≡ Status.OutOfMemory)
         ⊎ (answer_on tree.now (plain_distribution asked.now) ≡ Err status)) }
@@ -83,12 +79,7 @@ fn span(tree: &Tree, depths: Depths<'_>) -> Result<(u32, u32), Status>
 }
 
 // The depth that an option names, where it was given.
-fn depth(
-    tree: &Tree,
-    option: OptionName,
-    default: u32,
-    name: Option<&[u8]>,
-) -> Result<u32, Status>
+fn depth(tree: &Tree, option: OptionName, default: u32, name: Option<&[u8]>) -> Result<u32, Status>
     requires { default < depth_count tree.now }
     ensures ok { IfOk result (λ depth. depth_of tree.now option default (plain_text name.entry) ≡ Ok depth) }
     ensures err { IfErr result (λ status. depth_of tree.now option default (plain_text name.entry) ≡ Err status) }

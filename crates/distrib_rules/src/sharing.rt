@@ -34,7 +34,8 @@ pub fn distrib<T: AsTree>(
 ) -> Result<Vec<CpuSet>, DistribFault>
     requires from { from < depth_count (T.described topology.now) }
     requires to { to < depth_count (T.described topology.now) }
-    ensures masks { IfOk result (λ masks. masks.items ≡ distribution (T.described topology.now) (record { to = to; backwards = reverse }) n from) }
+    ensures masks { IfOk result (λ masks. masks.items
+        ≡ distribution (T.described topology.now) (record { to = to; backwards = reverse }) n from) }
     ensures count { IfOk result (λ masks. vec_len masks ≡ n) }
     ensures accepted { OnOk result (fault_of n from to ≡ None) }
     ensures refused { IfErr result (λ fault. UnlessMemory DistribFault.OutOfMemory fault (fault_of n from to ≡ Some fault)) }

@@ -78,11 +78,7 @@ fn lone_pu(tree: &Tree, set: &CpuSet) -> Option<u32>
 }
 
 /// The masks over which so many callers are spread that may stand on any PU.
-pub(crate) fn masks(
-    alloc: Global,
-    tree: &Tree,
-    callers: u32,
-) -> Result<Vec<CpuSet>, OutOfMemory>
+pub(crate) fn masks(alloc: Global, tree: &Tree, callers: u32) -> Result<Vec<CpuSet>, OutOfMemory>
     requires some { 0 < callers }
     requires few { callers ≤ 4096 }
     ensures masks { IfOk result (λ masks. masks.items ≡ masks_of tree.now callers) }

@@ -26,6 +26,6 @@ pub returns-clause-term : goal.returns-clause-term
 returns-clause-term g c =
     let op = c.read_op-op.result in
     ap (λ described. term_of described c.args.number c.args.word.now) (sym c.as_tree.ensures)
-    ∙ term_behind c.as_tree.result.now c.args.number c.args.word.now op c.len.result c.split_at.result.1.now c.read_op-op.ensures c.len.ensures
-    c.split_at.ensures.back
+    ∙ term_behind c.as_tree.result.now c.args.number c.args.word.now op c.len.result c.split_at.result.1.now c.read_op-op.ensures
+    c.len.ensures c.split_at.ensures.back
     ∙ ap (λ reading. reading >>= λ location. Ok (record { op = op; location = location })) c.in_ok-location.ensures.location
