@@ -1,6 +1,5 @@
 use Rattle.std.proofs.Common.{◌+◌, [], ◌∷◌, ◌++◌, sym, ap, subst, ◌∙◌, arith}
 use Rattle.std.proofs.lemmas.List.Elements.{All-push, All-same}
-use Rattle.cpu_set.specs.Tests.{meets}
 use Rattle.topo_tree.specs.Objects.{IsObject}
 use Rattle.topo_tree.specs.Coverage.{set_of}
 use Rattle.calc_query.specs.declared.query.Path.{Path}
