@@ -10,22 +10,23 @@ use cpu_set::CpuSet;
 use out_of_memory::OutOfMemory;
 use std::alloc::{AllocError, Global};
 use synth_text::Sequence;
-use topo_tree::{Layer, Object, Topology};
+use topo_tree::{AsTree, Layer, Object, Tree};
 
 /// The objects of a layer that have a PU of a set, by their indexes, in logical order.
-pub fn intersecting(
+pub fn intersecting<T: AsTree>(
     alloc: Global,
-    topology: &Topology,
+    topology: &T,
     set: &CpuSet,
     layer: Layer,
 ) -> Result<Vec<u32>, OutOfMemory>
-    requires { IsLayer topology.now layer }
-    ensures indexes { IfOk result (λ indexes. indexes.items ≡ intersecting topology.now set.now layer) }
-    ensures fit { IfOk result (λ indexes. All (λ index. index < count_of topology.now layer) indexes.items) }
+    requires { IsLayer (T.described topology.now) layer }
+    ensures indexes { IfOk result (λ indexes. indexes.items ≡ intersecting (T.described topology.now) set.now layer) }
+    ensures fit { IfOk result (λ indexes. All (λ index. index < count_of (T.described topology.now) layer) indexes.items) }
 {
+    let tree = topology.as_tree();
     let mut indexes = Vec::new(alloc);
-    for index in 0..topology.count(layer) {
-        if topology.set(Object { layer, index }).meets(set) {
+    for index in 0..tree.count(layer) {
+        if tree.meets(Object { layer, index }, set) {
             indexes.push(index)?;
         }
     }
@@ -34,22 +35,24 @@ pub fn intersecting(
 
 /// The chains of objects of such layers, each inside the one before, all of which have a PU of a set. They come in the
 /// order of their first objects, then of their second ones, and so on.
-pub fn hierarchical(
+pub fn hierarchical<T: AsTree>(
     alloc: Global,
-    topology: &Topology,
+    topology: &T,
     set: &CpuSet,
     layers: &[Layer],
 ) -> Result<Vec<Path>, OutOfMemory>
-    requires { AllByRecursion (IsLayer topology.now) layers.now }
-    ensures paths { IfOk result (λ paths. paths.items ≡ chains topology.now set.now layers.now) }
-    ensures fit { IfOk result (λ paths. All (λ path. All (λ step. IsObject topology.now step.object) path.steps) paths.items) }
+    requires { AllByRecursion (IsLayer (T.described topology.now)) layers.now }
+    ensures paths { IfOk result (λ paths. paths.items ≡ chains (T.described topology.now) set.now layers.now) }
+    ensures fit { IfOk result (λ paths.
+        All (λ path. All (λ step. IsObject (T.described topology.now) step.object) path.steps) paths.items) }
 {
+    let tree = topology.as_tree();
     let mut paths = Vec::new(alloc);
     paths.push(Path {
         steps: Sequence::from_vec(Vec::new(alloc)),
     })?;
     for layer in layers {
-        paths = longer(alloc, topology, set, *layer, &paths)?;
+        paths = longer(alloc, tree, set, *layer, &paths)?;
     }
     Ok(paths)
 }
@@ -57,19 +60,19 @@ pub fn hierarchical(
 // Each path, once more for each object of a layer inside its end that has a PU of a set.
 fn longer(
     alloc: Global,
-    topology: &Topology,
+    tree: &Tree,
     set: &CpuSet,
     layer: Layer,
     paths: &[Path],
 ) -> Result<Vec<Path>, AllocError>
-    requires layer { IsLayer topology.now layer }
-    requires ends { All (λ path. IsObject topology.now (end_of path)) paths.now }
-    ensures paths { IfOk result (λ longer. longer.items ≡ flat_map (extended topology.now set.now layer) paths.now) }
-    ensures ends { IfOk result (λ longer. All (λ path. IsObject topology.now (end_of path)) longer.items) }
+    requires layer { IsLayer tree.now layer }
+    requires ends { All (λ path. IsObject tree.now (end_of path)) paths.now }
+    ensures paths { IfOk result (λ longer. longer.items ≡ flat_map (extended tree.now set.now layer) paths.now) }
+    ensures ends { IfOk result (λ longer. All (λ path. IsObject tree.now (end_of path)) longer.items) }
 {
     let mut out = Vec::new(alloc);
     for path in paths {
-        push_extended(alloc, &mut out, topology, set, layer, path)?;
+        push_extended(alloc, &mut out, tree, set, layer, path)?;
     }
     Ok(out)
 }
@@ -78,24 +81,24 @@ fn longer(
 fn push_extended(
     alloc: Global,
     out: &mut Vec<Path>,
-    topology: &Topology,
+    tree: &Tree,
     set: &CpuSet,
     layer: Layer,
     path: &Path,
 ) -> Result<(), AllocError>
-    requires layer { IsLayer topology.now layer }
-    requires end { IsObject topology.now (end_of path.now) }
-    requires ends { All (λ path. IsObject topology.now (end_of path)) out.old.items }
-    ensures paths { OnOk result (out.new.items ≡ out.old.items ++ extended topology.now set.now layer path.now) }
-    ensures ends { OnOk result (All (λ path. IsObject topology.now (end_of path)) out.new.items) }
+    requires layer { IsLayer tree.now layer }
+    requires end { IsObject tree.now (end_of path.now) }
+    requires ends { All (λ path. IsObject tree.now (end_of path)) out.old.items }
+    ensures paths { OnOk result (out.new.items ≡ out.old.items ++ extended tree.now set.now layer path.now) }
+    ensures ends { OnOk result (All (λ path. IsObject tree.now (end_of path)) out.new.items) }
 {
-    let run = inside(topology, end_of(path), layer);
+    let run = inside(tree, end_of(path), layer);
     for position in 0..run.count {
         let object = Object {
             layer,
             index: run.first + position,
         };
-        if topology.set(object).meets(set) {
+        if tree.meets(object, set) {
             out.push(with_step(alloc, path, Step2 { object, position })?)?;
         }
     }
@@ -129,13 +132,18 @@ fn with_step(alloc: Global, path: &Path, step: Step2) -> Result<Path, AllocError
 }
 
 /// The objects of a depth that a set has all PUs of, while it hasn't all of the object above; in tree order.
-pub fn largest(alloc: Global, topology: &Topology, set: &CpuSet) -> Result<Vec<Object>, OutOfMemory>
-    ensures objects { IfOk result (λ objects. objects.items ≡ largest topology.now set.now) }
-    ensures fit { IfOk result (λ objects. All (IsObject topology.now) objects.items) }
+pub fn largest<T: AsTree>(
+    alloc: Global,
+    topology: &T,
+    set: &CpuSet,
+) -> Result<Vec<Object>, OutOfMemory>
+    ensures objects { IfOk result (λ objects. objects.items ≡ largest (T.described topology.now) set.now) }
+    ensures fit { IfOk result (λ objects. All (IsObject (T.described topology.now)) objects.items) }
 {
+    let tree = topology.as_tree();
     let mut objects = Vec::new(alloc);
-    for object in &topology.tree_order(alloc)? {
-        if is_largest(topology, set, *object) {
+    for object in &tree.tree_order(alloc)? {
+        if is_largest(tree, set, *object) {
             objects.push(*object)?;
         }
     }
@@ -143,15 +151,15 @@ pub fn largest(alloc: Global, topology: &Topology, set: &CpuSet) -> Result<Vec<O
 }
 
 // Whether a set has all PUs of an object, and not all of the object above.
-fn is_largest(topology: &Topology, set: &CpuSet, object: Object) -> bool
-    requires { IsObject topology.now object }
-    ensures { result ≡ is_largest topology.now set.now object }
+fn is_largest(tree: &Tree, set: &CpuSet, object: Object) -> bool
+    requires { IsObject tree.now object }
+    ensures { result ≡ is_largest tree.now set.now object }
 {
-    if !topology.set(object).inside(set) {
+    if !tree.inside(object, set) {
         return false;
     }
-    match topology.parent(object) {
-        Some(above) => !topology.set(above).inside(set),
+    match tree.parent(object) {
+        Some(above) => !tree.inside(above, set),
         None => true,
     }
 }

@@ -6,7 +6,7 @@ ghost use Rattle.topo_tree.specs.Coverage.{set_of};
 ghost use Rattle.topo_tree.specs.Building.{IsBuilt};
 ghost use Rattle.calc_query.specs.Candidates.{candidates};
 
-use topo_tree::{Layer, Object, Topology};
+use topo_tree::{Layer, Object, Tree};
 
 /// Objects of one layer that stand side by side.
 #[derive(Clone, Copy)]
@@ -18,21 +18,21 @@ pub struct Run {
 }
 
 /// The objects of a layer whose sets lie inside that of an object.
-pub fn inside(topology: &Topology, outer: Object, layer: Layer) -> Run
-    requires outer { IsObject topology.now outer }
-    requires layer { IsLayer topology.now layer }
-    ensures run { candidates topology.now layer (set_of topology.now outer.layer outer.index) ≡ range_with_len result.first result.count }
-    ensures within { result.first + result.count ≤ count_of topology.now layer }
+pub fn inside(tree: &Tree, outer: Object, layer: Layer) -> Run
+    requires outer { IsObject tree.now outer }
+    requires layer { IsLayer tree.now layer }
+    ensures run { candidates tree.now layer (set_of tree.now outer.layer outer.index) ≡ range_with_len result.first result.count }
+    ensures within { result.first + result.count ≤ count_of tree.now layer }
     ensures few { result.first + result.count ≤ 4096 }
-    ensures built { IsBuilt topology.now }
+    ensures built { IsBuilt tree.now }
 {
-    let pus = topology.count(Layer::Depth(topology.depths() - 1));
-    let count = topology.count(layer);
+    let pus = tree.count(Layer::Depth(tree.depths() - 1));
+    let count = tree.count(layer);
     if count == 0 {
         return Run { first: 0, count: 0 };
     }
     let width = pus / count;
-    let outer_width = pus / topology.count(outer.layer);
+    let outer_width = pus / tree.count(outer.layer);
     let start = outer.index * outer_width;
     let first = (start + width - 1) / width;
     let end = (start + outer_width) / width;

@@ -14,35 +14,35 @@ use byte_text::{Class, first_part, first_piece};
 use cpu_set::CpuSet;
 use std::alloc::Global;
 use synth_text::Sequence;
-use topo_tree::Topology;
+use topo_tree::{AsTree, Tree};
 
 /// Reads a word as an operator, if it has one, and a location. A fault carries the word's number.
-pub fn read_term(
+pub fn read_term<T: AsTree>(
     alloc: Global,
-    topology: &Topology,
+    topology: &T,
     word: &[u8],
     number: u32,
 ) -> Result<Term, CalcFault>
-    ensures term { Answers result (term_of topology.now number word.now) }
-    ensures layers { IfOk result (λ term. HasLayers topology.now term.location) }
+    ensures term { Answers result (term_of (T.described topology.now) number word.now) }
+    ensures layers { IfOk result (λ term. HasLayers (T.described topology.now) term.location) }
 {
     let op = read_op(word);
     let (_, text) = word.split_at(op.len());
-    let location = read_behind(alloc, topology, text, number, word.len())?;
+    let location = read_behind(alloc, topology.as_tree(), text, number, word.len())?;
     Ok(Term { op, location })
 }
 
 /// Reads a word as a location, without an operator. A fault carries the word's number.
-pub fn read_location(
+pub fn read_location<T: AsTree>(
     alloc: Global,
-    topology: &Topology,
+    topology: &T,
     word: &[u8],
     number: u32,
 ) -> Result<Location, CalcFault>
-    ensures location { Answers result (location_of topology.now number 0 word.now) }
-    ensures layers { IfOk result (HasLayers topology.now) }
+    ensures location { Answers result (location_of (T.described topology.now) number 0 word.now) }
+    ensures layers { IfOk result (HasLayers (T.described topology.now)) }
 {
-    read_behind(alloc, topology, word, number, word.len())
+    read_behind(alloc, topology.as_tree(), word, number, word.len())
 }
 
 // The operation that a word begins with.
@@ -72,14 +72,14 @@ impl Op {
 // Reads a location that ends a word of a length.
 fn read_behind(
     alloc: Global,
-    topology: &Topology,
+    tree: &Tree,
     text: &[u8],
     word: u32,
     end: usize,
 ) -> Result<Location, CalcFault>
     requires { length text.now ≤ end }
-    ensures location { Answers result (location_of topology.now word (end - length text.now) text.now) }
-    ensures layers { IfOk result (HasLayers topology.now) }
+    ensures location { Answers result (location_of tree.now word (end - length text.now) text.now) }
+    ensures layers { IfOk result (HasLayers tree.now) }
 {
     if is_whole(text) {
         return Ok(Location::All);
@@ -91,7 +91,7 @@ fn read_behind(
     if text[0].is_ascii_digit() {
         return read_numbers(text, word, at);
     }
-    let parts = read_parts(alloc, topology, text, word, end)?;
+    let parts = read_parts(alloc, tree, text, word, end)?;
     Ok(Location::Parts(parts))
 }
 
@@ -116,20 +116,20 @@ fn read_numbers(text: &[u8], word: u32, at: usize) -> Result<Location, CalcFault
 // Reads parts with a dot between each two, which end a word of a length.
 fn read_parts(
     alloc: Global,
-    topology: &Topology,
+    tree: &Tree,
     text: &[u8],
     word: u32,
     end: usize,
 ) -> Result<Sequence<Part>, CalcFault>
     requires { length text.now ≤ end }
-    ensures parts { Answers result (parts_from topology.now word (end - length text.now) (slice_split (λ byte. byte == 46) text.now)) }
-    ensures layers { IfOk result (AllByRecursion (λ part. IsLayer topology.now part.layer)) }
+    ensures parts { Answers result (parts_from tree.now word (end - length text.now) (slice_split (λ byte. byte == 46) text.now)) }
+    ensures layers { IfOk result (AllByRecursion (λ part. IsLayer tree.now part.layer)) }
 {
     let mut parts = Vec::new(alloc);
     let mut rest = Some(text);
     while let Some(pieces) = rest {
         let (piece, behind) = first_part(pieces, b'.');
-        let part = read_part(topology, piece, word, end - pieces.len())?;
+        let part = read_part(tree, piece, word, end - pieces.len())?;
         parts.push(part)?;
         rest = behind;
     }
@@ -138,12 +138,12 @@ fn read_parts(
 
 // Reads one part that begins at an offset.
 #[tactic(auto, unfolding(crate::specs::Readings::part_of))]
-fn read_part(topology: &Topology, piece: &[u8], word: u32, at: usize) -> Result<Part, CalcFault>
-    ensures part { result ≡ part_of topology.now word at piece.now }
-    ensures layer { IfOk result (λ part. IsLayer topology.now part.layer) }
+fn read_part(tree: &Tree, piece: &[u8], word: u32, at: usize) -> Result<Part, CalcFault>
+    ensures part { result ≡ part_of tree.now word at piece.now }
+    ensures layer { IfOk result (λ part. IsLayer tree.now part.layer) }
 {
     let (name, index) = first_piece(piece, Class::Byte(b':'));
-    let Some(layer) = topology.layer_named(name) else {
+    let Some(layer) = tree.layer_named(name) else {
         return Err(CalcFault::NoSuchType { word });
     };
     let location = CalcFault::Location { word, at };

@@ -11,16 +11,17 @@ ghost use Rattle.calc_query.specs.Selection.{HasLayers, HaveLayers};
 use crate::candidates::{Run, inside};
 use crate::query::{Location, Numbering, Op, Part, Term};
 use cpu_set::CpuSet;
-use topo_tree::{Layer, Object, Topology};
+use topo_tree::{AsTree, Layer, Object, Tree};
 
 /// The set that terms select, each done in its turn to what those before it gave, beginning with the empty set.
-pub fn select(topology: &Topology, terms: &[Term], numbering: Numbering) -> CpuSet
-    requires { HaveLayers topology.now terms.now }
-    ensures { result ≡ selected topology.now numbering terms.now }
+pub fn select<T: AsTree>(topology: &T, terms: &[Term], numbering: Numbering) -> CpuSet
+    requires { HaveLayers (T.described topology.now) terms.now }
+    ensures { result ≡ selected (T.described topology.now) numbering terms.now }
 {
+    let tree = topology.as_tree();
     let mut set = CpuSet::empty();
     for term in terms {
-        let other = located(topology, &term.location, numbering);
+        let other = located(tree, &term.location, numbering);
         set = operated(term.op, &set, &other);
     }
     set
@@ -39,65 +40,65 @@ fn operated(op: Op, set: &CpuSet, other: &CpuSet) -> CpuSet
 }
 
 // The set of a location.
-fn located(topology: &Topology, location: &Location, numbering: Numbering) -> CpuSet
-    requires { HasLayers topology.now location.now }
-    ensures { result ≡ located topology.now numbering location.now }
+fn located(tree: &Tree, location: &Location, numbering: Numbering) -> CpuSet
+    requires { HasLayers tree.now location.now }
+    ensures { result ≡ located tree.now numbering location.now }
 {
     match location {
-        Location::All => *topology.set(MACHINE),
+        Location::All => tree.set_of(MACHINE),
         Location::Numbers(numbers) => *numbers,
-        Location::Parts(parts) => selected_by(topology, parts.as_slice(), numbering),
+        Location::Parts(parts) => selected_by(tree, parts.as_slice(), numbering),
     }
 }
 
 // The set that parts select.
-fn selected_by(topology: &Topology, parts: &[Part], numbering: Numbering) -> CpuSet
-    requires { AllByRecursion (λ part. IsLayer topology.now part.layer) parts.now }
-    ensures { result ≡ selected_from topology.now numbering (layers.Depth 0) (0 ∷ []) parts.now }
+fn selected_by(tree: &Tree, parts: &[Part], numbering: Numbering) -> CpuSet
+    requires { AllByRecursion (λ part. IsLayer tree.now part.layer) parts.now }
+    ensures { result ≡ selected_from tree.now numbering (layers.Depth 0) (0 ∷ []) parts.now }
 {
     let mut layer = Layer::Depth(0);
     let mut chosen = CpuSet::empty();
     chosen.with(0);
     for part in parts {
-        chosen = selected_inside(topology, layer, &chosen, *part, numbering);
+        chosen = selected_inside(tree, layer, &chosen, *part, numbering);
         layer = part.layer;
     }
-    union_of(topology, layer, &chosen)
+    union_of(tree, layer, &chosen)
 }
 
 // The objects that a part selects inside objects of a layer, all by their indexes.
 fn selected_inside(
-    topology: &Topology,
+    tree: &Tree,
     layer: Layer,
     before: &CpuSet,
     part: Part,
     numbering: Numbering,
 ) -> CpuSet
-    requires layer { IsLayer topology.now layer }
-    requires part { IsLayer topology.now part.layer }
-    ensures { result ≡ selected_inside topology.now numbering layer before.now part }
+    requires layer { IsLayer tree.now layer }
+    requires part { IsLayer tree.now part.layer }
+    ensures { result ≡ selected_inside tree.now numbering layer before.now part }
 {
     let mut chosen = CpuSet::empty();
-    for index in 0..topology.count(layer) {
+    for index in 0..tree.count(layer) {
         if before.has(index) {
-            let run = inside(topology, Object { layer, index }, part.layer);
-            chosen = chosen.union(&picked(topology, run, part, numbering));
+            let run = inside(tree, Object { layer, index }, part.layer);
+            chosen = chosen.union(&picked(tree, run, part, numbering));
         }
     }
     chosen
 }
 
 // The objects that a part picks among candidates that stand side by side.
-fn picked(topology: &Topology, run: Run, part: Part, numbering: Numbering) -> CpuSet
-    requires layer { IsLayer topology.now part.layer }
-    requires within { run.first + run.count ≤ count_of topology.now part.layer }
+fn picked(tree: &Tree, run: Run, part: Part, numbering: Numbering) -> CpuSet
+    requires layer { IsLayer tree.now part.layer }
+    requires within { run.first + run.count ≤ count_of tree.now part.layer }
     requires few { run.first + run.count ≤ 4096 }
-    ensures { result ≡ numbers_where (is_picked_among topology.now numbering part (range_with_len run.first run.count)) }
+    ensures { result ≡ numbers_where (is_picked_among tree.now numbering part (range_with_len run.first run.count)) }
 {
     let mut chosen = CpuSet::empty();
     for place in 0..run.count {
         let index = run.first + place;
-        let number = number_of(topology, numbering, part.layer, index, place);
+        let number = number_of(tree, numbering, part.layer, index, place);
         if part.pick.picks(numbering, run.count, number) {
             chosen.with(index);
         }
@@ -106,26 +107,26 @@ fn picked(topology: &Topology, run: Run, part: Part, numbering: Numbering) -> Cp
 }
 
 // The number of an object that is the candidate at a place.
-fn number_of(topology: &Topology, numbering: Numbering, layer: Layer, index: u32, place: u32) -> u32
-    requires layer { IsLayer topology.now layer }
-    requires index { index < count_of topology.now layer }
-    ensures { result ≡ number_of topology.now numbering layer index place }
+fn number_of(tree: &Tree, numbering: Numbering, layer: Layer, index: u32, place: u32) -> u32
+    requires layer { IsLayer tree.now layer }
+    requires index { index < count_of tree.now layer }
+    ensures { result ≡ number_of tree.now numbering layer index place }
 {
     match numbering {
         Numbering::Logical => place,
-        Numbering::Physical => topology.physical(Object { layer, index }),
+        Numbering::Physical => tree.physical(Object { layer, index }),
     }
 }
 
 // The union of the sets of objects of a layer.
-fn union_of(topology: &Topology, layer: Layer, indexes: &CpuSet) -> CpuSet
-    requires { IsLayer topology.now layer }
-    ensures { result ≡ union_of topology.now layer indexes.now }
+fn union_of(tree: &Tree, layer: Layer, indexes: &CpuSet) -> CpuSet
+    requires { IsLayer tree.now layer }
+    ensures { result ≡ union_of tree.now layer indexes.now }
 {
     let mut set = CpuSet::empty();
-    for index in 0..topology.count(layer) {
+    for index in 0..tree.count(layer) {
         if indexes.has(index) {
-            set = set.union(topology.set(Object { layer, index }));
+            set = set.union(&tree.set_of(Object { layer, index }));
         }
     }
     set

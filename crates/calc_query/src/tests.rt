@@ -8,11 +8,12 @@ use std::alloc::Global;
 use std::process::Abort;
 use std::test::Fail;
 use synth_text::read;
-use topo_tree::{Layer, Topology};
+use topo_tree::{Layer, Object, Topology};
 
 mod answers;
 mod faults;
 mod sets;
+mod trees;
 
 fn built(rt: &impl Abort, alloc: Global, text: &[u8]) -> Topology {
     match read(alloc, text) {

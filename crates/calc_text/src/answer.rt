@@ -9,7 +9,7 @@ use cpu_set::CpuSet;
 use out_of_memory::OutOfMemory;
 use sequence::Sequence;
 use std::alloc::Global;
-use topo_tree::{Layer, Topology};
+use topo_tree::{Layer, Tree};
 
 /// What is asked of a set.
 #[derive(Drop)]
@@ -41,13 +41,13 @@ pub struct Style<'a> {
 #[tactic(auto, unfolding(crate::specs::Texts::answer_text))]
 pub fn answer_text(
     alloc: Global,
-    topology: &Topology,
+    tree: &Tree,
     set: &CpuSet,
     answer: &Answer,
     style: Style<'_>,
 ) -> Result<Vec<u8>, OutOfMemory>
-    requires { HasLayers topology.now answer.now }
-    ensures { IfOk result (λ text. text.items ≡ answer_text topology.now set.now answer.now style.entry.numbering style.entry.taskset
+    requires { HasLayers tree.now answer.now }
+    ensures { IfOk result (λ text. text.items ≡ answer_text tree.now set.now answer.now style.entry.numbering style.entry.taskset
         (option_map (λ separator. separator.now) style.entry.separator)) }
 {
     let numbering = style.numbering;
@@ -55,22 +55,22 @@ pub fn answer_text(
         Answer::Set => set_text(alloc, style.taskset, set),
         Answer::Objects(layer) => objects_text(
             alloc,
-            topology,
+            tree,
             set,
             *layer,
             numbering,
             between(style, b","),
         ),
-        Answer::Count(layer) => count_text(alloc, topology, set, *layer),
+        Answer::Count(layer) => count_text(alloc, tree, set, *layer),
         Answer::Chains(layers) => chains_text(
             alloc,
-            topology,
+            tree,
             set,
             layers.as_slice(),
             numbering,
             between(style, b" "),
         ),
-        Answer::Largest => largest_text(alloc, topology, set, numbering, between(style, b" ")),
+        Answer::Largest => largest_text(alloc, tree, set, numbering, between(style, b" ")),
     }
 }
 

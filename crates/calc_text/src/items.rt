@@ -11,40 +11,40 @@ use calc_query::{Numbering, Path, Step2, hierarchical, intersecting, largest};
 use cpu_set::CpuSet;
 use out_of_memory::OutOfMemory;
 use std::alloc::{AllocError, Global};
-use topo_tree::{Layer, Object, Topology};
+use topo_tree::{Layer, Object, Tree};
 
 /// The numbers of the objects of a layer that have a PU of a set.
 pub(crate) fn objects_text(
     alloc: Global,
-    topology: &Topology,
+    tree: &Tree,
     set: &CpuSet,
     layer: Layer,
     numbering: Numbering,
     separator: &[u8],
 ) -> Result<Vec<u8>, OutOfMemory>
-    requires { IsLayer topology.now layer }
+    requires { IsLayer tree.now layer }
     ensures { IfOk result (λ text. text.items
-        ≡ join_by (index_text topology.now numbering layer) separator.now (intersecting topology.now set.now layer)) }
+        ≡ join_by (index_text tree.now numbering layer) separator.now (intersecting tree.now set.now layer)) }
 {
-    let indexes = intersecting(alloc, topology, set, layer)?;
+    let indexes = intersecting(alloc, tree, set, layer)?;
     let mut text = Vec::new(alloc);
-    push_numbers(&mut text, topology, layer, numbering, separator, &indexes)?;
+    push_numbers(&mut text, tree, layer, numbering, separator, &indexes)?;
     Ok(text)
 }
 
 // Appends the numbers of objects of a layer.
 fn push_numbers(
     out: &mut Vec<u8>,
-    topology: &Topology,
+    tree: &Tree,
     layer: Layer,
     numbering: Numbering,
     separator: &[u8],
     indexes: &[u32],
 ) -> Result<(), AllocError>
-    requires layer { IsLayer topology.now layer }
-    requires fit { All (λ index. index < count_of topology.now layer) indexes.now }
+    requires layer { IsLayer tree.now layer }
+    requires fit { All (λ index. index < count_of tree.now layer) indexes.now }
     ensures { OnOk result (out.new.items
-        ≡ out.old.items ++ join_by (index_text topology.now numbering layer) separator.now indexes.now) }
+        ≡ out.old.items ++ join_by (index_text tree.now numbering layer) separator.now indexes.now) }
 {
     for (place, index) in indexes.iter().enumerate() {
         push_separator(out, place, separator)?;
@@ -54,7 +54,7 @@ fn push_numbers(
         };
         push_decimal(
             out,
-            u64::from(shown_number(topology, numbering, object, *index)),
+            u64::from(shown_number(tree, numbering, object, *index)),
         )?;
     }
     Ok(())
@@ -73,14 +73,14 @@ fn push_separator(out: &mut Vec<u8>, place: usize, separator: &[u8]) -> Result<(
 /// How many objects of a layer have a PU of a set.
 pub(crate) fn count_text(
     alloc: Global,
-    topology: &Topology,
+    tree: &Tree,
     set: &CpuSet,
     layer: Layer,
 ) -> Result<Vec<u8>, OutOfMemory>
-    requires { IsLayer topology.now layer }
-    ensures { IfOk result (λ text. text.items ≡ decimal (length (intersecting topology.now set.now layer))) }
+    requires { IsLayer tree.now layer }
+    ensures { IfOk result (λ text. text.items ≡ decimal (length (intersecting tree.now set.now layer))) }
 {
-    let indexes = intersecting(alloc, topology, set, layer)?;
+    let indexes = intersecting(alloc, tree, set, layer)?;
     let mut text = Vec::new(alloc);
     push_decimal(&mut text, indexes.len() as u64)?;
     Ok(text)
@@ -89,36 +89,36 @@ pub(crate) fn count_text(
 /// The chains of objects of such layers that have a PU of a set.
 pub(crate) fn chains_text(
     alloc: Global,
-    topology: &Topology,
+    tree: &Tree,
     set: &CpuSet,
     layers: &[Layer],
     numbering: Numbering,
     separator: &[u8],
 ) -> Result<Vec<u8>, OutOfMemory>
-    requires { AllByRecursion (IsLayer topology.now) layers.now }
+    requires { AllByRecursion (IsLayer tree.now) layers.now }
     ensures { IfOk result (λ text. text.items
-        ≡ join_by (path_text topology.now numbering) separator.now (chains topology.now set.now layers.now)) }
+        ≡ join_by (path_text tree.now numbering) separator.now (chains tree.now set.now layers.now)) }
 {
-    let paths = hierarchical(alloc, topology, set, layers)?;
+    let paths = hierarchical(alloc, tree, set, layers)?;
     let mut text = Vec::new(alloc);
-    push_paths(&mut text, topology, numbering, separator, &paths)?;
+    push_paths(&mut text, tree, numbering, separator, &paths)?;
     Ok(text)
 }
 
 // Appends paths.
 fn push_paths(
     out: &mut Vec<u8>,
-    topology: &Topology,
+    tree: &Tree,
     numbering: Numbering,
     separator: &[u8],
     paths: &[Path],
 ) -> Result<(), AllocError>
-    requires { All (λ path. All (λ step. IsObject topology.now step.object) path.steps) paths.now }
-    ensures { OnOk result (out.new.items ≡ out.old.items ++ join_by (path_text topology.now numbering) separator.now paths.now) }
+    requires { All (λ path. All (λ step. IsObject tree.now step.object) path.steps) paths.now }
+    ensures { OnOk result (out.new.items ≡ out.old.items ++ join_by (path_text tree.now numbering) separator.now paths.now) }
 {
     for (place, path) in paths.iter().enumerate() {
         push_separator(out, place, separator)?;
-        push_steps(out, topology, numbering, path.steps.as_slice())?;
+        push_steps(out, tree, numbering, path.steps.as_slice())?;
     }
     Ok(())
 }
@@ -126,16 +126,16 @@ fn push_paths(
 // Appends the steps of a path, with a dot between each two.
 fn push_steps(
     out: &mut Vec<u8>,
-    topology: &Topology,
+    tree: &Tree,
     numbering: Numbering,
     steps: &[Step2],
 ) -> Result<(), AllocError>
-    requires { All (λ step. IsObject topology.now step.object) steps.now }
-    ensures { OnOk result (out.new.items ≡ out.old.items ++ join_by (step_text topology.now numbering) (46 ∷ []) steps.now) }
+    requires { All (λ step. IsObject tree.now step.object) steps.now }
+    ensures { OnOk result (out.new.items ≡ out.old.items ++ join_by (step_text tree.now numbering) (46 ∷ []) steps.now) }
 {
     for (place, step) in steps.iter().enumerate() {
         push_separator(out, place, b".")?;
-        push_label(out, topology, numbering, step.object, step.position)?;
+        push_label(out, tree, numbering, step.object, step.position)?;
     }
     Ok(())
 }
@@ -143,34 +143,34 @@ fn push_steps(
 /// The largest objects that a set has all PUs of.
 pub(crate) fn largest_text(
     alloc: Global,
-    topology: &Topology,
+    tree: &Tree,
     set: &CpuSet,
     numbering: Numbering,
     separator: &[u8],
 ) -> Result<Vec<u8>, OutOfMemory>
     ensures { IfOk result (λ text. text.items
-        ≡ join_by (object_text topology.now numbering) separator.now (largest topology.now set.now)) }
+        ≡ join_by (object_text tree.now numbering) separator.now (largest tree.now set.now)) }
 {
-    let objects = largest(alloc, topology, set)?;
+    let objects = largest(alloc, tree, set)?;
     let mut text = Vec::new(alloc);
-    push_objects(&mut text, topology, numbering, separator, &objects)?;
+    push_objects(&mut text, tree, numbering, separator, &objects)?;
     Ok(text)
 }
 
 // Appends objects.
 fn push_objects(
     out: &mut Vec<u8>,
-    topology: &Topology,
+    tree: &Tree,
     numbering: Numbering,
     separator: &[u8],
     objects: &[Object],
 ) -> Result<(), AllocError>
-    requires { All (IsObject topology.now) objects.now }
-    ensures { OnOk result (out.new.items ≡ out.old.items ++ join_by (object_text topology.now numbering) separator.now objects.now) }
+    requires { All (IsObject tree.now) objects.now }
+    ensures { OnOk result (out.new.items ≡ out.old.items ++ join_by (object_text tree.now numbering) separator.now objects.now) }
 {
     for (place, object) in objects.iter().enumerate() {
         push_separator(out, place, separator)?;
-        push_label(out, topology, numbering, *object, object.index)?;
+        push_label(out, tree, numbering, *object, object.index)?;
     }
     Ok(())
 }

@@ -11,22 +11,18 @@ use calc_query::{CalcFault, Term, read_term};
 use out_of_memory::OutOfMemory;
 use sequence::Sequence;
 use std::alloc::Global;
-use topo_tree::{Layer, Topology};
+use topo_tree::{Layer, Tree};
 
 /// Reads words as terms, which are numbered from 0. A fault is that of the first bad word.
-pub fn read_terms(
-    alloc: Global,
-    topology: &Topology,
-    words: &[&[u8]],
-) -> Result<Vec<Term>, CalcFault>
+pub fn read_terms(alloc: Global, tree: &Tree, words: &[&[u8]]) -> Result<Vec<Term>, CalcFault>
     requires { length words.now ≤ 2 ^ 32 }
-    ensures terms { IfOk result (λ terms. terms_from topology.now 0 (map (λ word. word.now) words.now) ≡ Ok terms.items) }
-    ensures refused { IfErr result (λ fault. FailsWith fault (terms_from topology.now 0 (map (λ word. word.now) words.now))) }
-    ensures layers { IfOk result (λ terms. HaveLayers topology.now terms.items) }
+    ensures terms { IfOk result (λ terms. terms_from tree.now 0 (map (λ word. word.now) words.now) ≡ Ok terms.items) }
+    ensures refused { IfErr result (λ fault. FailsWith fault (terms_from tree.now 0 (map (λ word. word.now) words.now))) }
+    ensures layers { IfOk result (λ terms. HaveLayers tree.now terms.items) }
 {
     let mut terms = Vec::new(alloc);
     for (number, word) in words.iter().enumerate() {
-        match read_term(alloc, topology, word, number as u32) {
+        match read_term(alloc, tree, word, number as u32) {
             Ok(term) => terms.push(term)?,
             Err(fault) => return Err(fault),
         }
@@ -37,17 +33,17 @@ pub fn read_terms(
 /// Reads names of layers, between each two of which a dot stands. `None`: some of them names no layer.
 pub fn read_layers(
     alloc: Global,
-    topology: &Topology,
+    tree: &Tree,
     names: &[u8],
 ) -> Result<Option<Sequence<Layer>>, OutOfMemory>
-    ensures layers { IfOk result (λ found. found ≡ layers_named topology.now (names_in names.now)) }
-    ensures fit { IfOk result (λ found. IfSome found (AllByRecursion (IsLayer topology.now))) }
+    ensures layers { IfOk result (λ found. found ≡ layers_named tree.now (names_in names.now)) }
+    ensures fit { IfOk result (λ found. IfSome found (AllByRecursion (IsLayer tree.now))) }
 {
     let mut layers = Vec::new(alloc);
     let mut rest = Some(names);
     while let Some(pieces) = rest {
         let (name, behind) = first_part(pieces, b'.');
-        match topology.layer_named(name) {
+        match tree.layer_named(name) {
             Some(layer) => layers.push(layer)?,
             None => return Ok(None),
         }

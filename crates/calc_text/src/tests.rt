@@ -4,10 +4,10 @@ use calc_query::{CalcFault, Numbering, select};
 use std::alloc::Global;
 use std::test::Fail;
 use synth_text::read;
-use topo_tree::{Layer, Topology};
+use topo_tree::{Layer, Tree};
 
-fn topology(alloc: Global) -> Result<Topology, Fail> {
-    Ok(Topology::build(alloc, read(alloc, b"Package:2 Core:2 PU:2")?)?)
+fn tree(alloc: Global) -> Result<Tree, Fail> {
+    Ok(Tree::build(alloc, read(alloc, b"Package:2 Core:2 PU:2")?)?)
 }
 
 const STYLE: Style<'static> = Style {
@@ -19,14 +19,14 @@ const STYLE: Style<'static> = Style {
 #[test]
 fn reads_and_prints(rt: HostRuntime) -> Result<(), Fail> {
     let alloc = rt.alloc();
-    let topology = topology(alloc)?;
+    let tree = tree(alloc)?;
     let words: [&[u8]; 2] = [b"package:1.core:0-", b"~pu:5"];
-    let terms = read_terms(alloc, &topology, &words)?;
-    let set = select(&topology, &terms, Numbering::Logical);
-    let text = answer_text(alloc, &topology, &set, &Answer::Largest, STYLE)?;
+    let terms = read_terms(alloc, &tree, &words)?;
+    let set = select(&tree, &terms, Numbering::Logical);
+    let text = answer_text(alloc, &tree, &set, &Answer::Largest, STYLE)?;
     assert_eq!(rt; text.as_slice(), b"PU:4 Core:3".as_slice());
     assert_eq!(rt; set_text(alloc, true, &set)?.as_slice(), b"0xd0".as_slice());
-    let text = answer_text(alloc, &topology, &set, &Answer::Set, STYLE)?;
+    let text = answer_text(alloc, &tree, &set, &Answer::Set, STYLE)?;
     assert_eq!(rt; text.as_slice(), b"0x000000d0".as_slice());
     Ok(())
 }
@@ -34,8 +34,8 @@ fn reads_and_prints(rt: HostRuntime) -> Result<(), Fail> {
 #[test]
 fn reads_layers(rt: HostRuntime) -> Result<(), Fail> {
     let alloc = rt.alloc();
-    let topology = topology(alloc)?;
-    match read_layers(alloc, &topology, b"package.PU")? {
+    let tree = tree(alloc)?;
+    match read_layers(alloc, &tree, b"package.PU")? {
         Some(layers) => {
             assert_eq!(rt;
                 layers.as_slice(),
@@ -45,7 +45,7 @@ fn reads_layers(rt: HostRuntime) -> Result<(), Fail> {
         None => panic!(rt; "no layers"),
     }
     for names in [b"package.".as_slice(), b"", b".pu", b"pu.die"] {
-        assert!(rt; read_layers(alloc, &topology, names)?.is_none());
+        assert!(rt; read_layers(alloc, &tree, names)?.is_none());
     }
     Ok(())
 }
@@ -53,9 +53,9 @@ fn reads_layers(rt: HostRuntime) -> Result<(), Fail> {
 #[test]
 fn tells_the_first_bad_word(rt: HostRuntime) -> Result<(), Fail> {
     let alloc = rt.alloc();
-    let topology = topology(alloc)?;
+    let tree = tree(alloc)?;
     let words: [&[u8]; 3] = [b"all", b"^pu:0.pu:x", b"die:0"];
-    match read_terms(alloc, &topology, &words) {
+    match read_terms(alloc, &tree, &words) {
         Err(fault) => assert_eq!(rt; fault, CalcFault::Location { word: 1, at: 6 }),
         Ok(_) => panic!(rt; "terms"),
     }

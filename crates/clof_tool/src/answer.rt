@@ -15,12 +15,12 @@ ghost use Rattle.clof_tool.specs.Answered.{Answered};
 
 use crate::running::run_text;
 use crate::{Fault, Status};
-use command_texts::topology::topology;
+use command_texts::topology::tree;
 use command_texts::{calc_text, distrib_text, set_text, topo_text};
 use command_words::Asked;
 use edge_io::{ReadAllFault, Source, read_all};
 use std::alloc::Global;
-use topo_tree::Topology;
+use topo_tree::Tree;
 
 // The greatest length of an input.
 const INPUT_LIMIT: usize = 16_777_216;
@@ -51,20 +51,20 @@ fn run_on<S: Source>(alloc: Global, text: &[u8], source: &mut S) -> Result<Vec<u
         (S.faults source.old) (S.faults source.new) result }
     ensures words_unread { (status : AnyStatus) → TopoRefuses text.now status → source.new ≡ source.old }
 {
-    match topology(alloc, text) {
-        Ok(topology) => served(alloc, &topology, source),
+    match tree(alloc, text) {
+        Ok(tree) => served(alloc, &tree, source),
         Err(status) => Err(status),
     }
 }
 
 // The text of a run on a topology, of all that the source has left.
-fn served<S: Source>(alloc: Global, topology: &Topology, source: &mut S) -> Result<Vec<u8>, Status>
+fn served<S: Source>(alloc: Global, tree: &Tree, source: &mut S) -> Result<Vec<u8>, Status>
     ensures answer { IfOk result (λ printed. (input : List ℕ)
         × WasRead (S.left source.old) (S.given source.old) (S.given source.new) input
-        × (length input ≤ input_limit) × PrintsSections topology.now input printed.items) }
+        × (length input ≤ input_limit) × PrintsSections tree.now input printed.items) }
     ensures at_end { OnOk result (IsDrained (S.left source.old) (S.left source.new)) }
     ensures cause { IfErr result (λ status. IsRefusal status →
-        Found (S.left source.old) (S.given source.old) (S.given source.new) status topology.now) }
+        Found (S.left source.old) (S.given source.old) (S.given source.new) status tree.now) }
     ensures silent { IfErr result (λ status. HasWritten status → ⊥) }
     ensures not_usage { result ≢ Err Status.Usage }
     ensures read_fault { result ≡ Err Status.ReadFault → Rose (S.faults source.old) (S.faults source.new) }
@@ -72,14 +72,14 @@ fn served<S: Source>(alloc: Global, topology: &Topology, source: &mut S) -> Resu
         HasGiven input_limit (S.left source.old) (S.left source.new) (S.given source.old) (S.given source.new) }
     ensures read_calm { result ≢ Err Status.ReadFault → S.faults source.new ≡ S.faults source.old }
     ensures input_refused { (input : List ℕ) (status : AnyStatus) →
-        S.left source.old ≡ Some input → Refuses topology.now input status →
+        S.left source.old ≡ Some input → Refuses tree.now input status →
         (Rose (S.faults source.old) (S.faults source.new) → ⊥) → (result ≡ Err status) ⊎ (result ≡ Err Status.OutOfMemory) }
     ensures complete { (input printed : List ℕ) →
-        S.left source.old ≡ Some input → length input ≤ input_limit → PrintsSections topology.now input printed →
+        S.left source.old ≡ Some input → length input ≤ input_limit → PrintsSections tree.now input printed →
         (Rose (S.faults source.old) (S.faults source.new) → ⊥) → IsOk result ⊎ (result ≡ Err Status.OutOfMemory) }
 {
     match read_input(alloc, source) {
-        Ok(input) => run_text(alloc, topology, &input),
+        Ok(input) => run_text(alloc, tree, &input),
         Err(status) => Err(status),
     }
 }

@@ -12,20 +12,20 @@ use kv_history::Journal;
 use out_of_memory::OutOfMemory;
 use placed_runner::{Section, SectionFault, read_sections, run_in_order, text};
 use std::alloc::{AllocError, Global};
-use topo_tree::Topology;
+use topo_tree::Tree;
 
 /// The text that `run` prints for an input on a topology, or the status with which its sections are refused.
-pub(crate) fn run_text(alloc: Global, topology: &Topology, input: &[u8]) -> Result<Vec<u8>, Status>
+pub(crate) fn run_text(alloc: Global, tree: &Tree, input: &[u8]) -> Result<Vec<u8>, Status>
     requires { length input.now ≤ input_limit }
-    ensures ok { IfOk result (λ printed. PrintsSections topology.now input.now printed.items) }
-    ensures err { IfErr result (λ status. (status ≡ Status.OutOfMemory) ⊎ RefusesSections topology.now input.now status) }
+    ensures ok { IfOk result (λ printed. PrintsSections tree.now input.now printed.items) }
+    ensures err { IfErr result (λ status. (status ≡ Status.OutOfMemory) ⊎ RefusesSections tree.now input.now status) }
     ensures early { IfErr result EndsEarly }
-    ensures refused { (status : AnyStatus) → RefusesSections topology.now input.now status →
+    ensures refused { (status : AnyStatus) → RefusesSections tree.now input.now status →
         (result ≡ Err status) ⊎ (result ≡ Err Status.OutOfMemory) }
-    ensures complete { (printed : List ℕ) → PrintsSections topology.now input.now printed →
+    ensures complete { (printed : List ℕ) → PrintsSections tree.now input.now printed →
         IsOk result ⊎ (result ≡ Err Status.OutOfMemory) }
 {
-    match read_sections(alloc, topology, input) {
+    match read_sections(alloc, tree, input) {
         Ok(sections) => match text_in_order(alloc, &sections) {
             Ok(printed) => Ok(printed),
             Err(OutOfMemory) => Err(Status::OutOfMemory),

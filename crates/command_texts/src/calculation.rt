@@ -9,7 +9,7 @@ ghost use Rattle.command_texts.specs.CalcText.{numbering_of, answer_for, calc_st
 ghost use Rattle.command_texts.specs.Ends.{EndsEarly};
 
 use crate::chosen::chosen;
-use crate::topology::topology;
+use crate::topology::tree;
 use crate::{Fault, OptionName, Status};
 use calc_query::{CalcFault, Numbering, select};
 use calc_text::{Answer, Style, answer_text, read_layers, read_terms};
@@ -17,7 +17,7 @@ use command_words::{Calculation, Question};
 use cpu_set::CpuSet;
 use out_of_memory::OutOfMemory;
 use std::alloc::Global;
-use topo_tree::Topology;
+use topo_tree::Tree;
 
 /// The answer on the set that locations select, or the status with which it is refused.
 pub fn calc_text(alloc: Global, asked: &Calculation<'_>) -> Result<Vec<u8>, Status>
@@ -29,8 +29,8 @@ pub fn calc_text(alloc: Global, asked: &Calculation<'_>) -> Result<Vec<u8>, Stat
         IsOk result ⊎ (result ≡ Err Status.OutOfMemory) }
     ensures early { IfErr result EndsEarly }
 {
-    match topology(alloc, asked.description) {
-        Ok(topology) => match answer_on(alloc, &topology, asked) {
+    match tree(alloc, asked.description) {
+        Ok(tree) => match answer_on(alloc, &tree, asked) {
             Ok(text) => Ok(text),
             Err(status) => Err(status),
         },
@@ -38,19 +38,19 @@ pub fn calc_text(alloc: Global, asked: &Calculation<'_>) -> Result<Vec<u8>, Stat
     }
 }
 
-// The answer on a topology, or the status with which it is refused.
+// The answer on a tree, or the status with which it is refused.
 #[tactic(auto, unfolding(crate::specs::CalcText::calc_on))]
-fn answer_on(alloc: Global, topology: &Topology, asked: &Calculation<'_>) -> Result<Vec<u8>, Status>
-    ensures ok { IfOk result (λ printed. calc_on topology.now (plain_calculation asked.now) ≡ Ok printed.items) }
+fn answer_on(alloc: Global, tree: &Tree, asked: &Calculation<'_>) -> Result<Vec<u8>, Status>
+    ensures ok { IfOk result (λ printed. calc_on tree.now (plain_calculation asked.now) ≡ Ok printed.items) }
     ensures err { IfErr result (λ status. (status ≡ Status.OutOfMemory)
-        ⊎ (calc_on topology.now (plain_calculation asked.now) ≡ Err status)) }
+        ⊎ (calc_on tree.now (plain_calculation asked.now) ≡ Err status)) }
     ensures early { IfErr result EndsEarly }
 {
-    let answer = match answer_for(alloc, topology, asked.question) {
+    let answer = match answer_for(alloc, tree, asked.question) {
         Ok(answer) => answer,
         Err(status) => return Err(status),
     };
-    let terms = match read_terms(alloc, topology, &asked.locations) {
+    let terms = match read_terms(alloc, tree, &asked.locations) {
         Ok(terms) => terms,
         Err(fault) => return Err(calc_status(fault)),
     };
@@ -60,32 +60,32 @@ fn answer_on(alloc: Global, topology: &Topology, asked: &Calculation<'_>) -> Res
         taskset: asked.taskset,
         separator: asked.separator,
     };
-    let set = chosen(asked.single, &select(topology, &terms, numbering));
-    match line(alloc, topology, &set, &answer, style) {
+    let set = chosen(asked.single, &select(tree, &terms, numbering));
+    match line(alloc, tree, &set, &answer, style) {
         Ok(text) => Ok(text),
         Err(OutOfMemory) => Err(Status::OutOfMemory),
     }
 }
 
 // What is asked of a set, on a topology.
-fn answer_for(alloc: Global, topology: &Topology, question: Question<'_>) -> Result<Answer, Status>
-    ensures ok { IfOk result (λ answer. answer_for topology.now (plain_question question.entry) ≡ Ok answer) }
+fn answer_for(alloc: Global, tree: &Tree, question: Question<'_>) -> Result<Answer, Status>
+    ensures ok { IfOk result (λ answer. answer_for tree.now (plain_question question.entry) ≡ Ok answer) }
     ensures err { IfErr result (λ status. (status ≡ Status.OutOfMemory)
-        ⊎ (answer_for topology.now (plain_question question.entry) ≡ Err status)) }
-    ensures fit { IfOk result (HasLayers topology.now) }
+        ⊎ (answer_for tree.now (plain_question question.entry) ≡ Err status)) }
+    ensures fit { IfOk result (HasLayers tree.now) }
     ensures early { IfErr result EndsEarly }
 {
     match question {
         Question::Set => Ok(Answer::Set),
-        Question::Intersect(name) => match topology.layer_named(name) {
+        Question::Intersect(name) => match tree.layer_named(name) {
             Some(layer) => Ok(Answer::Objects(layer)),
             None => Err(untyped(OptionName::Intersect)),
         },
-        Question::NumberOf(name) => match topology.layer_named(name) {
+        Question::NumberOf(name) => match tree.layer_named(name) {
             Some(layer) => Ok(Answer::Count(layer)),
             None => Err(untyped(OptionName::NumberOf)),
         },
-        Question::Hierarchical(names) => match read_layers(alloc, topology, names) {
+        Question::Hierarchical(names) => match read_layers(alloc, tree, names) {
             Ok(Some(layers)) => Ok(Answer::Chains(layers)),
             Ok(None) => Err(untyped(OptionName::Hierarchical)),
             Err(OutOfMemory) => Err(Status::OutOfMemory),
@@ -126,16 +126,16 @@ fn calc_status(fault: CalcFault) -> Status
 // The text of an answer, and a line end.
 fn line(
     alloc: Global,
-    topology: &Topology,
+    tree: &Tree,
     set: &CpuSet,
     answer: &Answer,
     style: Style<'_>,
 ) -> Result<Vec<u8>, OutOfMemory>
-    requires { HasLayers topology.now answer.now }
-    ensures { IfOk result (λ text. text.items ≡ answer_text topology.now set.now answer.now style.entry.numbering
+    requires { HasLayers tree.now answer.now }
+    ensures { IfOk result (λ text. text.items ≡ answer_text tree.now set.now answer.now style.entry.numbering
         style.entry.taskset (option_map (λ separator. separator.now) style.entry.separator) ++ 10 ∷ []) }
 {
-    let mut text = answer_text(alloc, topology, set, answer, style)?;
+    let mut text = answer_text(alloc, tree, set, answer, style)?;
     text.push(b'\n')?;
     Ok(text)
 }

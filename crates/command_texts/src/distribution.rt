@@ -10,7 +10,7 @@ ghost use Rattle.command_texts.specs.DistribText.{PrintsDistrib, DistribRefuses}
 ghost use Rattle.command_texts.specs.Ends.{EndsEarly};
 
 use crate::chosen::chosen;
-use crate::topology::topology;
+use crate::topology::tree;
 use crate::{Fault, OptionName, Status};
 use calc_text::set_text;
 use command_words::{Depths, Distribution};
@@ -18,7 +18,7 @@ use cpu_set::CpuSet;
 use distrib_rules::{DistribFault, distrib};
 use out_of_memory::OutOfMemory;
 use std::alloc::{AllocError, Global};
-use topo_tree::Topology;
+use topo_tree::Tree;
 
 /// The masks that are asked for, one a line, or the status with which they are refused.
 pub fn distrib_text(alloc: Global, asked: &Distribution<'_>) -> Result<Vec<u8>, Status>
@@ -30,8 +30,8 @@ pub fn distrib_text(alloc: Global, asked: &Distribution<'_>) -> Result<Vec<u8>, 
         IsOk result ⊎ (result ≡ Err Status.OutOfMemory) }
     ensures early { IfErr result EndsEarly }
 {
-    match topology(alloc, asked.description) {
-        Ok(topology) => match answer_on(alloc, &topology, asked) {
+    match tree(alloc, asked.description) {
+        Ok(tree) => match answer_on(alloc, &tree, asked) {
             Ok(text) => Ok(text),
             Err(status) => Err(status),
         },
@@ -39,20 +39,16 @@ pub fn distrib_text(alloc: Global, asked: &Distribution<'_>) -> Result<Vec<u8>, 
     }
 }
 
-// The masks of a topology, one a line, or the status with which they are refused.
+// The masks of a tree, one a line, or the status with which they are refused.
 #[tactic(auto, unfolding(crate::specs::DistribText::answer_on))]
-fn answer_on(
-    alloc: Global,
-    topology: &Topology,
-    asked: &Distribution<'_>,
-) -> Result<Vec<u8>, Status>
-    ensures ok { IfOk result (λ printed. answer_on topology.now (plain_distribution asked.now) ≡ Ok printed.items) }
+fn answer_on(alloc: Global, tree: &Tree, asked: &Distribution<'_>) -> Result<Vec<u8>, Status>
+    ensures ok { IfOk result (λ printed. answer_on tree.now (plain_distribution asked.now) ≡ Ok printed.items) }
     ensures err { IfErr result (λ status. (status ≡ Status.OutOfMemory)
-        ⊎ (answer_on topology.now (plain_distribution asked.now) ≡ Err status)) }
+        ⊎ (answer_on tree.now (plain_distribution asked.now) ≡ Err status)) }
     ensures early { IfErr result EndsEarly }
 {
-    let (from, to) = span(topology, asked.depths)?;
-    match distrib(alloc, topology, asked.masks, from, to, asked.reverse) {
+    let (from, to) = span(tree, asked.depths)?;
+    match distrib(alloc, tree, asked.masks, from, to, asked.reverse) {
         Ok(masks) => match lines(alloc, asked.single, asked.taskset, &masks) {
             Ok(text) => Ok(text),
             Err(OutOfMemory) => Err(Status::OutOfMemory),
@@ -62,42 +58,37 @@ fn answer_on(
 }
 
 // The depths of the start and the end.
-fn span(topology: &Topology, depths: Depths<'_>) -> Result<(u32, u32), Status>
-    ensures ok { IfOk result (λ span. span_of topology.now (plain_depths depths.entry) ≡ Ok (span.0, span.1)) }
-    ensures err { IfErr result (λ status. span_of topology.now (plain_depths depths.entry) ≡ Err status) }
-    ensures from { IfOk result (λ span. span.0 < depth_count topology.now) }
-    ensures to { IfOk result (λ span. span.1 < depth_count topology.now) }
+fn span(tree: &Tree, depths: Depths<'_>) -> Result<(u32, u32), Status>
+    ensures ok { IfOk result (λ span. span_of tree.now (plain_depths depths.entry) ≡ Ok (span.0, span.1)) }
+    ensures err { IfErr result (λ status. span_of tree.now (plain_depths depths.entry) ≡ Err status) }
+    ensures from { IfOk result (λ span. span.0 < depth_count tree.now) }
+    ensures to { IfOk result (λ span. span.1 < depth_count tree.now) }
     ensures early { IfErr result EndsEarly }
 {
     match depths {
         Depths::Between { from, to } => {
-            let from = depth(topology, OptionName::From, 0, from)?;
-            let to = depth(topology, OptionName::To, topology.depths() - 1, to)?;
+            let from = depth(tree, OptionName::From, 0, from)?;
+            let to = depth(tree, OptionName::To, tree.depths() - 1, to)?;
             Ok((from, to))
         }
         Depths::At(name) => {
-            let at = depth(topology, OptionName::At, 0, Some(name))?;
+            let at = depth(tree, OptionName::At, 0, Some(name))?;
             Ok((at, at))
         }
     }
 }
 
 // The depth that an option names, where it was given.
-fn depth(
-    topology: &Topology,
-    option: OptionName,
-    default: u32,
-    name: Option<&[u8]>,
-) -> Result<u32, Status>
-    requires { default < depth_count topology.now }
-    ensures ok { IfOk result (λ depth. depth_of topology.now option default (plain_text name.entry) ≡ Ok depth) }
-    ensures err { IfErr result (λ status. depth_of topology.now option default (plain_text name.entry) ≡ Err status) }
-    ensures fit { IfOk result (λ depth. depth < depth_count topology.now) }
+fn depth(tree: &Tree, option: OptionName, default: u32, name: Option<&[u8]>) -> Result<u32, Status>
+    requires { default < depth_count tree.now }
+    ensures ok { IfOk result (λ depth. depth_of tree.now option default (plain_text name.entry) ≡ Ok depth) }
+    ensures err { IfErr result (λ status. depth_of tree.now option default (plain_text name.entry) ≡ Err status) }
+    ensures fit { IfOk result (λ depth. depth < depth_count tree.now) }
     ensures early { IfErr result EndsEarly }
 {
     match name {
         None => Ok(default),
-        Some(name) => match topology.depth_named(name) {
+        Some(name) => match tree.depth_named(name) {
             Some(depth) => Ok(depth),
             None => Err(Status::Malformed(Fault::TypeOf(option))),
         },

@@ -1,4 +1,4 @@
-// The topology that a description stands for.
+// The tree of the topology that a description stands for.
 ghost use Rattle.std.specs.Prelude.{◌≡◌, ◌⊎◌, None, IfOk, IfErr, IsOk, OnOk};
 ghost use Rattle.synth_text.specs.declared.description.Description.{Description as Described};
 ghost use Rattle.synth_text.specs.Descriptions.{Describes};
@@ -8,28 +8,9 @@ ghost use Rattle.command_texts.specs.TopoText.{synth_status, build_status, IsBui
 ghost use Rattle.command_texts.specs.Ends.{EndsEarly};
 
 use crate::{Fault, Status};
-use out_of_memory::OutOfMemory;
 use std::alloc::Global;
 use synth_text::{SynthFault, read};
-use topo_tree::{BuildFault, Topology, Tree};
-
-/// The topology that a text describes, or the status with which the text is refused.
-pub fn topology(alloc: Global, text: &[u8]) -> Result<Topology, Status>
-    ensures ok { IfOk result (IsBuilt text.now) }
-    ensures only { IfOk result (λ topology. (described : Described) → Describes text.now described → described ≡ topology) }
-    ensures err { IfErr result (λ status. (status ≡ Status.OutOfMemory) ⊎ TopoRefuses text.now status) }
-    ensures refused { (status : AnyStatus) → TopoRefuses text.now status → (result ≡ Err status) ⊎ (result ≡ Err Status.OutOfMemory) }
-    ensures complete { (described : Described) → IsBuilt text.now described → IsOk result ⊎ (result ≡ Err Status.OutOfMemory) }
-    ensures early { IfErr result EndsEarly }
-{
-    match tree(alloc, text) {
-        Ok(tree) => match Topology::from_tree(alloc, tree) {
-            Ok(topology) => Ok(topology),
-            Err(OutOfMemory) => Err(Status::OutOfMemory),
-        },
-        Err(status) => Err(status),
-    }
-}
+use topo_tree::{BuildFault, Tree};
 
 /// The tree of the topology that a text describes, or the status with which the text is refused.
 pub fn tree(alloc: Global, text: &[u8]) -> Result<Tree, Status>

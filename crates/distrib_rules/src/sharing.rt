@@ -14,7 +14,7 @@ use crate::masks::push_share;
 use crate::shares::Siblings;
 use cpu_set::CpuSet;
 use std::alloc::{AllocError, Global};
-use topo_tree::{Layer, Object, Topology};
+use topo_tree::{AsTree, Layer, Object, Tree};
 
 // How many masks one distribution may have.
 const MASK_LIMIT: u32 = 4096;
@@ -24,17 +24,18 @@ const MASK_LIMIT: u32 = 4096;
 /// before. With `reverse` every list of objects is taken from its last to its first.
 ///
 /// It is refused for the first of these: no mask, more than 4,096, a start below the end.
-pub fn distrib(
+pub fn distrib<T: AsTree>(
     alloc: Global,
-    topology: &Topology,
+    topology: &T,
     n: u32,
     from: u32,
     to: u32,
     reverse: bool,
 ) -> Result<Vec<CpuSet>, DistribFault>
-    requires from { from < depth_count topology.now }
-    requires to { to < depth_count topology.now }
-    ensures masks { IfOk result (λ masks. masks.items ≡ distribution topology.now (record { to = to; backwards = reverse }) n from) }
+    requires from { from < depth_count (T.described topology.now) }
+    requires to { to < depth_count (T.described topology.now) }
+    ensures masks { IfOk result (λ masks. masks.items
+        ≡ distribution (T.described topology.now) (record { to = to; backwards = reverse }) n from) }
     ensures count { IfOk result (λ masks. vec_len masks ≡ n) }
     ensures accepted { OnOk result (fault_of n from to ≡ None) }
     ensures refused { IfErr result (λ fault. UnlessMemory DistribFault.OutOfMemory fault (fault_of n from to ≡ Some fault)) }
@@ -48,13 +49,14 @@ pub fn distrib(
     if from > to {
         return Err(DistribFault::Reversed);
     }
+    let tree = topology.as_tree();
     let all = Siblings {
         first: 0,
-        count: topology.count(Layer::Depth(from)),
+        count: tree.count(Layer::Depth(from)),
     };
     let distribution = Distribution {
-        topology,
-        last: topology.depths() - 1,
+        tree,
+        last: tree.depths() - 1,
         to,
         reverse,
     };
@@ -66,7 +68,7 @@ pub fn distrib(
 // How masks are shared out.
 #[derive(Drop)]
 struct Distribution<'a> {
-    topology: &'a Topology,
+    tree: &'a Tree,
     // The depth of the PUs.
     last: u32,
     to: u32,
@@ -82,15 +84,15 @@ impl Distribution<'_> {
         depth: u32,
         objects: Siblings,
     ) -> Result<(), AllocError>
-        requires built { IsBuilt self.now.topology.now }
-        requires last { self.now.last ≡ length self.now.topology.now.levels }
-        requires depth { depth < depth_count self.now.topology.now }
+        requires built { IsBuilt self.now.tree.now }
+        requires last { self.now.last ≡ length self.now.tree.now.levels }
+        requires depth { depth < depth_count self.now.tree.now }
         requires some { 0 < objects.count }
-        requires objects { objects.first + objects.count ≤ count_at self.now.topology.now depth }
+        requires objects { objects.first + objects.count ≤ count_at self.now.tree.now depth }
         requires masks { n ≤ 4096 }
-        ensures { OnOk result (masks.new.items ≡ with_pairs self.now.topology.now masks.old.items
-            (expansion self.now.topology.now (record { to = self.now.to; backwards = self.now.reverse })
-            (shared self.now.topology.now n depth (in_order self.now.reverse (range_with_len objects.first objects.count))))) }
+        ensures { OnOk result (masks.new.items ≡ with_pairs self.now.tree.now masks.old.items
+            (expansion self.now.tree.now (record { to = self.now.to; backwards = self.now.reverse })
+            (shared self.now.tree.now n depth (in_order self.now.reverse (range_with_len objects.first objects.count))))) }
     {
         for place in 0..objects.count {
             let object = Object {
@@ -99,9 +101,9 @@ impl Distribution<'_> {
             };
             let share = objects.share_at(n, place);
             if self.is_final(depth, share) {
-                push_share(masks, self.topology.set(object), share)?;
+                push_share(masks, &self.tree.set_of(object), share)?;
             } else {
-                let (first, count) = self.topology.children(object);
+                let (first, count) = self.tree.children(object);
                 self.share_out(masks, share, depth + 1, Siblings { first, count })?;
             }
         }
@@ -110,8 +112,8 @@ impl Distribution<'_> {
 
     // Whether an object of a depth hands none of its share of masks on.
     fn is_final(&self, depth: u32, share: u32) -> bool
-        requires last { self.now.last ≡ length self.now.topology.now.levels }
-        ensures { (index : ℕ) → result ≡ is_final self.now.topology.now (record { to = self.now.to; backwards = self.now.reverse })
+        requires last { self.now.last ≡ length self.now.tree.now.levels }
+        ensures { (index : ℕ) → result ≡ is_final self.now.tree.now (record { to = self.now.to; backwards = self.now.reverse })
             (record { depth = depth; index = index; share = share }) }
     {
         depth >= self.last || share <= 1 || depth >= self.to

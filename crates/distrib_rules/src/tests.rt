@@ -6,7 +6,7 @@ use std::alloc::Global;
 use std::process::Abort;
 use std::test::Fail;
 use synth_text::read;
-use topo_tree::Topology;
+use topo_tree::{Topology, Tree};
 
 fn built(rt: &impl Abort, alloc: Global, text: &[u8]) -> Topology {
     match read(alloc, text) {
@@ -105,6 +105,18 @@ fn most_masks(rt: HostRuntime) -> Result<(), Fail> {
             Some(4095)
         );
     }
+    Ok(())
+}
+
+#[test]
+fn masks_over_a_tree(rt: HostRuntime) -> Result<(), Fail> {
+    let tree = Tree::build(rt.alloc(), read(rt.alloc(), b"Package:2 Core:2 PU:2")?)?;
+    assert!(rt; tree.depths() == 4);
+    let masks = distrib(rt.alloc(), &tree, 3, 0, 3, false)?;
+    assert_eq!(rt;
+        printed(rt.alloc(), &masks)?.as_slice(),
+        b"0x3 0xc 0xf0".as_slice()
+    );
     Ok(())
 }
 

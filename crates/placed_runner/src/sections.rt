@@ -21,7 +21,7 @@ use crate::place::{Place, masks, pu_on, read_place};
 use byte_text::cut_at;
 use out_of_memory::OutOfMemory;
 use std::alloc::Global;
-use topo_tree::Topology;
+use topo_tree::{AsTree, Tree};
 
 // How many callers a run may have.
 const CALLER_LIMIT: usize = 256;
@@ -44,20 +44,21 @@ pub(crate) struct Written<'a> {
 
 /// Reads an input as sections, with the PUs of their callers in the topology. It is refused for the first rule that is
 /// broken, section by section: at most 256 sections, a head, a place, as many bytes as the head tells and a line end.
-pub fn read_sections<'a>(
+pub fn read_sections<'a, T: AsTree>(
     alloc: Global,
-    topology: &Topology,
+    topology: &T,
     input: &'a [u8],
 ) -> Result<Vec<Section<'a>>, SectionFault>
-    ensures sections { IfOk result (λ sections. Sections topology.now input.now (map section_view sections.items)) }
-    ensures refused { IfErr result (λ fault. UnlessMemory faults.OutOfMemory fault (IsRefused topology.now input.now fault)) }
+    ensures sections { IfOk result (λ sections. Sections (T.described topology.now) input.now (map section_view sections.items)) }
+    ensures refused { IfErr result (λ fault. UnlessMemory faults.OutOfMemory fault (IsRefused (T.described topology.now) input.now fault)) }
 
     // What callers need of their number and their bytes.
     ensures few { IfOk result (λ sections. vec_len sections ≤ caller_limit) }
     ensures small { IfOk result (λ sections. sum_by (λ section. length section.bytes.now) sections.items ≤ length input.now) }
 {
-    let written = read_written(alloc, topology, input)?;
-    match place_all(alloc, topology, &written) {
+    let tree = topology.as_tree();
+    let written = read_written(alloc, tree, input)?;
+    match place_all(alloc, tree, &written) {
         Ok(sections) => Ok(sections),
         Err(OutOfMemory) => Err(SectionFault::OutOfMemory),
     }
@@ -66,12 +67,12 @@ pub fn read_sections<'a>(
 // The sections of an input as they are written.
 fn read_written<'a>(
     alloc: Global,
-    topology: &Topology,
+    tree: &Tree,
     input: &'a [u8],
 ) -> Result<Vec<Written<'a>>, SectionFault>
-    ensures sections { IfOk result (λ sections. ReadsTo topology.now input.now (map written_view sections.items) []) }
+    ensures sections { IfOk result (λ sections. ReadsTo tree.now input.now (map written_view sections.items) []) }
     ensures few { IfOk result (λ sections. vec_len sections ≤ caller_limit) }
-    ensures refused { IfErr result (λ fault. UnlessMemory faults.OutOfMemory fault (IsRefused topology.now input.now fault)) }
+    ensures refused { IfErr result (λ fault. UnlessMemory faults.OutOfMemory fault (IsRefused tree.now input.now fault)) }
 {
     let mut sections = Vec::new(alloc);
     let mut rest = input;
@@ -80,7 +81,7 @@ fn read_written<'a>(
             return Err(SectionFault::TooManyCallers);
         }
         let at = input.len() - rest.len();
-        let (section, behind) = read_front(alloc, topology, rest, at)?;
+        let (section, behind) = read_front(alloc, tree, rest, at)?;
         sections.push(section)?;
         rest = behind;
     }
@@ -90,12 +91,12 @@ fn read_written<'a>(
 // The section with which a text begins that stands at an offset of the input, and what stands behind it.
 fn read_front<'a>(
     alloc: Global,
-    topology: &Topology,
+    tree: &Tree,
     text: &'a [u8],
     at: usize,
 ) -> Result<(Written<'a>, &'a [u8]), SectionFault>
-    ensures begins { IfOk result (λ found. BeginsWith topology.now text.now (written_view found.0) found.1.now) }
-    ensures refused { IfErr result (λ fault. UnlessMemory faults.OutOfMemory fault (FrontBreaks topology.now at text.now fault)) }
+    ensures begins { IfOk result (λ found. BeginsWith tree.now text.now (written_view found.0) found.1.now) }
+    ensures refused { IfErr result (λ fault. UnlessMemory faults.OutOfMemory fault (FrontBreaks tree.now at text.now fault)) }
 {
     let Some((line, behind)) = cut_at(text, b'\n') else {
         return Err(SectionFault::BadHead { at });
@@ -103,7 +104,7 @@ fn read_front<'a>(
     let Some(head) = read_head(line) else {
         return Err(SectionFault::BadHead { at });
     };
-    let place = match read_place(alloc, topology, head.place, at) {
+    let place = match read_place(alloc, tree, head.place, at) {
         Ok(place) => place,
         Err(fault) => return Err(fault),
     };
@@ -129,21 +130,21 @@ fn split_bytes(text: &[u8], size: u64) -> Option<(&[u8], &[u8])>
 // The sections with their callers' PUs.
 fn place_all<'a>(
     alloc: Global,
-    topology: &Topology,
+    tree: &Tree,
     written: &[Written<'a>],
 ) -> Result<Vec<Section<'a>>, OutOfMemory>
     requires { length written.now ≤ caller_limit }
     ensures placed { IfOk result (λ sections.
-        map section_view sections.items ≡ placed topology.now (map written_view written.now)) }
+        map section_view sections.items ≡ placed tree.now (map written_view written.now)) }
 {
     let mut sections = Vec::with_capacity(alloc, written.len())?;
     if written.is_empty() {
         return Ok(sections);
     }
-    let masks = masks(alloc, topology, written.len() as u32)?;
+    let masks = masks(alloc, tree, written.len() as u32)?;
     for (caller, section) in written.iter().enumerate() {
         sections.push(Section {
-            pu: pu_on(topology, &masks, caller, section.place),
+            pu: pu_on(tree, &masks, caller, section.place),
             bytes: section.bytes,
         })?;
     }

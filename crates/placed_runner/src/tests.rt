@@ -6,7 +6,7 @@ use kv_history::Journal;
 use std::alloc::Global;
 use std::test::Fail;
 use synth_text::read;
-use topo_tree::Topology;
+use topo_tree::{Topology, Tree};
 
 fn topology(alloc: Global, description: &[u8]) -> Result<Topology, Fail> {
     Ok(Topology::build(alloc, read(alloc, description)?)?)
@@ -48,6 +48,17 @@ fn refuses_the_first_broken_rule(rt: HostRuntime) -> Result<(), Fail> {
             Ok(_) => panic!(rt; "sections"),
             Err(fault) => assert_eq!(rt; fault, want),
         }
+    }
+    Ok(())
+}
+
+#[test]
+fn reads_sections_on_a_tree(rt: HostRuntime) -> Result<(), Fail> {
+    let tree = Tree::build(rt.alloc(), read(rt.alloc(), b"PU:2(indexes=1,0)")?)?;
+    let sections = read_sections(rt.alloc(), &tree, b"worker pu:1 0\n\nworker 0x1 1\na\n")?;
+    match sections.as_slice() {
+        [one, other] => assert!(rt; one.pu == 1 && other.pu == 1),
+        _ => panic!(rt; "other sections"),
     }
     Ok(())
 }

@@ -8,6 +8,7 @@ pub mod Coverings
 pub mod Positions
 pub mod Lookups
 pub mod CoverLaws
+pub mod NumberTests
 pub mod PlaceLaws
 pub mod Depths
 pub mod Trees

@@ -2,12 +2,14 @@
 //! nodes of memory; each object with its set of PUs, its numbers, its parent and its children; and the tree's two texts.
 #![tactic(auto)]
 
+mod as_tree;
 mod building;
 mod counts;
 mod fault;
 mod laws;
 mod layer;
 mod lines;
+mod look_ups;
 mod naming;
 mod numbers;
 mod order;
@@ -17,6 +19,7 @@ mod sizes;
 mod topology;
 mod tree;
 
+pub use as_tree::AsTree;
 pub use fault::BuildFault;
 pub use laws::{
     children_have_their_parent, children_make_up_their_parent, inside_is_by_positions,

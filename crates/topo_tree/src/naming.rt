@@ -6,10 +6,10 @@ ghost use Rattle.topo_tree.specs.Lines.{group_number};
 ghost use Rattle.topo_tree.specs.Naming.{depths_of, only, layer_named, depth_named};
 
 use crate::layer::Layer;
-use crate::topology::Topology;
+use crate::tree::Tree;
 use synth_text::{Kind, Name, read_name};
 
-impl Topology {
+impl Tree {
     /// The layer that a word names, without regard to case: that of its kind, where exactly one has it, and for
     /// `group` with digits the Group layer with that number, counted from the root. `None` where it names no layer.
     pub fn layer_named(&self, word: &[u8]) -> Option<Layer>

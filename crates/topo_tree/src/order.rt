@@ -13,8 +13,9 @@ use out_of_memory::OutOfMemory;
 use std::alloc::{AllocError, Global};
 
 impl Tree {
-    // The objects of all depths in tree order.
-    pub(crate) fn tree_order(&self, alloc: Global) -> Result<Vec<Object>, OutOfMemory>
+    /// The objects of all depths in tree order: each before all that lie under it, these in their order. The nodes of
+    /// memory are left out.
+    pub fn tree_order(&self, alloc: Global) -> Result<Vec<Object>, OutOfMemory>
         ensures order { IfOk result (λ objects. objects.items ≡ tree_order self.now) }
         ensures objects { IfOk result (λ objects. All (IsObject self.now) objects.items) }
     {

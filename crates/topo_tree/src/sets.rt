@@ -2,13 +2,81 @@
 ghost use Rattle.std.specs.Prelude.{◌≡◌, ◌<◌, ◌≤◌, ◌+◌, ◌*◌, ◌/◌, ℕ, length, map, All, IfOk};
 ghost use Rattle.std.specs.List.{AllByRecursion};
 ghost use Rattle.cpu_set.specs.Sets.{set_limit, has, numbers_where};
+ghost use Rattle.cpu_set.specs.Tests.{meets, is_inside};
 ghost use Rattle.synth_text.specs.Limits.{pu_limit};
 ghost use Rattle.synth_text.specs.Rules.{arities, product};
+ghost use Rattle.topo_tree.specs.Objects.{IsObject};
+ghost use Rattle.topo_tree.specs.Coverage.{set_of};
 ghost use Rattle.topo_tree.specs.TableLists.{sets_covered, depth_sets};
 
+use crate::layer::{Layer, Object};
+use crate::tree::Tree;
 use cpu_set::CpuSet;
 use std::alloc::{AllocError, Global};
 use synth_text::Level;
+
+impl Tree {
+    /// The numbers of the PUs that an object covers. A NUMANode has the set of the object that carries it.
+    pub fn set_of(&self, object: Object) -> CpuSet
+        requires { IsObject self.now object }
+        ensures { result ≡ set_of self.now object.layer object.index }
+    {
+        numbers_set(self.covered(object))
+    }
+
+    /// Whether an object has a PU of a set.
+    pub fn meets(&self, object: Object, set: &CpuSet) -> bool
+        requires { IsObject self.now object }
+        ensures { result ≡ meets (set_of self.now object.layer object.index) set.now }
+    {
+        some_in(self.covered(object), set)
+    }
+
+    /// Whether a set has all PUs of an object.
+    pub fn inside(&self, object: Object, set: &CpuSet) -> bool
+        requires { IsObject self.now object }
+        ensures { result ≡ is_inside (set_of self.now object.layer object.index) set.now }
+    {
+        all_in(self.covered(object), set)
+    }
+
+    // The physical numbers of the PUs that an object covers, by their positions.
+    fn covered(&self, object: Object) -> &[u32]
+        requires { IsObject self.now object }
+        ensures set { numbers_where (has result.now) ≡ set_of self.now object.layer object.index }
+        ensures limit { All (λ number. number < set_limit) result.now }
+    {
+        let numbers = self.pus();
+        let count = self.count(Layer::Depth(self.depth_of(object.layer)));
+        let width = numbers.len() / count as usize;
+        let first = object.index as usize * width;
+        &numbers[first..first + width]
+    }
+}
+
+// Whether some of these numbers is in a set.
+fn some_in(numbers: &[u32], set: &CpuSet) -> bool
+    ensures { result ≡ meets numbers.now set.now }
+{
+    for number in numbers {
+        if set.has(*number) {
+            return true;
+        }
+    }
+    false
+}
+
+// Whether all of these numbers are in a set.
+fn all_in(numbers: &[u32], set: &CpuSet) -> bool
+    ensures { result ≡ is_inside numbers.now set.now }
+{
+    for number in numbers {
+        if !set.has(*number) {
+            return false;
+        }
+    }
+    true
+}
 
 /// The sets of each depth's objects over PUs with these numbers.
 pub fn depth_sets(
@@ -43,13 +111,13 @@ fn sets_covered(alloc: Global, count: usize, numbers: &[u32]) -> Result<Vec<CpuS
     let width = numbers.len() / count;
     let mut sets = Vec::with_capacity(alloc, count)?;
     for index in 0..count {
-        sets.push(set_of(&numbers[index * width..(index + 1) * width]))?;
+        sets.push(numbers_set(&numbers[index * width..(index + 1) * width]))?;
     }
     Ok(sets)
 }
 
 // The set of these numbers.
-fn set_of(numbers: &[u32]) -> CpuSet
+fn numbers_set(numbers: &[u32]) -> CpuSet
     requires { All (λ number. number < set_limit) numbers.now }
     ensures { result ≡ numbers_where (has numbers.now) }
 {

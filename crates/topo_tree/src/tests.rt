@@ -68,6 +68,14 @@ fn physical(rt: &impl Abort, topology: &Topology, layer: Layer, index: u32) -> u
     topology.physical(object(rt, topology, layer, index))
 }
 
+// The set of an object, which its tree finds too.
 fn set(rt: &impl Abort, topology: &Topology, layer: Layer, index: u32) -> CpuSet {
-    *topology.set(object(rt, topology, layer, index))
+    let object = object(rt, topology, layer, index);
+    let set = *topology.set(object);
+    let tree = topology.as_tree();
+    let found = tree.set_of(object);
+    assert!(rt; found.inside(&set) && set.inside(&found));
+    assert!(rt; tree.meets(object, &set) && tree.inside(object, &set));
+    assert!(rt; !tree.meets(object, &CpuSet::empty()) && !tree.inside(object, &CpuSet::empty()));
+    set
 }

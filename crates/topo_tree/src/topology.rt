@@ -1,14 +1,15 @@
 // A topology and its look-ups.
-ghost use Rattle.std.specs.Prelude.{◌≡◌, ◌<◌, ◌≤◌, ◌==◌, ◌++◌, ◌∷◌, [], All, position, Some, None, IfOk, OnOk, IfErr, IfSome};
+ghost use Rattle.std.specs.Prelude.{◌≡◌, ◌<◌, ◌≤◌, ◌++◌, ◌∷◌, [], All, Some, None, IfOk, OnOk, IfErr, IfSome};
 ghost use Rattle.synth_text.specs.Canonical.{canonical};
 ghost use Rattle.out_of_memory.specs.Memory.{UnlessMemory};
 ghost use Rattle.synth_text.specs.Limits.{pu_limit};
 ghost use Rattle.synth_text.specs.Sound.{IsSound};
-ghost use Rattle.topo_tree.specs.Objects.{depth_count, kind_at, arity_at, count_of, carrier_of, IsLayer, IsObject, parent_of, children_of};
+ghost use Rattle.topo_tree.specs.Objects.{depth_count, kind_at, count_of, carrier_of, IsLayer, IsObject, parent_of, children_of};
 ghost use Rattle.topo_tree.specs.Building.{build_fault, IsBuilt};
-ghost use Rattle.topo_tree.specs.Coverage.{set_of, layer_depth, physical_of, leaf_of};
+ghost use Rattle.topo_tree.specs.Coverage.{set_of, physical_of, leaf_of};
+ghost use Rattle.topo_tree.specs.Naming.{layer_named, depth_named};
 ghost use Rattle.topo_tree.specs.Order.{tree_order};
-ghost use Rattle.topo_tree.specs.Lines.{topology_text};
+ghost use Rattle.topo_tree.specs.Lines.{group_number, topology_text};
 
 use crate::fault::BuildFault;
 use crate::layer::{Layer, Object};
@@ -85,10 +86,7 @@ impl Topology {
         ensures depth { result ≡ carrier_of self.now }
         ensures fit { IfSome result (λ depth. depth < depth_count self.now) }
     {
-        match &self.description().memory {
-            None => None,
-            Some(memory) => Some(memory.above),
-        }
+        self.tree.carrier()
     }
 
     /// How many objects a layer has; 0 nodes of memory where the description has no memory.
@@ -105,7 +103,7 @@ impl Topology {
         requires { IsObject self.now object }
         ensures { result.now ≡ set_of self.now object.layer object.index }
     {
-        let depth = self.depth_of(object.layer);
+        let depth = self.tree.depth_of(object.layer);
         &self.sets[depth as usize][object.index as usize]
     }
 
@@ -123,22 +121,7 @@ impl Topology {
         ensures parent { result ≡ parent_of self.now object.layer object.index }
         ensures fit { IfSome result (IsObject self.now) }
     {
-        match object.layer {
-            Layer::Depth(depth) => {
-                if depth == 0 {
-                    None
-                } else {
-                    Some(Object {
-                        layer: Layer::Depth(depth - 1),
-                        index: object.index / self.arity(depth - 1),
-                    })
-                }
-            }
-            Layer::Memory => Some(Object {
-                layer: Layer::Depth(self.depth_of(Layer::Memory)),
-                index: object.index,
-            }),
-        }
+        self.tree.parent(object)
     }
 
     /// The first index and the number of the objects one depth below; (0, 0) for a NUMANode, and the number 0 for a PU.
@@ -146,23 +129,40 @@ impl Topology {
         requires { IsObject self.now object }
         ensures { result ≡ children_of self.now object.layer object.index }
     {
-        match object.layer {
-            Layer::Depth(depth) => {
-                let arity = self.arity(depth);
-                (object.index * arity, arity)
-            }
-            Layer::Memory => (0, 0),
-        }
+        self.tree.children(object)
     }
 
     /// The logical number of the PU that has a physical number; `None` where none has it.
     pub fn leaf_of(&self, physical: u32) -> Option<u32>
         ensures { result ≡ leaf_of self.now physical }
     {
-        match place_of(self.tree.pus(), physical) {
-            None => None,
-            Some(place) => Some(place as u32),
-        }
+        self.tree.leaf_of(physical)
+    }
+
+    /// The layer that a word names, without regard to case: that of its kind, where exactly one has it, and for
+    /// `group` with digits the Group layer with that number, counted from the root. `None` where it names no layer.
+    pub fn layer_named(&self, word: &[u8]) -> Option<Layer>
+        ensures layer { result ≡ layer_named self.now word.now }
+        ensures fit { IfSome result (IsLayer self.now) }
+    {
+        self.tree.layer_named(word)
+    }
+
+    /// The depth that a word names, as `layer_named` reads it. A name of NUMANode stands for the depth that carries the
+    /// memory. `None` where the word names no layer.
+    pub fn depth_named(&self, word: &[u8]) -> Option<u32>
+        ensures depth { result ≡ depth_named self.now word.now }
+        ensures fit { IfSome result (λ depth. depth < depth_count self.now) }
+    {
+        self.tree.depth_named(word)
+    }
+
+    /// The number of a depth's Groups: how many Group levels stand above it.
+    pub fn group_number(&self, depth: u32) -> u32
+        requires { depth < depth_count self.now }
+        ensures { result ≡ group_number self.now depth }
+    {
+        self.tree.group_number(depth)
     }
 
     /// The objects of all depths in tree order: each before all that lie under it, these in their order. The nodes of
@@ -188,41 +188,10 @@ impl Topology {
         self.tree.show(alloc)
     }
 
-    // The description.
-    pub(crate) fn description(&self) -> &Description
-        ensures description { result.now ≡ self.now }
-        ensures built { IsBuilt self.now }
+    // The tree.
+    pub(crate) fn tree(&self) -> &Tree
+        ensures { result.now ≡ self.now }
     {
-        self.tree.description()
+        &self.tree
     }
-
-    // The depth of a layer's objects, or of those that carry the nodes of memory; 0 where there are none.
-    fn depth_of(&self, layer: Layer) -> u32
-        ensures depth { result ≡ layer_depth self.now layer }
-        ensures built { IsBuilt self.now }
-    {
-        match (layer, &self.description().memory) {
-            (Layer::Depth(depth), _) => depth,
-            (Layer::Memory, Some(memory)) => memory.above,
-            (Layer::Memory, None) => 0,
-        }
-    }
-
-    // How many children each object of a depth has.
-    fn arity(&self, depth: u32) -> u32
-        ensures arity { result ≡ arity_at self.now depth }
-        ensures built { IsBuilt self.now }
-    {
-        match self.description().levels.as_slice().get(depth as usize) {
-            Some(level) => level.arity,
-            None => 0,
-        }
-    }
-}
-
-// The place of the first of these numbers that is this one.
-fn place_of(numbers: &[u32], number: u32) -> Option<usize>
-    ensures { result ≡ position (λ other. other == number) numbers.now }
-{
-    numbers.iter().position(|other| *other == number)
 }

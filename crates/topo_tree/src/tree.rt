@@ -1,4 +1,4 @@
-// The tree of a description, without the sets of its objects.
+// The tree of a description, without a table of the sets of its objects.
 ghost use Rattle.std.specs.Prelude.{◌≡◌, ◌<◌, ◌≤◌, Some, None, IfOk, OnOk, IfErr};
 ghost use Rattle.out_of_memory.specs.Memory.{UnlessMemory};
 ghost use Rattle.synth_text.specs.Limits.{pu_limit};
@@ -15,8 +15,8 @@ use std::alloc::Global;
 use std::marker::Model;
 use synth_text::{Description, Kind};
 
-/// The tree of objects of a description, without their sets: what its two texts are made from. Contracts see it as that
-/// description.
+/// The tree of objects of a description, without a table of their sets, which it makes as they are asked for. Contracts see
+/// it as that description.
 #[derive(Drop)]
 pub struct Tree {
     description: Description,
@@ -73,16 +73,17 @@ impl Tree {
         &self.numbers
     }
 
-    // The number of depths: Machine, and one for each level.
-    pub(crate) fn depths(&self) -> u32
+    /// The number of depths: Machine, and one for each level.
+    pub fn depths(&self) -> u32
         ensures count { result ≡ depth_count self.now }
+        // What every tree keeps, for callers' proofs.
         ensures built { IsBuilt self.now }
     {
         self.counts.len() as u32
     }
 
-    // The kind of the objects of a depth.
-    pub(crate) fn kind(&self, depth: u32) -> Kind
+    /// The kind of the objects of a depth.
+    pub fn kind(&self, depth: u32) -> Kind
         requires { depth < depth_count self.now }
         ensures { result ≡ kind_at self.now depth }
     {
@@ -93,8 +94,8 @@ impl Tree {
         }
     }
 
-    // How many objects a layer has; 0 nodes of memory where the description has no memory.
-    pub(crate) fn count(&self, layer: Layer) -> u32
+    /// How many objects a layer has; 0 nodes of memory where the description has no memory.
+    pub fn count(&self, layer: Layer) -> u32
         requires { IsLayer self.now layer }
         ensures count { result ≡ count_of self.now layer }
         ensures few { result ≤ pu_limit }
@@ -105,8 +106,8 @@ impl Tree {
         }
     }
 
-    // The physical number of a PU or a NUMANode, and the logical number of any other object.
-    pub(crate) fn physical(&self, object: Object) -> u32
+    /// The physical number of a PU or a NUMANode, and the logical number of any other object.
+    pub fn physical(&self, object: Object) -> u32
         requires { IsObject self.now object }
         ensures { result ≡ physical_of self.now object.layer object.index }
     {

@@ -234,3 +234,21 @@ fn depths_by_name(rt: HostRuntime) {
     let bare = built(&rt, rt.alloc(), b"Core:2 PU:2");
     assert_eq!(&rt; bare.depth_named(b"numa"), None);
 }
+
+// How many depths the tree of something has.
+fn depths<T: AsTree>(topology: &T) -> u32 {
+    topology.as_tree().depths()
+}
+
+#[test]
+fn topologies_and_trees_have_a_tree(rt: HostRuntime) -> Result<(), Fail> {
+    let topology = built(&rt, rt.alloc(), UNEVEN);
+    let tree = Tree::build(rt.alloc(), read(rt.alloc(), UNEVEN)?)?;
+    assert_eq!(rt; depths(&topology), 4);
+    assert_eq!(rt; depths(&tree), 4);
+    assert_eq!(rt; tree.carrier(), Some(1));
+    assert_eq!(rt; tree.leaf_of(4095), Some(11));
+    assert_eq!(rt; tree.layer_named(b"core"), Some(CORE));
+    assert_eq!(rt; tree.depth_named(b"numa"), Some(1));
+    Ok(())
+}

@@ -4,4 +4,4 @@ use Rattle.calc_query.specs.Answers.{is_largest}
 use Rattle.calc_query.proofs.answers.largest.Given as goal
 
 abbrev pub invariant-loop-object : goal.invariant-loop-object
-invariant-loop-object l = l.objects.items ≡ filter (is_largest l.topology l.set) (take l.object-index l.object-items)
+invariant-loop-object g l = l.objects.items ≡ filter (is_largest l.tree l.set) (take l.object-index l.object-items)

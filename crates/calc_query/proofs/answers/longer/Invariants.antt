@@ -7,6 +7,6 @@ use Rattle.calc_query.proofs.answers.longer.Given as goal
 abbrev pub invariant-loop-path : goal.invariant-loop-path
 invariant-loop-path l =
     record {
-      paths : l.out.items ≡ flat_map (extended l.topology l.set l.layer) (take l.path-index l.paths);
-      ends : All (λ path. IsObject l.topology (end_of path)) l.out.items;
+      paths : l.out.items ≡ flat_map (extended l.tree l.set l.layer) (take l.path-index l.paths);
+      ends : All (λ path. IsObject l.tree (end_of path)) l.out.items;
     }

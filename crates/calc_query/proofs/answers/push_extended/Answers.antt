@@ -1,6 +1,5 @@
 use Rattle.std.proofs.Common.{◌+◌, [], ◌∷◌, ◌++◌, sym, ap, subst, ◌∙◌, arith}
 use Rattle.std.proofs.lemmas.List.Elements.{All-push, All-same}
-use Rattle.cpu_set.specs.Tests.{meets}
 use Rattle.topo_tree.specs.Objects.{IsObject}
 use Rattle.topo_tree.specs.Coverage.{set_of}
 use Rattle.calc_query.specs.declared.query.Path.{Path}
@@ -12,7 +11,7 @@ use Rattle.calc_query.proofs.answers.push_extended.Goals.{then-meets+in_ok-with_
 
 pub loop-position-preserved : goal.loop-position-preserved
 loop-position-preserved c =
-    let now = c.args.topology.now in
+    let now = c.args.tree.now in
     let set = c.args.set.now in
     let layer = c.args.layer in
     let path = c.args.path.now in
@@ -21,7 +20,7 @@ loop-position-preserved c =
     let position = c.loop-position.position in
     let out = c.args.out.now.items in
     let so_far = c.loop-position.invariant in
-    let tested = c.meets.ensures ∙ ap (λ own. meets own set) c.set.ensures in
+    let tested = c.meets.ensures in
     let Ends : Path → Type 0 = λ p. IsObject now (end_of p) in
     elim c.if-meets.branch [
       | then-meets+in_ok-with_step+in_ok-push w ↦
@@ -50,7 +49,7 @@ loop-position-preserved c =
 
 pub returns-clause-paths : goal.returns-clause-paths
 returns-clause-paths c =
-    let now = c.args.topology.now in
+    let now = c.args.tree.now in
     let path = c.args.path.now in
     c.loop-position.invariant.paths
     ∙ ap (λ ps. c.args.out.now.items ++ ps) (through-all now c.args.set.now c.args.layer path c.inside-run.result.first

@@ -7,13 +7,13 @@ use Rattle.calc_query.proofs.candidates.inside.Goals as goal
 
 pub returns-then-count-eq0-clause-run : goal.returns-then-count-eq0-clause-run
 returns-then-count-eq0-clause-run c =
-    none_inside c.args.topology.now c.depths.ensures.built c.args.layer c.args.outer.layer c.args.outer.index
-    (set_of c.args.topology.now c.args.outer.layer c.args.outer.index)
+    none_inside c.args.tree.now c.depths.ensures.built c.args.layer c.args.outer.layer c.args.outer.index
+    (set_of c.args.tree.now c.args.outer.layer c.args.outer.index)
     (sym c.count-count.ensures.count ∙ c.if-count-eq0.true)
 
 pub overflow_sub-first : goal.overflow_sub-first
 overflow_sub-first c =
-    let here = found c.args.topology.now c.args.layer c.args.outer.layer c.args.outer.index c.depths.result c.count-pus.result
+    let here = found c.args.tree.now c.args.layer c.args.outer.layer c.args.outer.index c.depths.result c.count-pus.result
     c.count-count.result c.count.result
     c.depths.ensures.built c.depths.ensures.count c.count-pus.ensures.count c.count-count.ensures.count c.if-count-eq0.false
     c.count.ensures.count c.requires.outer.index in
@@ -21,7 +21,7 @@ overflow_sub-first c =
 
 pub nonzero_div-first : goal.nonzero_div-first
 nonzero_div-first c =
-    let here = found c.args.topology.now c.args.layer c.args.outer.layer c.args.outer.index c.depths.result c.count-pus.result
+    let here = found c.args.tree.now c.args.layer c.args.outer.layer c.args.outer.index c.depths.result c.count-pus.result
     c.count-count.result c.count.result
     c.depths.ensures.built c.depths.ensures.count c.count-pus.ensures.count c.count-count.ensures.count c.if-count-eq0.false
     c.count.ensures.count c.requires.outer.index in
@@ -29,7 +29,7 @@ nonzero_div-first c =
 
 pub nonzero_div-end : goal.nonzero_div-end
 nonzero_div-end c =
-    let here = found c.args.topology.now c.args.layer c.args.outer.layer c.args.outer.index c.depths.result c.count-pus.result
+    let here = found c.args.tree.now c.args.layer c.args.outer.layer c.args.outer.index c.depths.result c.count-pus.result
     c.count-count.result c.count.result
     c.depths.ensures.built c.depths.ensures.count c.count-pus.ensures.count c.count-count.ensures.count c.if-count-eq0.false
     c.count.ensures.count c.requires.outer.index in
@@ -37,7 +37,7 @@ nonzero_div-end c =
 
 pub returns-clause-run : goal.returns-clause-run
 returns-clause-run c =
-    let now = c.args.topology.now in
+    let now = c.args.tree.now in
     let built = c.depths.ensures.built in
     let layer = c.args.layer in
     let outer_layer = c.args.outer.layer in
@@ -56,7 +56,7 @@ returns-clause-run c =
 
 pub returns-clause-within : goal.returns-clause-within
 returns-clause-within c =
-    let now = c.args.topology.now in
+    let now = c.args.tree.now in
     let built = c.depths.ensures.built in
     let layer = c.args.layer in
     let outer_layer = c.args.outer.layer in
@@ -74,7 +74,7 @@ returns-clause-within c =
 
 pub returns-clause-few : goal.returns-clause-few
 returns-clause-few c =
-    let now = c.args.topology.now in
+    let now = c.args.tree.now in
     let built = c.depths.ensures.built in
     let layer = c.args.layer in
     let outer_layer = c.args.outer.layer in

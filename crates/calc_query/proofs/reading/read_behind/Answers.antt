@@ -10,12 +10,12 @@ use Rattle.calc_query.proofs.reading.read_behind.Goals as goal
 
 pub returns-then-is_whole-clause-location : goal.returns-then-is_whole-clause-location
 returns-then-is_whole-clause-location c =
-    location-whole c.args.topology.now c.args.word (c.args.end - length c.args.text.now) c.args.text.now
+    location-whole c.args.tree.now c.args.word (c.args.end - length c.args.text.now) c.args.text.now
     (sym c.is_whole.ensures ∙ c.if-is_whole.true)
 
 pub returns-then-is_empty-clause-location : goal.returns-then-is_empty-clause-location
 returns-then-is_empty-clause-location c =
-    let now = c.args.topology.now in
+    let now = c.args.tree.now in
     let text = c.args.text.now in
     let at = c.args.end - length text in
     inl
@@ -24,7 +24,7 @@ returns-then-is_empty-clause-location c =
 
 pub returns-then-is_ascii_digit-clause-location : goal.returns-then-is_ascii_digit-clause-location
 returns-then-is_ascii_digit-clause-location c =
-    let now = c.args.topology.now in
+    let now = c.args.tree.now in
     let text = c.args.text.now in
     let at = c.args.end - length text in
     let some = eqb-false (length text) 0 (sym c.is_empty.ensures ∙ c.if-is_empty.false) in
@@ -33,11 +33,11 @@ returns-then-is_ascii_digit-clause-location c =
     subst (Answers c.read_numbers.result) (sym is) c.read_numbers.ensures.location
 
 pub returns-then-is_ascii_digit-clause-layers : goal.returns-then-is_ascii_digit-clause-layers
-returns-then-is_ascii_digit-clause-layers c = c.read_numbers.ensures.layers c.args.topology.now
+returns-then-is_ascii_digit-clause-layers c = c.read_numbers.ensures.layers c.args.tree.now
 
 pub returns-in_err-parts-clause-location : goal.returns-in_err-parts-clause-location
 returns-in_err-parts-clause-location c =
-    let now = c.args.topology.now in
+    let now = c.args.tree.now in
     let text = c.args.text.now in
     let at = c.args.end - length text in
     let fault = c.in_err-parts.field-0.0 in
@@ -52,7 +52,7 @@ returns-in_err-parts-clause-location c =
 
 pub returns-clause-location : goal.returns-clause-location
 returns-clause-location c =
-    let now = c.args.topology.now in
+    let now = c.args.tree.now in
     let text = c.args.text.now in
     let at = c.args.end - length text in
     let some = eqb-false (length text) 0 (sym c.is_empty.ensures ∙ c.if-is_empty.false) in

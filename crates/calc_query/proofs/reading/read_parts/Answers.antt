@@ -9,7 +9,7 @@ use Rattle.calc_query.proofs.reading.read_parts.Goals as goal
 
 pub returns-in_err-part-clause-parts : goal.returns-in_err-part-clause-parts
 returns-in_err-part-clause-parts c =
-    let now = c.args.topology.now in
+    let now = c.args.tree.now in
     let word = c.args.word in
     let fault = c.in_err-part.field-0.0 in
     let pieces = c.in-Some.pieces in
@@ -24,7 +24,7 @@ returns-in_err-part-clause-parts c =
 
 pub loop-rest-preserved : goal.loop-rest-preserved
 loop-rest-preserved c =
-    let now = c.args.topology.now in
+    let now = c.args.tree.now in
     let word = c.args.word in
     let end = c.args.end in
     let pieces = c.in-Some.pieces in

@@ -9,9 +9,9 @@ abbrev pub invariant-loop-rest : goal.invariant-loop-rest
 invariant-loop-rest l =
     record {
       within : length_left l.rest ≤ l.end + 1;
-      read : after l.parts.items (parts_from l.topology l.word (begins l.end l.rest) (pieces_left l.rest))
-          ≡ parts_from l.topology l.word (l.end - length l.fn.text) (pieces_of l.fn.text);
-      layers : AllByRecursion (λ part. IsLayer l.topology part.layer) l.parts.items;
+      read : after l.parts.items (parts_from l.tree l.word (begins l.end l.rest) (pieces_left l.rest))
+          ≡ parts_from l.tree l.word (l.end - length l.fn.text) (pieces_of l.fn.text);
+      layers : AllByRecursion (λ part. IsLayer l.tree part.layer) l.parts.items;
     }
 
 abbrev pub decreases-loop-rest : goal.decreases-loop-rest

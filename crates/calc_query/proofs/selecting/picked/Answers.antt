@@ -6,11 +6,11 @@ use Rattle.calc_query.proofs.selecting.picked.Goals.{then-picks, else-picks}
 
 pub loop-place-init : goal.loop-place-init
 loop-place-init c = c.empty-chosen.ensures
-    ∙ collect_none (picked_at c.args.topology.now c.args.numbering c.args.part c.args.run.first c.args.run.count)
+    ∙ collect_none (picked_at c.args.tree.now c.args.numbering c.args.part c.args.run.first c.args.run.count)
 
 pub loop-place-preserved : goal.loop-place-preserved
 loop-place-preserved c =
-    let now = c.args.topology.now in
+    let now = c.args.tree.now in
     let first = c.args.run.first in
     let count = c.args.run.count in
     let place = c.loop-place.place in
@@ -24,5 +24,5 @@ loop-place-preserved c =
     ]
 
 pub returns : goal.returns
-returns c = pick_all c.args.topology.now c.args.numbering c.args.part c.args.run.first c.args.run.count c.loop-place.chosen
+returns c = pick_all c.args.tree.now c.args.numbering c.args.part c.args.run.first c.args.run.count c.loop-place.chosen
     c.loop-place.place (omega arith) c.loop-place.invariant

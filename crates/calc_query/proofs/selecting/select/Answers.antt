@@ -7,12 +7,12 @@ use Rattle.calc_query.proofs.selecting.select.Goals as goal
 
 pub loop-term-init : goal.loop-term-init
 unfolding selected
-loop-term-init c = c.empty-set.ensures
+loop-term-init g c = c.empty-set.ensures
 
 pub loop-term-preserved : goal.loop-term-preserved
 unfolding selected
-loop-term-preserved c =
-    let now = c.args.topology.now in
+loop-term-preserved g c =
+    let now = c.as_tree-tree.result.now in
     let step = λ (set : List ℕ) (term : Term). operated term.op set (located now c.args.numbering term.location) in
     let terms = c.args.terms.now in
     let place = c.loop-term.term-index in

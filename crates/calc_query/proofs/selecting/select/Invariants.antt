@@ -3,4 +3,4 @@ use Rattle.calc_query.specs.Selection.{selected}
 use Rattle.calc_query.proofs.selecting.select.Given as goal
 
 abbrev pub invariant-loop-term : goal.invariant-loop-term
-invariant-loop-term l = l.set ≡ selected l.topology l.numbering (take l.term-index l.terms)
+invariant-loop-term g l = l.set ≡ selected l.tree l.numbering (take l.term-index l.terms)

@@ -9,6 +9,6 @@ pub loop-part-init : goal.loop-part-init
 loop-part-init c =
     record {
       layer = omega arith;
-      rest = ap (λ chosen. selected_from c.args.topology.now c.args.numbering (layers.Depth 0) chosen c.args.parts.now)
+      rest = ap (λ chosen. selected_from c.args.tree.now c.args.numbering (layers.Depth 0) chosen c.args.parts.now)
           (c.with.ensures ∙ ap (λ set. union set (0 ∷ [])) c.empty-chosen.ensures ∙ machine_alone);
     }

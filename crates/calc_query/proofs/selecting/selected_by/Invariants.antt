@@ -7,7 +7,7 @@ use Rattle.calc_query.proofs.selecting.selected_by.Given as goal
 abbrev pub invariant-loop-part : goal.invariant-loop-part
 invariant-loop-part l =
     record {
-      layer : IsLayer l.topology l.layer;
-      rest : selected_from l.topology l.numbering l.layer l.chosen (drop l.part-index l.parts)
-          ≡ selected_from l.topology l.numbering (layers.Depth 0) (0 ∷ []) l.parts;
+      layer : IsLayer l.tree l.layer;
+      rest : selected_from l.tree l.numbering l.layer l.chosen (drop l.part-index l.parts)
+          ≡ selected_from l.tree l.numbering (layers.Depth 0) (0 ∷ []) l.parts;
     }

@@ -12,14 +12,14 @@ use Rattle.calc_query.proofs.selecting.selected_inside.Goals.{then-has, else-has
 
 pub loop-index-init : goal.loop-index-init
 loop-index-init c =
-    let now = c.args.topology.now in
+    let now = c.args.tree.now in
     let part = c.args.part in
     c.empty-chosen.ensures ∙ collect_none (λ index outer. has c.args.before.now outer
     && is_picked_among now c.args.numbering part (candidates now part.layer (set_of now c.args.layer outer)) index)
 
 pub loop-index-preserved : goal.loop-index-preserved
 loop-index-preserved c =
-    let now = c.args.topology.now in
+    let now = c.args.tree.now in
     let part = c.args.part in
     let before = c.args.before.now in
     let outer = c.loop-index.index in
@@ -46,7 +46,7 @@ loop-index-preserved c =
 pub returns : goal.returns
 unfolding selected_inside
 returns c =
-    let now = c.args.topology.now in
+    let now = c.args.tree.now in
     let part = c.args.part in
     let test : ℕ → ℕ → Bool = λ index outer. has c.args.before.now outer
     && is_picked_among now c.args.numbering part (candidates now part.layer (set_of now c.args.layer outer)) index in

@@ -9,5 +9,5 @@ use Rattle.calc_query.proofs.selecting.selected_inside.Given as goal
 abbrev pub invariant-loop-index : goal.invariant-loop-index
 invariant-loop-index l =
     l.chosen ≡ collected (λ index outer. has l.before outer
-    && is_picked_among l.topology l.numbering l.part (candidates l.topology l.part.layer (set_of l.topology l.layer outer)) index)
+    && is_picked_among l.tree l.numbering l.part (candidates l.tree l.part.layer (set_of l.tree l.layer outer)) index)
     l.index

@@ -9,18 +9,18 @@ use Rattle.calc_query.proofs.selecting.union_of.Goals.{then-has, else-has}
 
 pub loop-index-init : goal.loop-index-init
 loop-index-init c = c.empty-set.ensures ∙ collect_none
-    (λ number index. has c.args.indexes.now index && has (set_of c.args.topology.now c.args.layer index) number)
+    (λ number index. has c.args.indexes.now index && has (set_of c.args.tree.now c.args.layer index) number)
 
 pub loop-index-preserved : goal.loop-index-preserved
 loop-index-preserved c =
     let indexes = c.args.indexes.now in
     let index = c.loop-index.index in
     let set = c.loop-index.set in
-    let sets = set_of c.args.topology.now c.args.layer in
+    let sets = set_of c.args.tree.now c.args.layer in
     let test : ℕ → ℕ → Bool = λ number i. has indexes i && has (sets i) number in
     elim c.if-has.branch [
       | then-has w ↦
-          w.set-is ∙ w.union-set.ensures ∙ ap (union set) w.set.ensures
+          w.set-is ∙ w.union-set.ensures ∙ ap (union set) w.set_of.ensures
           ∙ collect_more test set (sets index) index c.loop-index.invariant
           (λ number low. sym (ap (λ b. b && has (sets index) number)
           (has_yes indexes index c.has.result c.has.ensures.found w.if-has.true)))
@@ -33,6 +33,6 @@ loop-index-preserved c =
 pub returns : goal.returns
 unfolding union_of
 returns c =
-    let test : ℕ → ℕ → Bool = λ number i. has c.args.indexes.now i && has (set_of c.args.topology.now c.args.layer i) number in
+    let test : ℕ → ℕ → Bool = λ number i. has c.args.indexes.now i && has (set_of c.args.tree.now c.args.layer i) number in
     let all : c.loop-index.index ≡ c.count-index-end.result = omega arith in
     c.loop-index.invariant ∙ ap (collected test) (all ∙ c.count-index-end.ensures.count)

@@ -5,7 +5,7 @@ use Rattle.calc_text.proofs.items.push_numbers.Goals as goal
 
 pub loop-place-preserved : goal.loop-place-preserved
 loop-place-preserved c =
-    let now = c.args.topology.now in
+    let now = c.args.tree.now in
     let numbering = c.args.numbering in
     let separated = c.push_separator.new.out.items in
     joined-step (index_text now numbering c.args.layer) c.args.separator.now c.args.indexes.now c.loop-place.place _ c.args.out.now.items

@@ -5,4 +5,4 @@ use Rattle.calc_text.proofs.items.push_numbers.Given as goal
 
 abbrev pub invariant-loop-place : goal.invariant-loop-place
 invariant-loop-place l =
-    l.out.items ≡ l.fn.out.items ++ join_by (index_text l.topology l.numbering l.layer) l.separator (take l.place l.indexes)
+    l.out.items ≡ l.fn.out.items ++ join_by (index_text l.tree l.numbering l.layer) l.separator (take l.place l.indexes)

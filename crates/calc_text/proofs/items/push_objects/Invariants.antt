@@ -5,4 +5,4 @@ use Rattle.calc_text.proofs.items.push_objects.Given as goal
 
 abbrev pub invariant-loop-place : goal.invariant-loop-place
 invariant-loop-place l =
-    l.out.items ≡ l.fn.out.items ++ join_by (object_text l.topology l.numbering) l.separator (take l.place l.objects)
+    l.out.items ≡ l.fn.out.items ++ join_by (object_text l.tree l.numbering) l.separator (take l.place l.objects)

@@ -5,7 +5,7 @@ use Rattle.calc_text.proofs.items.push_steps.Goals as goal
 
 pub loop-place-preserved : goal.loop-place-preserved
 loop-place-preserved c =
-    let now = c.args.topology.now in
+    let now = c.args.tree.now in
     let numbering = c.args.numbering in
     let separated = c.push_separator.new.out.items in
     joined-step (step_text now numbering) (46 ∷ []) c.args.steps.now c.loop-place.place _ c.args.out.now.items c.loop-place.out.items

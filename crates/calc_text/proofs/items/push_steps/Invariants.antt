@@ -5,4 +5,4 @@ use Rattle.calc_text.proofs.items.push_steps.Given as goal
 
 abbrev pub invariant-loop-place : goal.invariant-loop-place
 invariant-loop-place l =
-    l.out.items ≡ l.fn.out.items ++ join_by (step_text l.topology l.numbering) (46 ∷ []) (take l.place l.steps)
+    l.out.items ≡ l.fn.out.items ++ join_by (step_text l.tree l.numbering) (46 ∷ []) (take l.place l.steps)

@@ -8,7 +8,7 @@ use Rattle.calc_text.proofs.reading.read_layers.Goals as goal
 
 pub returns-in-None-clause-layers : goal.returns-in-None-clause-layers
 returns-in-None-clause-layers c =
-    let now = c.args.topology.now in
+    let now = c.args.tree.now in
     let layers = c.loop-rest.layers.items in
     let so_far = subst (λ rest. layers_after layers (layers_named now (pieces_left rest)) ≡ layers_named now (names_in c.args.names.now))
     c.in-Some.is c.loop-rest.invariant.read in
@@ -18,7 +18,7 @@ returns-in-None-clause-layers c =
 
 pub loop-rest-preserved : goal.loop-rest-preserved
 loop-rest-preserved c =
-    let now = c.args.topology.now in
+    let now = c.args.tree.now in
     let layers = c.loop-rest.layers.items in
     let layer = c.in-Some-layer_named.layer in
     let pushed = c.in_ok-push-in-Some-layer_named.ensures.items in

@@ -9,8 +9,8 @@ use Rattle.calc_text.proofs.reading.read_layers.Given as goal
 abbrev pub invariant-loop-rest : goal.invariant-loop-rest
 invariant-loop-rest l =
     record {
-      read : layers_after l.layers.items (layers_named l.topology (pieces_left l.rest)) ≡ layers_named l.topology (names_in l.fn.names);
-      fit : AllByRecursion (IsLayer l.topology) l.layers.items;
+      read : layers_after l.layers.items (layers_named l.tree (pieces_left l.rest)) ≡ layers_named l.tree (names_in l.fn.names);
+      fit : AllByRecursion (IsLayer l.tree) l.layers.items;
     }
 
 abbrev pub decreases-loop-rest : goal.decreases-loop-rest

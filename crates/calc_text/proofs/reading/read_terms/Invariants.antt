@@ -7,7 +7,7 @@ use Rattle.calc_text.proofs.reading.read_terms.Given as goal
 abbrev pub invariant-loop-number : goal.invariant-loop-number
 invariant-loop-number l =
     record {
-      read : after l.terms.items (terms_from l.topology l.number (map (λ word. word.now) (drop l.number l.words)))
-          ≡ terms_from l.topology 0 (map (λ word. word.now) l.words);
-      layers : HaveLayers l.topology l.terms.items;
+      read : after l.terms.items (terms_from l.tree l.number (map (λ word. word.now) (drop l.number l.words)))
+          ≡ terms_from l.tree 0 (map (λ word. word.now) l.words);
+      layers : HaveLayers l.tree l.terms.items;
     }

@@ -13,10 +13,10 @@ returns-in-Ok-clause-answered g c =
     let built = c.in-Ok.ensures in
     record {
       answer = IfOk-weaker c.served.result _ _ (λ printed found.
-          (found.0, found.1, (found.2, record { described = c.in-Ok.topology; built = built.ok; holds = found.3 }))) served.answer;
+          (found.0, found.1, (found.2, record { described = c.in-Ok.tree; built = built.ok; holds = found.3 }))) served.answer;
       at_end = on_ok_weaker c.served.result (λ drained _. drained) served.at_end;
       cause = IfErr-weaker c.served.result _ _ (λ status found refusal.
-          inr (record { described = c.in-Ok.topology; built = built.ok; holds = found refusal })) served.cause;
+          inr (record { described = c.in-Ok.tree; built = built.ok; holds = found refusal })) served.cause;
       silent = served.silent;
       not_usage = served.not_usage;
       read_fault = λ is. (tt, served.read_fault is);

@@ -11,7 +11,7 @@ returns-in-Ok-clause-input_refused g c input status left refuses calm =
     elim refuses [
       | inl long ↦ absurd (omega (arith, long.0, ap length same, c.in-Ok.ensures.within))
       | inr broken ↦ c.run_text.ensures.refused status
-          (subst (λ i. RefusesSections c.args.topology.now i status) (sym lent) broken.1)
+          (subst (λ i. RefusesSections c.args.tree.now i status) (sym lent) broken.1)
     ]
 
 pub returns-in-Ok-clause-complete : goal.returns-in-Ok-clause-complete
@@ -19,4 +19,4 @@ returns-in-Ok-clause-complete g c input printed left short prints calm =
     let own = c.in-Ok.input.items in
     let same : own ≡ input = subst (λ l. IfSome l (λ all. own ≡ all)) left c.in-Ok.ensures.read.is_left in
     let lent : c.deref.result.now ≡ input = c.deref.ensures.value ∙ same in
-    c.run_text.ensures.complete printed (subst (λ i. PrintsSections c.args.topology.now i printed) (sym lent) prints)
+    c.run_text.ensures.complete printed (subst (λ i. PrintsSections c.args.tree.now i printed) (sym lent) prints)

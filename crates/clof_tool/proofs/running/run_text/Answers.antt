@@ -5,11 +5,11 @@ use Rattle.clof_tool.proofs.running.run_text.Goals as goal
 
 pub returns-in-Ok-text_in_order-clause-refused : goal.returns-in-Ok-text_in_order-clause-refused
 returns-in-Ok-text_in_order-clause-refused c status refuses =
-    absurd (sections_not c.args.topology.now c.args.input.now (map section_view c.in-Ok.sections.items) status c.in-Ok.ensures.sections refuses)
+    absurd (sections_not c.args.tree.now c.args.input.now (map section_view c.in-Ok.sections.items) status c.in-Ok.ensures.sections refuses)
 
 pub returns-clause-refused : goal.returns-clause-refused
 returns-clause-refused c status refuses =
-    elim (status_only c.args.topology.now c.args.input.now c.in-Err.fault status c.in-Err.ensures.refused refuses) [
+    elim (status_only c.args.tree.now c.args.input.now c.in-Err.fault status c.in-Err.ensures.refused refuses) [
       | inl is ↦ inl (ap Err (c.section_status.ensures.status ∙ is))
       | inr memory ↦ inr (ap Err (c.section_status.ensures.status ∙ memory))
     ]
@@ -17,4 +17,4 @@ returns-clause-refused c status refuses =
 pub returns-clause-complete : goal.returns-clause-complete
 returns-clause-complete c printed prints =
     inr (ap Err (c.section_status.ensures.status
-    ∙ printed_memory c.args.topology.now c.args.input.now printed c.in-Err.fault c.in-Err.ensures.refused prints))
+    ∙ printed_memory c.args.tree.now c.args.input.now printed c.in-Err.fault c.in-Err.ensures.refused prints))

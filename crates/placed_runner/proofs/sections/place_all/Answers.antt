@@ -31,17 +31,17 @@ pub returns-then-is_empty : goal.returns-then-is_empty
 returns-then-is_empty c =
     record {
       placed = ap (map section_view) c.in_ok-sections.ensures.items
-          ∙ sym (none_placed c.args.topology.now c.args.written.now (eqb-true (length c.args.written.now) 0 (sym c.if-is_empty.ensures)));
+          ∙ sym (none_placed c.args.tree.now c.args.written.now (eqb-true (length c.args.written.now) 0 (sym c.if-is_empty.ensures)));
     }
 
 pub pu_on-requires : goal.pu_on-requires
 pu_on-requires c =
     c.deref.ensures.value ∙ c.in_ok-masks.ensures.masks
-    ∙ ap (masks_of c.args.topology.now) (sym (ap length c.deref.ensures.value ∙ c.in_ok-masks.ensures.count))
+    ∙ ap (masks_of c.args.tree.now) (sym (ap length c.deref.ensures.value ∙ c.in_ok-masks.ensures.count))
 
 pub loop-caller-preserved : goal.loop-caller-preserved
 loop-caller-preserved c =
-    let described = c.args.topology.now in
+    let described = c.args.tree.now in
     let written = c.args.written.now in
     let place = c.loop-caller.caller in
     let none : Written = record { place = Anywhere; bytes = record { ref_ptr = (0, 0); now = [] } } in
@@ -60,6 +60,6 @@ loop-caller-preserved c =
 pub returns : goal.returns
 returns c =
     record {
-      placed = all_placed c.args.topology.now c.args.written.now (map section_view c.loop-caller.sections.items) c.loop-caller.caller
+      placed = all_placed c.args.tree.now c.args.written.now (map section_view c.loop-caller.sections.items) c.loop-caller.caller
           (omega arith) c.loop-caller.invariant;
     }

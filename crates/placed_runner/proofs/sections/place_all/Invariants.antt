@@ -8,4 +8,4 @@ use Rattle.placed_runner.proofs.sections.place_all.Given as goal
 abbrev pub invariant-loop-caller : goal.invariant-loop-caller
 invariant-loop-caller l =
     map section_view l.sections.items
-    ≡ map (placed_at l.topology (length l.written)) (enumerate_from 0 (map written_view (take l.caller l.written)))
+    ≡ map (placed_at l.tree (length l.written)) (enumerate_from 0 (map written_view (take l.caller l.written)))

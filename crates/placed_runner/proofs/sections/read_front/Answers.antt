@@ -27,7 +27,7 @@ place_refused described text at head fault has (inr memory) = inr memory
 
 pub returns-in-Err-clause-refused : goal.returns-in-Err-clause-refused
 returns-in-Err-clause-refused c =
-    place_refused c.args.topology.now c.args.text.now c.args.at (head_view c.in-Some-read_head.head) c.in-Err.fault
+    place_refused c.args.tree.now c.args.text.now c.args.at (head_view c.in-Some-read_head.head) c.in-Err.fault
     (record {
       line = c.in-Some.line.now;
       behind = c.in-Some.behind.now;
@@ -53,7 +53,7 @@ returns-in_default-split_bytes-clause-refused c =
         },
         c.in-Ok.ensures.found,
         λ section behind begins.
-            let parts = section_behind c.args.topology.now text c.in-Some.line.now c.in-Some.behind.now head section behind
+            let parts = section_behind c.args.tree.now text c.in-Some.line.now c.in-Some.behind.now head section behind
             c.in-Some.ensures (sym c.in-Some-read_head.ensures) begins in
             c.in_default-split_bytes.ensures section.bytes behind parts.0 parts.1,
       ),

@@ -56,19 +56,19 @@ placed_sum described written sections is =
     omega (arith, sum_views sections, ap (sum_by (λ (p : Placed). length p.bytes)) is, sum_placed described (length written) 0 written)
 
 pub returns-in-Ok-clause-few : goal.returns-in-Ok-clause-few
-returns-in-Ok-clause-few c =
+returns-in-Ok-clause-few g c =
     let written = c.in_ok-written.written.items in
-    let placed_are = c.in-Ok.ensures.placed ∙ ap (λ ws. placed c.args.topology.now (map written_view ws)) c.deref.ensures.value in
+    let placed_are = c.in-Ok.ensures.placed ∙ ap (λ ws. placed c.as_tree-tree.result.now (map written_view ws)) c.deref.ensures.value in
     omega (
       arith,
-      placed_length c.args.topology.now (map written_view written) c.in-Ok.sections.items placed_are,
+      placed_length c.as_tree-tree.result.now (map written_view written) c.in-Ok.sections.items placed_are,
       length-map written written_view,
       c.in_ok-written.ensures.few,
     )
 
 pub returns-in-Ok-clause-small : goal.returns-in-Ok-clause-small
-returns-in-Ok-clause-small c =
-    let described = c.args.topology.now in
+returns-in-Ok-clause-small g c =
+    let described = c.as_tree-tree.result.now in
     let written = c.in_ok-written.written.items in
     let placed_are = c.in-Ok.ensures.placed ∙ ap (λ ws. placed described (map written_view ws)) c.deref.ensures.value in
     omega (

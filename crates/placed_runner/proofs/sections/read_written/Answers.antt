@@ -7,7 +7,7 @@ use Rattle.placed_runner.proofs.sections.read_written.Goals as goal
 
 pub loop-rest-preserved : goal.loop-rest-preserved
 loop-rest-preserved c =
-    let described = c.args.topology.now in
+    let described = c.args.tree.now in
     let before = c.loop-rest.sections.items in
     let section = written_view c.in_ok-section.section in
     let behind = c.in_ok-section.behind.now in

@@ -6,7 +6,7 @@ use Rattle.placed_runner.proofs.sections.read_written.Given as goal
 -- the input is the sections so far, and the rest
 abbrev pub invariant-loop-rest : goal.invariant-loop-rest
 invariant-loop-rest l = record {
-  reads : ReadsTo l.topology l.input (map written_view l.sections.items) l.rest;
+  reads : ReadsTo l.tree l.input (map written_view l.sections.items) l.rest;
   few : vec_len l.sections ≤ caller_limit;
   within : length l.rest ≤ length l.input;
 }

@@ -12,7 +12,7 @@ loop-index-preserved c =
     let index = c.loop-index.index in
     c.in_ok-push.ensures.items
     ∙ ap (λ set. c.loop-index.sets.items ++ set ∷ [])
-    (c.set_of.ensures ∙ sym (set_covered_whole numbers c.args.count index c.requires.some c.requires.whole))
+    (c.numbers_set.ensures ∙ sym (set_covered_whole numbers c.args.count index c.requires.some c.requires.whole))
     ∙ ap (λ sets. sets ++ set_covered numbers c.args.count index ∷ []) c.loop-index.invariant
     ∙ sym (map-range_with_len_more (set_covered numbers c.args.count) 0 index index (omega arith))
 

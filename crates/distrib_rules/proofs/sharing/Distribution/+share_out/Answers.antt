@@ -12,29 +12,29 @@ use Rattle.distrib_rules.proofs.sharing.Distribution.+share_out.Goals.{then-is_f
 
 pub loop-place-init : goal.loop-place-init
 loop-place-init t c =
-    sym (masks-none c.args.self.now.topology.now (record { to = c.args.self.now.to; backwards = c.args.self.now.reverse })
+    sym (masks-none c.args.self.now.tree.now (record { to = c.args.self.now.to; backwards = c.args.self.now.reverse })
     c.args.masks.now.items
-    (shared c.args.self.now.topology.now c.args.n c.args.depth
+    (shared c.args.self.now.tree.now c.args.n c.args.depth
     (in_order c.args.self.now.reverse (range_with_len c.args.objects.first c.args.objects.count))))
 
 pub index_at-requires-clause-few : goal.index_at-requires-clause-few
 index_at-requires-clause-few t c = omega (
   arith,
   c.requires.objects,
-  few_objects c.args.self.now.topology.now c.args.depth
+  few_objects c.args.self.now.tree.now c.args.depth
       c.requires.built.sound,
 )
 
 pub share_at-share-requires-clause-few : goal.share_at-share-requires-clause-few
 share_at-share-requires-clause-few t c = omega
-    (arith, c.requires.objects, few_objects c.args.self.now.topology.now c.args.depth c.requires.built.sound)
+    (arith, c.requires.objects, few_objects c.args.self.now.tree.now c.args.depth c.requires.built.sound)
 
 abbrev pair_of : ℕ → ℕ → ℕ → Pair
 pair_of depth index share = record { depth = depth; index = index; share = share }
 
 pub share_out-requires : goal.share_out-requires
 share_out-requires t c =
-    let now = c.args.self.now.topology.now in
+    let now = c.args.self.now.tree.now in
     let depth = c.args.depth in
     let handed = sym (c.is_final.ensures c.index_at.result) ∙ c.if-is_final.false in
     let within : depth < length now.levels = above_last now (record { to = c.args.self.now.to; backwards = c.args.self.now.reverse })
@@ -67,7 +67,7 @@ share_out-requires t c =
 
 pub loop-place-preserved : goal.loop-place-preserved
 loop-place-preserved t c =
-    let now = c.args.self.now.topology.now in
+    let now = c.args.self.now.tree.now in
     let depth = c.args.depth in
     let way : Way = record { to = c.args.self.now.to; backwards = c.args.self.now.reverse } in
     let backwards = c.args.self.now.reverse in
@@ -91,7 +91,7 @@ loop-place-preserved t c =
     elim c.if-is_final.branch [
       | then-is_final+in_ok-push_share w ↦
           ap (λ v. v.items) w.masks-is ∙ w.in_ok-push_share.ensures
-          ∙ ap (λ set. with_share c.loop-place.masks.items set share) w.set.ensures
+          ∙ ap (λ set. with_share c.loop-place.masks.items set share) w.set_of.ensures
           ∙ masks-given now way c.args.masks.now.items c.loop-place.masks.items pairs place pair within here
           (sym (c.is_final.ensures index) ∙ w.if-is_final.true) c.loop-place.invariant
       | else-is_final+in_ok-share_out w ↦
@@ -104,7 +104,7 @@ loop-place-preserved t c =
 
 pub returns : goal.returns
 returns t c =
-    let now = c.args.self.now.topology.now in
+    let now = c.args.self.now.tree.now in
     let way : Way = record { to = c.args.self.now.to; backwards = c.args.self.now.reverse } in
     let indexes = in_order c.args.self.now.reverse (range_with_len c.args.objects.first c.args.objects.count) in
     c.loop-place.invariant

@@ -7,10 +7,10 @@ use Rattle.distrib_rules.specs.Masks.{with_pairs}
 use Rattle.distrib_rules.proofs.sharing.Distribution.+share_out.Given as goal
 
 abbrev pub decreases-share_out : goal.decreases-share_out
-decreases-share_out l = depth_count l.self.now.topology.now - l.depth
+decreases-share_out l = depth_count l.self.now.tree.now - l.depth
 
 abbrev pub invariant-loop-place : goal.invariant-loop-place
 invariant-loop-place l =
-    l.masks.items ≡ with_pairs l.self.topology.now l.fn.masks.items
-    (expansion l.self.topology.now (record { to = l.self.to; backwards = l.self.reverse })
-    (take l.place (shared l.self.topology.now l.n l.depth (in_order l.self.reverse (range_with_len l.objects.first l.objects.count)))))
+    l.masks.items ≡ with_pairs l.self.tree.now l.fn.masks.items
+    (expansion l.self.tree.now (record { to = l.self.to; backwards = l.self.reverse })
+    (take l.place (shared l.self.tree.now l.n l.depth (in_order l.self.reverse (range_with_len l.objects.first l.objects.count)))))

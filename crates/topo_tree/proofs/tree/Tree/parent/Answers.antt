@@ -4,7 +4,7 @@ use Rattle.topo_tree.specs.declared.layer.Layer.TheVariants as layers
 use Rattle.topo_tree.specs.Objects.{count_at, count_of, IsLayer}
 use Rattle.topo_tree.proofs.CountLaws.{arity_some, count_more}
 use Rattle.topo_tree.proofs.Lookups.{place_of_object}
-use Rattle.topo_tree.proofs.topology.Topology.parent.Goals as goal
+use Rattle.topo_tree.proofs.tree.Tree.parent.Goals as goal
 
 pub nonzero_div-result : goal.nonzero_div-result
 nonzero_div-result c =

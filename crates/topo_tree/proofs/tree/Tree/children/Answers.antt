@@ -1,7 +1,7 @@
 use Rattle.std.proofs.Common.{◌<◌, ◌*◌, ap, subst, arith}
 use Rattle.topo_tree.specs.Objects.{count_of}
 use Rattle.topo_tree.proofs.CountLaws.{children_few}
-use Rattle.topo_tree.proofs.topology.Topology.children.Goals as goal
+use Rattle.topo_tree.proofs.tree.Tree.children.Goals as goal
 
 pub overflow_mul-result : goal.overflow_mul-result
 overflow_mul-result c =

@@ -1,7 +1,7 @@
 use Rattle.std.proofs.Common.{◌∷◌, [], get_or, sym, ap, ◌∙◌}
 use Rattle.cpu_set.specs.Sets.{union}
 use Rattle.topo_tree.proofs.SetSteps.{set_step, empty_set}
-use Rattle.topo_tree.proofs.sets.set_of.Goals as goal
+use Rattle.topo_tree.proofs.sets.numbers_set.Goals as goal
 
 pub loop-number-init : goal.loop-number-init
 loop-number-init c = c.empty-set.ensures ∙ sym empty_set

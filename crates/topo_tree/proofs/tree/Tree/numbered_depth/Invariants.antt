@@ -4,7 +4,7 @@ use Rattle.synth_text.specs.Kinds.{same_kind}
 use Rattle.topo_tree.specs.Objects.{depth_count, kind_at}
 use Rattle.topo_tree.specs.Naming.{depths_of}
 use Rattle.topo_tree.proofs.Depths.{passing_from}
-use Rattle.topo_tree.proofs.topology.Topology.numbered_depth.Given as goal
+use Rattle.topo_tree.proofs.tree.Tree.numbered_depth.Given as goal
 
 abbrev pub invariant-loop-depth : goal.invariant-loop-depth
 invariant-loop-depth l =

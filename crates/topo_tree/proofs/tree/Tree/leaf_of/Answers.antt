@@ -1,9 +1,8 @@
 use Rattle.std.proofs.Common.{◌==◌, length, sym, ap, ◌∙◌, arith}
 use Rattle.std.specs.List.{position}
 use Rattle.std.proofs.lemmas.List.Quantifiers.{position-Some}
-use Rattle.topo_tree.specs.Coverage.{leaf_of}
 use Rattle.topo_tree.proofs.Lookups.{length-pu_numbers}
-use Rattle.topo_tree.proofs.topology.Topology.leaf_of.Goals as goal
+use Rattle.topo_tree.proofs.tree.Tree.leaf_of.Goals as goal
 
 pub overflow_cast-result : goal.overflow_cast-result
 overflow_cast-result c =
@@ -13,16 +12,14 @@ overflow_cast-result c =
       arith,
       found.0,
       ap length c.pus.ensures.numbers,
-      length-pu_numbers c.self.inside.tree,
+      length-pu_numbers c.args.self.now,
       c.pus.ensures.built.sound.pus,
     )
 
 pub returns-in-None : goal.returns-in-None
 returns-in-None c =
     sym c.in-None.is ∙ c.place_of.ensures ∙ ap (position (λ number. number == c.args.physical)) c.pus.ensures.numbers
-    ∙ ap (λ now. leaf_of now c.args.physical) c.self.view_is
 
 pub returns-in-Some : goal.returns-in-Some
 returns-in-Some c =
     sym c.in-Some.is ∙ c.place_of.ensures ∙ ap (position (λ number. number == c.args.physical)) c.pus.ensures.numbers
-    ∙ ap (λ now. leaf_of now c.args.physical) c.self.view_is

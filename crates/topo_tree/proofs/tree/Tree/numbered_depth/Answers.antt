@@ -4,8 +4,8 @@ use Rattle.synth_text.specs.Kinds.{same_kind}
 use Rattle.topo_tree.specs.Objects.{depth_count, kind_at}
 use Rattle.topo_tree.specs.Naming.{depths_of}
 use Rattle.topo_tree.proofs.Depths.{passing_from, passing_out, numbered_first, numbered_later}
-use Rattle.topo_tree.proofs.topology.Topology.numbered_depth.Goals as goal
-use Rattle.topo_tree.proofs.topology.Topology.numbered_depth.Goals.{then-is_same+else-above-number, else-is_same}
+use Rattle.topo_tree.proofs.tree.Tree.numbered_depth.Goals as goal
+use Rattle.topo_tree.proofs.tree.Tree.numbered_depth.Goals.{then-is_same+else-above-number, else-is_same}
 
 pub loop-depth-init : goal.loop-depth-init
 unfolding depths_of

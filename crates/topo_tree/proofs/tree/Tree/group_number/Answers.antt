@@ -5,8 +5,8 @@ use Rattle.synth_text.specs.declared.kind.Kind.TheVariants.{Machine, Group}
 use Rattle.synth_text.specs.declared.description.Level.{Level}
 use Rattle.synth_text.specs.Kinds.{same_kind}
 use Rattle.topo_tree.specs.Objects.{kinds}
-use Rattle.topo_tree.proofs.topology.Topology.group_number.Goals as goal
-use Rattle.topo_tree.proofs.topology.Topology.group_number.Goals.{then-is_same, else-is_same}
+use Rattle.topo_tree.proofs.tree.Tree.group_number.Goals as goal
+use Rattle.topo_tree.proofs.tree.Tree.group_number.Goals.{then-is_same, else-is_same}
 
 pub loop-above-preserved : goal.loop-above-preserved
 loop-above-preserved c =
