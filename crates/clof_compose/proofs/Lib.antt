@@ -2,6 +2,7 @@ pub mod Courses
 pub mod Contexts
 pub mod Begun
 pub mod Tops
+pub mod Closes
 pub mod Climbs
 pub mod Owned
 pub mod Released

@@ -90,7 +90,8 @@ module _ {P : Type 0} (calls : P → List ℕ) (tag : P → Tag) where
               ∙ last_push r.trail.closed u)) (top_is ∙ sym (ap top_of shape));
         }
 
-map_some : {A B : Type 0} (v : A → B) (o : Option A) (b : B) → option_map v o ≡ Some b → (a : A) × (o ≡ Some a) × (v a ≡ b)
+-- what a value is mapped to comes from a value
+pub map_some : {A B : Type 0} (v : A → B) (o : Option A) (b : B) → option_map v o ≡ Some b → (a : A) × (o ≡ Some a) × (v a ≡ b)
 map_some v None b e = absurd (cc)
 map_some v (Some a) b e = (a, refl, cc)
 

@@ -4,7 +4,7 @@ use Rattle.std.specs.Int.{bit_at}
 use Rattle.lock_rules.specs.Tag.{Tag}
 use Rattle.keep_local.specs.declared.turn.Turn.{Turn}
 use Rattle.keep_local.specs.Shapes.{callers_of}
-use Rattle.keep_local.specs.Turns.{IsDue}
+use Rattle.keep_local.specs.Turns.{Ends, IsDue}
 use Rattle.keep_local.specs.States.{TrailState, ShareState, IsTrail, IsShareOf, all_turns, callers_in}
 use Rattle.clof_compose.specs.Contexts.{IsContextOf}
 use Rattle.clof_compose.specs.Courses.{Course}
@@ -70,3 +70,13 @@ module _ {P : Type 0} where
   abbrev pub tests_in : Option (Root P) → ℕ
   tests_in None = 0
   tests_in (Some r) = tests_of r.trail.current
+
+  -- With these tests the open turn of the root closes as a release by a holder of a lock of this level closes it: below the level they are
+  -- as they were noted, and with some level to leave at, this one or a higher one, the turn ends lawfully behind the closed ones
+  pub record ClosesWith (level tests : ℕ) (r : Root P) : Type 0 where
+    pub turn : Turn
+    pub now : r.trail.current ≡ Some turn
+    pub same : SameBelow level turn.tests tests
+    pub left : ℕ
+    pub above : level ≤ left
+    pub ends : Ends r.trail.shape r.trail.closed (record turn { tests = tests; left = left })

@@ -1,10 +1,10 @@
 -- How a node's holder releases.
-use Rattle.std.specs.Prelude.{◌≡◌, ℕ, ◌<◌, List, Some, slice_index}
+use Rattle.std.specs.Prelude.{◌≡◌, ℕ, ◌+◌, ◌<◌, Bool, List, Some, option_map, slice_index}
 use Rattle.lock_rules.specs.Tag.{Tag}
 use Rattle.keep_local.specs.declared.turn.Turn.{Turn}
 use Rattle.keep_local.specs.Shapes.{top_of, callers_of, node_of}
 use Rattle.keep_local.specs.Turns.{IsDue}
-use Rattle.keep_local.specs.States.{callers_in, all_turns}
+use Rattle.keep_local.specs.States.{callers_in, all_turns, tested}
 use Rattle.clof_compose.specs.Roots.{root_tag}
 use Rattle.clof_compose.specs.declared.root.Root.{Root}
 
@@ -21,3 +21,8 @@ pub record IsReleasing {P : Type 0} (calls : P → List ℕ) (tag : P
   pub below_top : level < top_of r.trail.shape
   pub noted : r.trail.noted ≡ level
   pub undue : (j : ℕ) → j < level → ¬ IsDue r.trail.shape r.trail.closed turn.tests j
+
+-- the answer was noted for the open turn of the root at this level, and nothing else has changed
+pub record HasNoted {P : Type 0} (level : ℕ) (yes : Bool) (old new : Root P) : Type 0 where
+  pub payload : new.payload ≡ old.payload
+  pub trail : new.trail ≡ record old.trail { current = option_map (λ t. tested t level yes) old.trail.current; noted = level + 1 }

@@ -5,7 +5,7 @@ ghost use Rattle.lock_rules.specs.Tag.{Tag};
 ghost use Rattle.lock_rules.specs.Steps.{IfNot, IfGot};
 ghost use Rattle.clof_compose.specs.Contexts.{Context};
 ghost use Rattle.clof_compose.specs.Courses.{course_of};
-ghost use Rattle.clof_compose.specs.Calls.{MayTurn, HasOpened, MayRelease, HasClimbed, HasDescended, SameBelow, tests_in};
+ghost use Rattle.clof_compose.specs.Calls.{MayTurn, HasOpened, MayRelease, HasClimbed, HasDescended, ClosesWith};
 ghost use Rattle.clof_compose.specs.Passes.{AreAll};
 ghost use Rattle.clof_compose.specs.Roots.{root_tag, IsFit, IsKept};
 ghost use Rattle.clof_compose.specs.declared.root.Root.{Root as TheRoot};
@@ -91,9 +91,10 @@ pub trait Composed<P: Payload>: Sized {
         ensures leave { IfNot result (λ l. (Self.Leave.descent l).context ≡ (Self.Held.stand held).context) }
         ensures descends { IfNot result (λ l. Self.Leave.descends l) }
         ensures above { IfNot result (λ l. level self.now ≤ (Self.Leave.descent l).level) }
-        ensures noted { IfNot result (λ l. SameBelow (level self.now) (tests_in (Self.Held.stand held).root) (Self.Leave.descent l).tests) }
+        ensures noted { IfNot result (λ l. IsSomeAnd (Self.Held.stand held).root (ClosesWith (level self.now)
+            (Self.Leave.descent l).tests)) }
         ensures pass { IfGot result (λ p. (Self.Pass.rest p).context ≡ (Self.Held.stand held).context) }
-        ensures tests { IfGot result (λ p. SameBelow (level self.now) (tests_in (Self.Held.stand held).root) (Self.Pass.rest p).tests) };
+        ensures tests { IfGot result (λ p. IsSomeAnd (Self.Held.stand held).root (ClosesWith (level self.now) (Self.Pass.rest p).tests)) };
 
     /// Goes on with a release. The answer is `Not` only where it leaves at a lower level now, or where the one load of this call at that
     /// level, which the token
@@ -128,7 +129,7 @@ pub trait Composed<P: Payload>: Sized {
         requires root { IsSomeAnd (Self.Held.stand held).root (MayRelease P.calls P.tag (tag self.now) (level self.now)
             (Self.Held.stand held).context.number) }
         ensures pass { (Self.Pass.rest result).context ≡ (Self.Held.stand held).context }
-        ensures tests { SameBelow (level self.now) (tests_in (Self.Held.stand held).root) (Self.Pass.rest result).tests };
+        ensures tests { IsSomeAnd (Self.Held.stand held).root (ClosesWith (level self.now) (Self.Pass.rest result).tests) };
 
     /// Takes the lock apart, with all its passes in the order of their numbers.
     fn close(self, passes: Vec<Self::Pass>) -> Root<P>

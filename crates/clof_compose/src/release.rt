@@ -2,12 +2,12 @@
 ghost use Rattle.std.specs.Prelude.{◌≡◌, ◌+◌, ◌<◌, ◌≤◌, true, false, IsSomeAnd, IfSome, IfNone};
 ghost use Rattle.std.specs.Int.{bit_at};
 ghost use Rattle.lock_rules.specs.Steps.{IfNot, IfGot};
-ghost use Rattle.clof_compose.specs.Calls.{MayRelease, SameBelow, tests_in};
-ghost use Rattle.clof_compose.specs.Levels.{IsDescending, IsIdleAgain, IsStanding, kept_stand};
+ghost use Rattle.clof_compose.specs.Calls.{ClosesWith, MayRelease, tests_in};
+ghost use Rattle.clof_compose.specs.Levels.{AreTold, IsDescending, IsIdleAgain, IsStanding, kept_stand};
 ghost use Rattle.clof_compose.specs.Contexts.{own_tag};
 ghost use Rattle.clof_compose.specs.Nodes.{IsContextOfNode};
 ghost use Rattle.clof_compose.specs.Owns.{IsOwnFit, bit_of, is_kept, own_tag_of};
-ghost use Rattle.clof_compose.specs.Releases.{IsReleasing};
+ghost use Rattle.clof_compose.specs.Releases.{HasNoted, IsReleasing};
 ghost use Rattle.clof_compose.specs.declared.own.High.TheVariants.{Idle, Kept, Away};
 ghost use Rattle.keep_local.specs.Turns.{run};
 
@@ -42,12 +42,13 @@ pub(crate) fn keep_for_next<P: Payload, Pass: Resting, Held: Standing<P>>(
     ensures stands { IsStanding Held.stands own.new.high }
     ensures kept { IfSome result (λ _. (own.old.said ≡ true)
         × IsOwnFit Pass.rest Held.stand P.calls P.tag Held.stands own.new.node own.new.kept own.new.said own.new.high) }
-    ensures tests { IfSome result (λ tests. SameBelow level (tests_in (kept_stand Held.stand own.old.high).root) tests) }
+    ensures tests { IfSome result (λ tests. IsSomeAnd (kept_stand Held.stand own.old.high).root (ClosesWith level tests)) }
+    ensures told { IfSome result (AreTold Pass.rest Held.stand own.new.high) }
     ensures not_kept { IfNone result (IsSomeAnd (kept_stand Held.stand own.new.high).root (MayRelease P.calls P.tag
         (kept_stand Held.stand own.old.high).context.tag (level + 1) own.new.node)) }
     ensures noted { IfNone result (bit_at (tests_in (kept_stand Held.stand own.new.high).root) level ≡ bit_of own.old.said) }
-    ensures same { IfNone result (SameBelow level (tests_in (kept_stand Held.stand own.old.high).root) (tests_in
-        (kept_stand Held.stand own.new.high).root)) }
+    ensures same { IfNone result (IsSomeAnd (kept_stand Held.stand own.old.high).root (λ r. IsSomeAnd
+        (kept_stand Held.stand own.new.high).root (HasNoted level own.old.said r))) }
 {
     note_waiter(kept_root(&mut own.high), level, own.said);
     let Some(kept) = count_if_kept(own.said, own.kept, keep) else {
@@ -87,11 +88,11 @@ pub(crate) fn release_high<P: Payload, H: Composed<P>>(
     ensures context { IfNot result (λ w. (H.Leave.descent w.1).context ≡ (kept_stand H.Held.stand low.value.high).context) }
     ensures descends { IfNot result (λ w. H.Leave.descends w.1) }
     ensures above { IfNot result (λ w. H.level high.now ≤ (H.Leave.descent w.1).level) }
-    ensures noted { IfNot result (λ w. SameBelow (H.level high.now) (tests_in (kept_stand H.Held.stand low.value.high).root)
-        (H.Leave.descent w.1).tests) }
+    ensures noted { IfNot result (λ w. IsSomeAnd (kept_stand H.Held.stand low.value.high).root (ClosesWith (H.level high.now)
+        (H.Leave.descent w.1).tests)) }
     ensures kept_seat { IfGot result (λ w. w.0.seat ≡ low.seat) }
     ensures idle { IfGot result (λ w. IsIdleAgain H.Pass.rest (kept_stand H.Held.stand low.value.high).context low.value w.0.value w.1) }
-    ensures tests { IfGot result (λ w. SameBelow (H.level high.now) (tests_in (kept_stand H.Held.stand low.value.high).root) w.1) }
+    ensures tests { IfGot result (λ w. IsSomeAnd (kept_stand H.Held.stand low.value.high).root (ClosesWith (H.level high.now) w.1)) }
 {
     match high.begin_release(take_kept(&mut low.value)) {
         Step::Not(leave) => Step::Not((low, leave)),
@@ -134,8 +135,8 @@ pub(crate) fn let_go<P: Payload, H: Composed<P>>(
     ensures descends { IfNot result (λ w. IsDescending level w.0.value.node w.0.value.said (own_tag low.value.node
         (kept_stand H.Held.stand low.value.high).context) (H.Leave.descends w.1) (H.Leave.descent w.1)) }
     ensures said { IfNot result (λ w. w.0.value.said ≡ low.value.said) }
-    ensures noted { IfNot result (λ w. SameBelow level (tests_in (kept_stand H.Held.stand low.value.high).root)
-        (H.Leave.descent w.1).tests) }
+    ensures noted { IfNot result (λ w. IsSomeAnd (kept_stand H.Held.stand low.value.high).root (ClosesWith level
+        (H.Leave.descent w.1).tests)) }
     ensures same_seat { IfGot result (λ w. w.0.seat ≡ low.seat) }
     ensures fit { IfGot result (λ w. IsOwnFit H.Pass.rest H.Held.stand P.calls P.tag H.Held.stands w.0.value.node w.0.value.kept
         w.0.value.said w.0.value.high) }
@@ -143,7 +144,8 @@ pub(crate) fn let_go<P: Payload, H: Composed<P>>(
         (kept_stand H.Held.stand low.value.high).context) }
     ensures same_said { IfGot result (λ w. w.0.value.said ≡ low.value.said) }
     ensures parked { IfGot result (λ w. is_kept H.Pass.rest H.Held.stand w.0.value.high ≡ true → low.value.said ≡ true) }
-    ensures tests { IfGot result (λ w. SameBelow level (tests_in (kept_stand H.Held.stand low.value.high).root) w.1) }
+    ensures tests { IfGot result (λ w. IsSomeAnd (kept_stand H.Held.stand low.value.high).root (ClosesWith level w.1)) }
+    ensures told { IfGot result (λ w. AreTold H.Pass.rest H.Held.stand w.0.value.high w.1) }
 {
     if let Some(tests) = keep_for_next(&mut low.value, level, keep) {
         return Step::Got((low, tests));
@@ -173,7 +175,8 @@ pub(crate) fn let_go_and_wait<P: Payload, H: Composed<P>, R: Wait>(
         (kept_stand H.Held.stand own.old.high).context }
     ensures said { own.new.said ≡ own.old.said }
     ensures parked { is_kept H.Pass.rest H.Held.stand own.new.high ≡ true → own.old.said ≡ true }
-    ensures tests { SameBelow level (tests_in (kept_stand H.Held.stand own.old.high).root) result }
+    ensures tests { IsSomeAnd (kept_stand H.Held.stand own.old.high).root (ClosesWith level result) }
+    ensures told { AreTold H.Pass.rest H.Held.stand own.new.high result }
 {
     if let Some(tests) = keep_for_next(own, level, keep) {
         return tests;

@@ -1,14 +1,13 @@
 use Rattle.std.proofs.Common.{◌≡◌, ◌<◌, length, ap, sym, ◌∙◌, subst}
 use Rattle.std.specs.Prelude.{slice_get, IfSome, IsSomeAnd}
-use Rattle.std.specs.Int.{bit_at}
 use Rattle.lock_rules.specs.Passes.{IsOf}
 use Rattle.lock_rules.specs.Views.{place_of}
 use Rattle.keep_local.specs.Turns.{run}
-use Rattle.clof_compose.specs.Calls.{tests_in}
 use Rattle.clof_compose.specs.Contexts.{own_tag}
 use Rattle.clof_compose.specs.Levels.{kept_stand}
 use Rattle.clof_compose.specs.Nodes.{IsContextOfNode, locks_of}
 use Rattle.clof_compose.specs.Releases.{IsReleasing}
+use Rattle.clof_compose.proofs.Closes.{closes_at}
 use Rattle.clof_compose.proofs.Nodes.{and_weaker, level_same, node_context, node_within, pass_of, releasing}
 use Rattle.clof_compose.proofs.level.LevelPassPassComposed.begin_release.Goals as goal
 
@@ -57,16 +56,17 @@ begin_release-requires-clause-tagged g c =
     ∙ c.requires.stands.0.tag_same ∙ (pass_of c.requires.sound c.requires.own c.lock_of-lock.result.now here).tag_is
 
 pub returns-in-Not-clause-noted : goal.returns-in-Not-clause-noted
-returns-in-Not-clause-noted g c = λ j h.
-    c.in-Not.ensures.noted j (subst (λ k. j < k) (sym (level_same c.requires.sound c.requires.own)) h) ∙ ap (λ v. bit_at
-    (tests_in (kept_stand g.H.Held.Standing.stand v.high).root) j) c.waiter-low.ensures.value
+returns-in-Not-clause-noted g c =
+    closes_at _ _ (g.H.Leave.Descending.descent c.in-Not.leave).tests _ _
+    (ap (λ v. (kept_stand g.H.Held.Standing.stand v.high).root) c.waiter-low.ensures.value)
+    (level_same c.requires.sound c.requires.own) c.in-Not.ensures.noted
 
 pub returns-in-Not-begin_release-clause-noted : goal.returns-in-Not-begin_release-clause-noted
-returns-in-Not-begin_release-clause-noted g c = λ j h.
-    c.in-Got.ensures.tests j (subst (λ k. j < k) (sym (level_same c.requires.sound c.requires.own)) h) ∙ ap (λ v. bit_at
-    (tests_in (kept_stand g.H.Held.Standing.stand v.high).root) j) c.waiter-low.ensures.value
+returns-in-Not-begin_release-clause-noted g c =
+    closes_at _ _ c.in-Got.tests _ _ (ap (λ v. (kept_stand g.H.Held.Standing.stand v.high).root) c.waiter-low.ensures.value)
+    (level_same c.requires.sound c.requires.own) c.in-Got.ensures.tests
 
 pub returns-in-Got-begin_release-clause-tests : goal.returns-in-Got-begin_release-clause-tests
-returns-in-Got-begin_release-clause-tests g c = λ j h.
-    c.in-Got.ensures.tests j (subst (λ k. j < k) (sym (level_same c.requires.sound c.requires.own)) h) ∙ ap (λ v. bit_at
-    (tests_in (kept_stand g.H.Held.Standing.stand v.high).root) j) c.waiter-low.ensures.value
+returns-in-Got-begin_release-clause-tests g c =
+    closes_at _ _ c.in-Got.tests _ _ (ap (λ v. (kept_stand g.H.Held.Standing.stand v.high).root) c.waiter-low.ensures.value)
+    (level_same c.requires.sound c.requires.own) c.in-Got.ensures.tests

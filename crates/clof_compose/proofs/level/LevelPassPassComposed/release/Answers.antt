@@ -1,13 +1,12 @@
 use Rattle.std.proofs.Common.{◌≡◌, ◌<◌, length, ap, sym, ◌∙◌, subst}
 use Rattle.std.specs.Prelude.{slice_get, IfSome, IsSomeAnd}
-use Rattle.std.specs.Int.{bit_at}
 use Rattle.lock_rules.specs.Passes.{IsOf}
 use Rattle.keep_local.specs.Turns.{run}
-use Rattle.clof_compose.specs.Calls.{tests_in}
 use Rattle.clof_compose.specs.Contexts.{own_tag}
 use Rattle.clof_compose.specs.Levels.{kept_stand}
 use Rattle.clof_compose.specs.Nodes.{IsContextOfNode, locks_of}
 use Rattle.clof_compose.specs.Releases.{IsReleasing}
+use Rattle.clof_compose.proofs.Closes.{closes_at}
 use Rattle.clof_compose.proofs.Nodes.{and_weaker, level_same, node_context, node_within, pass_of, releasing}
 use Rattle.clof_compose.proofs.level.LevelPassPassComposed.release.Goals as goal
 
@@ -57,6 +56,6 @@ release-low-requires-clause-tagged g c =
     ∙ c.requires.stands.0.tag_same ∙ (pass_of c.requires.sound c.requires.own c.lock_of-lock.result.now here).tag_is
 
 pub returns-clause-tests : goal.returns-clause-tests
-returns-clause-tests g c = λ j h.
-    c.let_go_and_wait-tests.ensures.tests j (subst (λ k. j < k) (sym (level_same c.requires.sound c.requires.own)) h) ∙ ap (λ v. bit_at
-    (tests_in (kept_stand g.H.Held.Standing.stand v.high).root) j) c.waiter-low.ensures.value
+returns-clause-tests g c =
+    closes_at _ _ c.let_go_and_wait-tests.result _ _ (ap (λ v. (kept_stand g.H.Held.Standing.stand v.high).root) c.waiter-low.ensures.value)
+    (level_same c.requires.sound c.requires.own) c.let_go_and_wait-tests.ensures.tests

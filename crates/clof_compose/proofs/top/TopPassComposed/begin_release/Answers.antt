@@ -1,3 +1,4 @@
+use Rattle.clof_compose.proofs.Closes.{top_closes}
 use Rattle.clof_compose.proofs.Tops.{top_may_leave, top_fits}
 use Rattle.clof_compose.proofs.top.TopPassComposed.begin_release.Goals as goal
 
@@ -8,3 +9,13 @@ pub begin_release-requires-clause-fit : goal.begin_release-requires-clause-fit
 begin_release-requires-clause-fit g c =
     top_fits g.P.Payload.calls g.P.Payload.tag _ _ _ _ c.requires.root c.requires.sound.level_is _ c.close_turn-tests.ensures.payload
     c.close_turn-tests.ensures.closed c.close_turn-tests.ensures.lawful
+
+pub returns-in-Not-clause-noted : goal.returns-in-Not-clause-noted
+returns-in-Not-clause-noted g c =
+    top_closes g.P.Payload.calls g.P.Payload.tag _ _ _ _ c.requires.root c.requires.sound.level_is c.requires.stands.0.trail _
+    c.close_turn-tests.ensures.tests
+
+pub returns-in-Got-clause-tests : goal.returns-in-Got-clause-tests
+returns-in-Got-clause-tests g c =
+    top_closes g.P.Payload.calls g.P.Payload.tag _ _ _ _ c.requires.root c.requires.sound.level_is c.requires.stands.0.trail _
+    c.close_turn-tests.ensures.tests

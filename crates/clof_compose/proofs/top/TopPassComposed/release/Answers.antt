@@ -1,3 +1,4 @@
+use Rattle.clof_compose.proofs.Closes.{top_closes}
 use Rattle.clof_compose.proofs.Tops.{top_may_leave, top_fits}
 use Rattle.clof_compose.proofs.top.TopPassComposed.release.Goals as goal
 
@@ -8,3 +9,8 @@ pub release-low-requires-clause-fit : goal.release-low-requires-clause-fit
 release-low-requires-clause-fit g c =
     top_fits g.P.Payload.calls g.P.Payload.tag _ _ _ _ c.requires.root c.requires.sound.level_is _ c.close_turn-tests.ensures.payload
     c.close_turn-tests.ensures.closed c.close_turn-tests.ensures.lawful
+
+pub returns-clause-tests : goal.returns-clause-tests
+returns-clause-tests g c =
+    top_closes g.P.Payload.calls g.P.Payload.tag _ _ _ _ c.requires.root c.requires.sound.level_is c.requires.stands.0.trail _
+    c.close_turn-tests.ensures.tests
