@@ -23,7 +23,7 @@ fn main(rt: HostRuntime) -> anyhow::Result<()> {
     let (paths, keeps): (&[&[u32]], &[u32]) = match (levels.as_str(), threads.as_str()) {
         ("1", "2") => (&[&[0], &[0]], &[]),
         ("2", "4") => (&[&[0, 0], &[0, 0], &[1, 0], &[1, 0]], &[9]),
-        ("5", "2") => (&[&[0, 0, 0, 0, 0], &[0, 0, 0, 0, 0]], &[9, 9, 9, 9]),
+        ("5", "2") => (&[&[0, 0, 0, 0, 0], &[0, 0, 0, 0, 0]], &[128, 128, 128, 128]),
         _ => bail!("name 1 level and 2 threads, 2 levels and 4 threads, or 5 levels and 2 threads"),
     };
     let quotas = equal_quotas(alloc, paths.len(), holds).context("these are too many holds")?;
@@ -41,7 +41,7 @@ fn main(rt: HostRuntime) -> anyhow::Result<()> {
     println!(rt;
         "{levels} {threads} {} {}",
         trail.turns().len(),
-        roll.callers.len()
+        roll.callers.get().len()
     )?;
     Ok(())
 }

@@ -20,7 +20,7 @@ fn has_all(root: Root<Roll>, callers: u32, holds: u32) -> bool {
     let (trail, roll) = root.into_parts();
     let turns = trail.turns();
     is_lawful(trail.shape(), turns)
-        && are_calls_of(roll.callers.as_slice(), turns)
+        && are_calls_of(roll.callers.get().as_slice(), turns)
         && turns.len() == callers as usize * holds as usize
         && (0..callers).all(|caller| {
             turns.iter().filter(|turn| turn.caller == caller).count() == holds as usize

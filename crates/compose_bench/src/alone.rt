@@ -40,7 +40,7 @@ fn hold_alone<C: Composed<Roll> + Drop, R: Wait>(
         return None;
     }
     jobs.push_reserved(hold_all(rt, &lock, job));
-    Some(close_ended(lock, jobs, passes))
+    close_ended(lock, Some((jobs, passes)))
 }
 
 /// No level is lacking, and there is one caller.

@@ -42,6 +42,10 @@ fn main(rt: HostRuntime) -> anyhow::Result<()> {
         _ => None,
     };
     let (trail, roll) = root.context("there was no memory")?.into_parts();
-    println!(rt; "{levels} {} {}", trail.turns().len(), roll.callers.len())?;
+    println!(rt;
+        "{levels} {} {}",
+        trail.turns().len(),
+        roll.callers.get().len()
+    )?;
     Ok(())
 }

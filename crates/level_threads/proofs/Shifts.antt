@@ -1,5 +1,5 @@
 -- What a thread has made of its job.
-use Rattle.std.proofs.Common.{◌≡◌, ℕ, ◌<◌, List, length, get_or, ap, sym, ◌∙◌, subst, arith, Option, Some, None}
+use Rattle.std.proofs.Common.{◌≡◌, ℕ, List, length, get_or, ap, sym, ◌∙◌, subst, arith, Option, Some, None}
 use Rattle.std.specs.Prelude.{IfSome, slice_get}
 use Rattle.std.proofs.lemmas.Option.{slice_get_within, slice_get-get_or}
 use Rattle.lock_rules.specs.Tag.{Tag}
@@ -53,6 +53,10 @@ module _ {P : Type 0} (rest : P → Rest) (has : Context → Type 0) (level : �
       let within = slice_get_within done k j' e in
       let at : slice_get jobs k ≡ Some (get_or jobs k j') = slice_get-get_or jobs k j' (omega (arith, within, many)) in
       ended k (get_or jobs k j') j' (each k (get_or jobs k j') at) (worked k (get_or jobs k j') j' at e)
+
+-- what is known of an option's value
+pub at_some : {A : Type 0} (P : A → Type 0) (o : Option A) (a : A) → o ≡ Some a → IfSome o P → P a
+at_some {A = A} P o a is known = subst (λ (x : Option A). IfSome x P) is known
 
 -- what follows from two things that a value is known for
 pub if_both : {A : Type 0} (P Q R : A → Type 0) (o : Option A) → ((a : A) → P a → Q a → R a) → IfSome o P → IfSome o Q → IfSome o R

@@ -1,5 +1,5 @@
 //! The callers of a lock of one level, each in a thread of its own.
-ghost use Rattle.std.specs.Prelude.{◌≡◌, ◌^◌, ◌<◌, ℕ, length, sum, slice_get, Some, IfSome};
+ghost use Rattle.std.specs.Prelude.{◌≡◌, ◌^◌, ◌<◌, ◌≤◌, ℕ, [], length, sum, slice_get, vec_capacity, Some, IfSome};
 ghost use Rattle.keep_local.specs.Shapes.{IsWellFormed, callers_of, top_of};
 ghost use Rattle.clof_compose.specs.Courses.{course_of};
 ghost use Rattle.clof_compose.specs.Roots.{IsFit, root_tag};
@@ -62,6 +62,38 @@ fn run_in_threads<R: Threads + Wait + Sync>(
     by_all(rt, &Shift { rt, lock }, jobs)
 }
 
+// Each caller to whom a job was dealt makes all its turns, as `run_in_threads` says. The answer has the jobs and the emptied list of the
+// passes; it is `None` for want of memory, and where no job was dealt.
+fn run_dealt<R: Threads + Wait + Sync>(
+    rt: &R,
+    lock: &Lock1,
+    dealt: Option<(Vec<Job<TopPass<Pass>>>, Vec<TopPass<Pass>>)>,
+) -> Option<(Vec<Job<TopPass<Pass>>>, Vec<TopPass<Pass>>)>
+    requires sound { ⟦<Lock1 as Composed<Roll>>⟧.sound lock.now }
+    requires lowest { ⟦<Lock1 as Composed<Roll>>⟧.level lock.now ≡ 0 }
+    requires room { HasRoom (course_of (⟦<Lock1 as Composed<Roll>>⟧.tag lock.now)) }
+    requires many { IfSome dealt (λ d. length d.0.items ≡ ⟦<Lock1 as Composed<Roll>>⟧.count lock.now) }
+    requires empty { IfSome dealt (λ d. d.1.items ≡ []) }
+    requires capacity { IfSome dealt (λ d. ⟦<Lock1 as Composed<Roll>>⟧.count lock.now ≤ vec_capacity d.1) }
+    requires each { IfSome dealt (λ d. (k : ℕ) (j : _) → slice_get d.0.items k ≡ Some j → IsJob ⟦<TopPass<Pass> as Resting>⟧.rest
+        (⟦<Lock1 as Composed<Roll>>⟧.has lock.now) (⟦<Lock1 as Composed<Roll>>⟧.level lock.now)
+        (⟦<Lock1 as Composed<Roll>>⟧.tag lock.now) k j) }
+    ensures each { IfSome result (λ e. (k : ℕ) (j : _) → slice_get e.0.items k ≡ Some j → IsEnded ⟦<TopPass<Pass> as Resting>⟧.rest
+        (⟦<Lock1 as Composed<Roll>>⟧.has lock.now) (⟦<Lock1 as Composed<Roll>>⟧.level lock.now)
+        (⟦<Lock1 as Composed<Roll>>⟧.tag lock.now) k j) }
+    ensures many { IfSome result (λ e. length e.0.items ≡ ⟦<Lock1 as Composed<Roll>>⟧.count lock.now) }
+    ensures empty { IfSome result (λ e. e.1.items ≡ []) }
+    ensures capacity { IfSome result (λ e. ⟦<Lock1 as Composed<Roll>>⟧.count lock.now ≤ vec_capacity e.1) }
+{
+    let Some((jobs, passes)) = dealt else {
+        return None;
+    };
+    let Some(ended) = run_in_threads(rt, lock, jobs) else {
+        return None;
+    };
+    Some((ended, passes))
+}
+
 // The callers of a lock that is ready make all their turns, and it is taken apart. The answer is its root, or `None` for want of memory.
 fn hold_ready<R: Threads + Wait + Sync>(
     rt: &R,
@@ -82,13 +114,9 @@ fn hold_ready<R: Threads + Wait + Sync>(
         passes,
         shares,
     } = ready;
-    let Some((jobs, passes)) = deal::<Lock1>(alloc, &lock, passes, shares) else {
-        return None;
-    };
-    let Some(ended) = run_in_threads(rt, &lock, jobs) else {
-        return None;
-    };
-    Some(close_ended::<Lock1>(lock, ended, passes))
+    let dealt = deal::<Lock1>(alloc, &lock, passes, shares);
+    let ended = run_dealt(rt, &lock, dealt);
+    close_ended::<Lock1>(lock, ended)
 }
 
 /// All callers of a shape hold a lock of one level in threads of their own, each as often as its quota, and the lock is taken apart. The

@@ -1,5 +1,5 @@
 //! The callers of a lock of two levels, each in a thread of its own.
-ghost use Rattle.std.specs.Prelude.{◌≡◌, ◌^◌, ◌<◌, ℕ, length, sum, slice_get, Some, IfSome};
+ghost use Rattle.std.specs.Prelude.{◌≡◌, ◌^◌, ◌<◌, ◌≤◌, ℕ, [], length, sum, slice_get, vec_capacity, Some, IfSome};
 ghost use Rattle.keep_local.specs.Shapes.{IsWellFormed, callers_of, top_of};
 ghost use Rattle.clof_compose.specs.Courses.{course_of};
 ghost use Rattle.clof_compose.specs.Roots.{IsFit, root_tag};
@@ -61,6 +61,38 @@ fn run_in_threads<R: Threads + Wait + Sync>(
     by_all(rt, &Shift { rt, lock }, jobs)
 }
 
+// Each caller to whom a job was dealt makes all its turns, as `run_in_threads` says. The answer has the jobs and the emptied list of the
+// passes; it is `None` for want of memory, and where no job was dealt.
+fn run_dealt<R: Threads + Wait + Sync>(
+    rt: &R,
+    lock: &Lock2,
+    dealt: Option<(Vec<Job<LowPass>>, Vec<LowPass>)>,
+) -> Option<(Vec<Job<LowPass>>, Vec<LowPass>)>
+    requires sound { ⟦<Lock2 as Composed<Roll>>⟧.sound lock.now }
+    requires lowest { ⟦<Lock2 as Composed<Roll>>⟧.level lock.now ≡ 0 }
+    requires room { HasRoom (course_of (⟦<Lock2 as Composed<Roll>>⟧.tag lock.now)) }
+    requires many { IfSome dealt (λ d. length d.0.items ≡ ⟦<Lock2 as Composed<Roll>>⟧.count lock.now) }
+    requires empty { IfSome dealt (λ d. d.1.items ≡ []) }
+    requires capacity { IfSome dealt (λ d. ⟦<Lock2 as Composed<Roll>>⟧.count lock.now ≤ vec_capacity d.1) }
+    requires each { IfSome dealt (λ d. (k : ℕ) (j : _) → slice_get d.0.items k ≡ Some j → IsJob ⟦<LowPass as Resting>⟧.rest
+        (⟦<Lock2 as Composed<Roll>>⟧.has lock.now) (⟦<Lock2 as Composed<Roll>>⟧.level lock.now)
+        (⟦<Lock2 as Composed<Roll>>⟧.tag lock.now) k j) }
+    ensures each { IfSome result (λ e. (k : ℕ) (j : _) → slice_get e.0.items k ≡ Some j → IsEnded ⟦<LowPass as Resting>⟧.rest
+        (⟦<Lock2 as Composed<Roll>>⟧.has lock.now) (⟦<Lock2 as Composed<Roll>>⟧.level lock.now)
+        (⟦<Lock2 as Composed<Roll>>⟧.tag lock.now) k j) }
+    ensures many { IfSome result (λ e. length e.0.items ≡ ⟦<Lock2 as Composed<Roll>>⟧.count lock.now) }
+    ensures empty { IfSome result (λ e. e.1.items ≡ []) }
+    ensures capacity { IfSome result (λ e. ⟦<Lock2 as Composed<Roll>>⟧.count lock.now ≤ vec_capacity e.1) }
+{
+    let Some((jobs, passes)) = dealt else {
+        return None;
+    };
+    let Some(ended) = run_in_threads(rt, lock, jobs) else {
+        return None;
+    };
+    Some((ended, passes))
+}
+
 // The callers of a lock that is ready make all their turns, and it is taken apart. The answer is its root, or `None` for want of memory.
 fn hold_ready<R: Threads + Wait + Sync>(
     rt: &R,
@@ -81,13 +113,9 @@ fn hold_ready<R: Threads + Wait + Sync>(
         passes,
         shares,
     } = ready;
-    let Some((jobs, passes)) = deal::<Lock2>(alloc, &lock, passes, shares) else {
-        return None;
-    };
-    let Some(ended) = run_in_threads(rt, &lock, jobs) else {
-        return None;
-    };
-    Some(close_ended::<Lock2>(lock, ended, passes))
+    let dealt = deal::<Lock2>(alloc, &lock, passes, shares);
+    let ended = run_dealt(rt, &lock, dealt);
+    close_ended::<Lock2>(lock, ended)
 }
 
 /// All callers of a shape hold a lock of two levels in threads of their own, each as often as its quota, and the lock is taken apart. The

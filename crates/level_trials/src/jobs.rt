@@ -40,22 +40,26 @@ pub fn deal<C: Composed<Roll>>(
     Some(pair(lock, passes, shares, jobs))
 }
 
-/// Takes a lock apart once all its callers have made all their turns. The answer is its root. `passes` is an empty list with room for all.
-pub fn close_ended<C: Composed<Roll>>(
+/// Takes a lock apart once all its callers have made all their turns. `ended` are their jobs and an empty list with room for all passes,
+/// or `None` where the run wanted memory, and so is the answer. Else it is the root.
+pub fn close_ended<C: Composed<Roll> + Drop>(
     lock: C,
-    jobs: Vec<Job<C::Pass>>,
-    passes: Vec<C::Pass>,
-) -> Root<Roll>
+    ended: Option<(Vec<Job<C::Pass>>, Vec<C::Pass>)>,
+) -> Option<Root<Roll>>
     requires sound { C.sound lock }
-    requires many { length jobs.items ≡ C.count lock }
-    requires each { (k : ℕ) (j : _) → slice_get jobs.items k ≡ Some j → IsEnded C.Pass.rest (C.has lock) (C.level lock) (C.tag lock) k j }
-    requires empty { passes.items ≡ [] }
-    requires room { C.count lock ≤ vec_capacity passes }
-    ensures fit { IsFit (λ r. r.callers.items) result }
-    ensures tagged { root_tag roll_tag result ≡ C.tag lock }
+    requires many { IfSome ended (λ e. length e.0.items ≡ C.count lock) }
+    requires each { IfSome ended (λ e. (k : ℕ) (j : _) → slice_get e.0.items k ≡ Some j → IsEnded C.Pass.rest (C.has lock) (C.level lock)
+        (C.tag lock) k j) }
+    requires empty { IfSome ended (λ e. e.1.items ≡ []) }
+    requires room { IfSome ended (λ e. C.count lock ≤ vec_capacity e.1) }
+    ensures fit { IfSome result (IsFit (λ r. r.callers.items)) }
+    ensures tagged { IfSome result (λ r. root_tag roll_tag r ≡ C.tag lock) }
 {
+    let Some((jobs, passes)) = ended else {
+        return None;
+    };
     let passes = ended_passes(&lock, jobs, passes);
-    lock.close(passes)
+    Some(lock.close(passes))
 }
 
 // A job for each pass and each share, and the emptied list of the passes.

@@ -2,14 +2,16 @@
 ghost use Rattle.std.specs.Prelude.{◌≡◌, ◌+◌, ◌<◌, ◌≤◌, ◌++◌, ◌∷◌, [], length, vec_capacity, IfOk};
 ghost use Rattle.lock_rules.specs.Tag.{leaf};
 
+use boxed_value::Boxed;
 use clof_compose::{Payload, Root};
 use out_of_memory::OutOfMemory;
 use std::alloc::Global;
 
-/// A payload whose calls note their callers, for which it has room from the start. Its tag is how many it has room for.
+/// A payload whose calls note their callers, for which it has room from the start. It is one pointer, since it moves with every hold. Its
+/// tag is how many it has room for.
 #[derive(Drop)]
 pub struct Roll {
-    pub callers: Vec<u32>,
+    pub callers: Boxed<Vec<u32>>,
 }
 
 impl Roll {
@@ -18,8 +20,11 @@ impl Roll {
         ensures empty { IfOk result (λ r. r.callers.items ≡ []) }
         ensures room { IfOk result (λ r. calls ≤ vec_capacity r.callers) }
     {
-        let callers = Vec::with_capacity(alloc, calls)?;
-        Ok(Roll { callers })
+        let room = Vec::with_capacity(alloc, calls)?;
+        match Boxed::new(alloc, room) {
+            Ok(callers) => Ok(Roll { callers }),
+            Err(_) => Err(OutOfMemory),
+        }
     }
 }
 
@@ -36,5 +41,5 @@ pub(crate) fn call(root: &mut Root<Roll>, caller: u32)
     ensures noted { root.new.payload.callers.items ≡ root.old.payload.callers.items ++ caller ∷ [] }
     ensures room { vec_capacity root.new.payload.callers ≡ vec_capacity root.old.payload.callers }
 {
-    root.payload_mut().callers.push_reserved(caller);
+    root.payload_mut().callers.get_mut().push_reserved(caller);
 }

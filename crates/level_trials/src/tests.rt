@@ -14,6 +14,6 @@ fn two_callers_take_turns_at_the_top(rt: HostRuntime) {
         panic!(rt; "there was no memory")
     };
     let (trail, roll) = root.into_parts();
-    assert!(rt; roll.callers.as_slice() == [0, 1, 0].as_slice());
+    assert!(rt; roll.callers.get().as_slice() == [0, 1, 0].as_slice());
     assert!(rt; trail.turns().len() == 3 && is_lawful(trail.shape(), trail.turns()));
 }

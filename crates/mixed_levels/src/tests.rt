@@ -19,7 +19,7 @@ const fn turn(caller: u32, climb: u32, tests: u32, left: u32) -> Turn {
 /// Whether the turns are lawful and those of the table, and the roll has a call of each one's caller.
 fn has_turns(root: &Root<Roll>, turns: &[Turn]) -> bool {
     let trail = root.trail();
-    let callers = root.payload().callers.as_slice();
+    let callers = root.payload().callers.get().as_slice();
     trail.turns() == turns
         && is_lawful(trail.shape(), turns)
         && callers.len() == turns.len()

@@ -1,4 +1,3 @@
-use Rattle.std.proofs.Common.{◌∙◌}
 use Rattle.level_threads.proofs.Shifts.{quotas_known, shape_known}
 use Rattle.level_threads.proofs.five.hold_in_five.Goals as goal
 

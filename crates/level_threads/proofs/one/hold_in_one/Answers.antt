@@ -1,4 +1,3 @@
-use Rattle.std.proofs.Common.{◌∙◌}
 use Rattle.level_threads.proofs.Shifts.{quotas_known, shape_known}
 use Rattle.level_threads.proofs.one.hold_in_one.Goals as goal
 

@@ -1,4 +1,3 @@
-use Rattle.std.proofs.Common.{◌∙◌}
 use Rattle.level_threads.proofs.Shifts.{quotas_known, shape_known}
 use Rattle.level_threads.proofs.two.hold_in_two.Goals as goal
 

@@ -2,10 +2,10 @@ use Rattle.std.proofs.Common.{ap, sym, ◌∙◌}
 use Rattle.keep_local.specs.Shapes.{callers_of}
 use Rattle.level_threads.proofs.two.hold_ready.Goals as goal
 
-pub deal-requires-clause-count : goal.deal-requires-clause-count
-deal-requires-clause-count g c =
+pub deal-dealt-requires-clause-count : goal.deal-dealt-requires-clause-count
+deal-dealt-requires-clause-count g c =
     let ready = c.requires.ready in
     ready.contexts.lowest c.requires.lowest ∙ ap callers_of (sym ready.same)
 
-pub deal-requires-clause-quotas : goal.deal-requires-clause-quotas
-deal-requires-clause-quotas g c = c.requires.ready.quotas ∙ ap callers_of (sym c.requires.ready.same)
+pub deal-dealt-requires-clause-quotas : goal.deal-dealt-requires-clause-quotas
+deal-dealt-requires-clause-quotas g c = c.requires.ready.quotas ∙ ap callers_of (sym c.requires.ready.same)
