@@ -3,8 +3,10 @@ ghost use Rattle.std.specs.Prelude.{◌≡◌, ◌<◌, ◌++◌, All, IfOk, OnO
 ghost use Rattle.std.specs.List.{AllByRecursion, flat_map};
 ghost use Rattle.topo_tree.specs.Objects.{count_of, IsLayer, IsObject};
 ghost use Rattle.calc_query.specs.Answers.{intersecting, end_of, with_step, extended, chains, is_largest, largest};
+ghost use Rattle.calc_query.specs.Found.{IsFound};
 
 use crate::candidates::inside;
+use crate::found::{Found, found_at_first, is_inside};
 use crate::query::{Path, Step2};
 use cpu_set::CpuSet;
 use out_of_memory::OutOfMemory;
@@ -141,25 +143,29 @@ pub fn largest<T: AsTree>(
     ensures fit { IfOk result (λ objects. All (IsObject (T.described topology.now)) objects.items) }
 {
     let tree = topology.as_tree();
+    let mut found = found_at_first(alloc, tree, set)?;
     let mut objects = Vec::new(alloc);
     for object in &tree.tree_order(alloc)? {
-        if is_largest(tree, set, *object) {
+        if is_largest(tree, set, &mut found, *object) {
             objects.push(*object)?;
         }
     }
     Ok(objects)
 }
 
-// Whether a set has all PUs of an object, and not all of the object above.
-fn is_largest(tree: &Tree, set: &CpuSet, object: Object) -> bool
-    requires { IsObject tree.now object }
-    ensures { result ≡ is_largest tree.now set.now object }
+// Whether a set has all PUs of an object, and not all of the object above. `found` is what was found of the last object of each depth, which
+// the children of one object ask for in turn.
+fn is_largest(tree: &Tree, set: &CpuSet, found: &mut Vec<Found>, object: Object) -> bool
+    requires object { IsObject tree.now object }
+    requires found { All (IsFound tree.now set.now) found.old.items }
+    ensures largest { result ≡ is_largest tree.now set.now object }
+    ensures found { All (IsFound tree.now set.now) found.new.items }
 {
-    if !tree.inside(object, set) {
+    if !is_inside(tree, set, found, object) {
         return false;
     }
     match tree.parent(object) {
-        Some(above) => !tree.inside(above, set),
+        Some(above) => !is_inside(tree, set, found, above),
         None => true,
     }
 }

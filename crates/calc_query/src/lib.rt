@@ -5,6 +5,7 @@
 mod answers;
 mod candidates;
 mod fault;
+mod found;
 mod indexes;
 mod laws;
 mod picks;

@@ -16,7 +16,7 @@ returns-clause-fit g c =
     ap (take c.loop-object.object-index) c.deref-object-items.ensures.value
     ∙ take_all c.loop-object.object-index objects (omega (arith, c.loop-object-test.false, ap length c.deref-object-items.ensures.value)) in
     subst (λ described. All (λ object. IsObject described object) c.loop-object.objects.items) c.as_tree-tree.ensures
-    (All-same Fit _ _ (c.loop-object.invariant ∙ ap (filter (is_largest now c.args.set.now)) seen)
+    (All-same Fit _ _ (c.loop-object.invariant.0 ∙ ap (filter (is_largest now c.args.set.now)) seen)
     (All-filter (is_largest now c.args.set.now) Fit objects c.in_ok-tree_order.ensures.objects))
 
 pub returns-clause-objects : goal.returns-clause-objects
@@ -24,9 +24,12 @@ unfolding largest
 returns-clause-objects g c =
     let now = c.as_tree-tree.result.now in
     let objects = c.in_ok-tree_order.field-0.items in
-    c.loop-object.invariant
+    c.loop-object.invariant.0
     ∙ ap (filter (is_largest now c.args.set.now))
     (ap (take c.loop-object.object-index) c.deref-object-items.ensures.value
     ∙ take_all c.loop-object.object-index objects
     (omega (arith, c.loop-object-test.false, ap length c.deref-object-items.ensures.value)) ∙ c.in_ok-tree_order.ensures.order)
     ∙ ap (λ described. largest described c.args.set.now) c.as_tree-tree.ensures
+
+pub is_largest-requires-clause-found : goal.is_largest-requires-clause-found
+is_largest-requires-clause-found g c = c.loop-object.invariant.1
