@@ -153,8 +153,8 @@ pub fn largest<T: AsTree>(
     Ok(objects)
 }
 
-// Whether a set has all PUs of an object, and not all of the object above. `found` is what was found of the last object of each depth, which
-// the children of one object ask for in turn.
+// Whether a set has all PUs of an object, and not all of the object above. `found` is what was found of the last object of each depth,
+// which the children of one object ask for in turn.
 fn is_largest(tree: &Tree, set: &CpuSet, found: &mut Vec<Found>, object: Object) -> bool
     requires object { IsObject tree.now object }
     requires found { All (IsFound tree.now set.now) found.old.items }

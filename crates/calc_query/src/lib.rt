@@ -19,6 +19,3 @@ pub use laws::{largest_make_up_whole_objects, no_terms_select_nothing, paths_are
 pub use query::{Location, Numbering, Op, Part, Path, Pick, Step2, Term};
 pub use reading::{read_location, read_term};
 pub use selecting::select;
-
-#[cfg(test)]
-mod tests;

@@ -16,6 +16,3 @@ pub use lines::{Line, line};
 pub use sets::set_text;
 pub use status::{Fault, OptionName, Status};
 pub use trees::topo_text;
-
-#[cfg(test)]
-mod tests;

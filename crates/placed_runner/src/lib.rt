@@ -17,6 +17,3 @@ pub use laws::{one_answer, one_history};
 pub use printing::text;
 pub use running::run_in_order;
 pub use sections::{Section, read_sections};
-
-#[cfg(test)]
-mod tests;

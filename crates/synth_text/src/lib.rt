@@ -26,6 +26,3 @@ pub use name::{Name, read_name};
 pub use reading::read;
 pub use sequence::Sequence;
 pub use writing::write;
-
-#[cfg(test)]
-mod tests;

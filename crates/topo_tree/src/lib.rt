@@ -28,6 +28,3 @@ pub use laws::{
 pub use layer::{Layer, Object};
 pub use topology::Topology;
 pub use tree::Tree;
-
-#[cfg(test)]
-mod tests;

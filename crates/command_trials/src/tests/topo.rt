@@ -1,6 +1,6 @@
 // What `topo` prints, and how descriptions are refused.
 use super::{prints, text};
-use crate::{Fault, Status};
+use command_texts::{Fault, Status};
 use std::test::Fail;
 use synth_text::SynthFault;
 use topo_tree::BuildFault;

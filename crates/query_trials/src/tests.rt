@@ -1,8 +1,11 @@
 ghost use Rattle.topo_tree.specs.Objects.{IsLayer};
 ghost use Rattle.calc_query.specs.Selection.{HaveLayers};
 
-use super::*;
 use byte_text::{Words, cut_at, number_in};
+use calc_query::{
+    CalcFault, Numbering, Path, Term, hierarchical, intersecting, largest, read_location,
+    read_term, select,
+};
 use cpu_set::CpuSet;
 use std::alloc::Global;
 use std::process::Abort;

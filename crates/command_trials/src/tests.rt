@@ -5,8 +5,10 @@ mod options;
 mod set;
 mod topo;
 
-use crate::{Fault, OptionName, Status, calc_text, distrib_text, line, set_text, topo_text};
 use calc_query::CalcFault;
+use command_texts::{
+    Fault, OptionName, Status, calc_text, distrib_text, line, set_text, topo_text,
+};
 use command_words::{Asked, WordsFault, read_words};
 use cpu_set::SetFault;
 use distrib_rules::DistribFault;

@@ -1,7 +1,7 @@
 // What `distrib` prints, and how its words are read.
 use super::{answered, prints, text};
-use crate::{Status, line};
 use byte_text::number32;
+use command_texts::{Status, line};
 use std::alloc::Global;
 use std::process::Abort;
 use std::test::Fail;

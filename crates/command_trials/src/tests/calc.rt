@@ -1,6 +1,6 @@
 // What `calc` prints. Answers in tables are those of hwloc-calc 2.9.
 use super::{answered, prints, text};
-use crate::{Status, line};
+use command_texts::{Status, line};
 use std::alloc::Global;
 use std::process::Abort;
 use std::test::Fail;

@@ -1,7 +1,7 @@
 use Rattle.std.proofs.Common.{length}
 use Rattle.byte_text.specs.Words.{words_left}
 use Rattle.calc_query.specs.Selection.{HaveLayers}
-use Rattle.calc_query.proofs.tests.selected.Given as goal
+use Rattle.query_trials.proofs.tests.selected.Given as goal
 
 abbrev pub invariant-loop-word : goal.invariant-loop-word
 invariant-loop-word g l = HaveLayers l.topology l.terms.items

@@ -1,8 +1,8 @@
 // Sections, places and the printed text, by hand.
 ghost use Rattle.std.specs.Prelude.{◌≡◌, ◌<◌, ◌^◌, length};
 
-use crate::{Section, SectionFault, read_sections, run_in_order, text};
 use kv_history::Journal;
+use placed_runner::{Section, SectionFault, read_sections, run_in_order, text};
 use std::alloc::Global;
 use std::test::Fail;
 use synth_text::read;

@@ -1,8 +1,10 @@
 // Descriptions from outside the definitions: what each text describes, or why it describes nothing.
-use super::*;
 use std::alloc::Global;
 use std::process::Abort;
 use std::test::Fail;
+use synth_text::{
+    Description, Indexes, Kind, Level, Memory, Name, Sequence, SynthFault, read, read_name, write,
+};
 
 mod items;
 mod orders;

@@ -1,11 +1,11 @@
 ghost use Rattle.topo_tree.specs.Objects.{IsLayer, IsObject};
 
-use super::*;
 use cpu_set::CpuSet;
 use std::alloc::Global;
 use std::process::Abort;
 use std::test::Fail;
 use synth_text::{Kind, read};
+use topo_tree::{AsTree, BuildFault, Layer, Object, Topology, Tree};
 
 mod faults;
 mod limits;

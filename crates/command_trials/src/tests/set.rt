@@ -1,6 +1,6 @@
 // What `set` prints, and long texts.
 use super::{prints, text};
-use crate::{Fault, Status};
+use command_texts::{Fault, Status};
 use cpu_set::SetFault;
 use std::alloc::Global;
 use std::test::Fail;

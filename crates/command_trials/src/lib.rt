@@ -1,0 +1,6 @@
+//! Tests of what the commands print and of how they are refused, from their words on, with the answers of hwloc's programs. They stand in a
+//! crate of their own, so that `command_texts` is proved once.
+#![tactic(auto)]
+
+#[cfg(test)]
+mod tests;
