@@ -15,8 +15,10 @@ lists_in-tree_of_lists (xs ∷ xss) = λ i. list_in-tree_of xs i ∷ lists_in-tr
 pub course_of-course_tag : (c : Course) → course_of (course_tag c) ≡ c
 unfolding course_of course_tag
 course_of-course_tag c =
-    let names = list_in-tree_of c.name.slot_names in λ i. record {
+    let names = list_in-tree_of c.name.slot_names in
+    let others = list_in-tree_of c.receipts.slot_names in λ i. record {
       name = record c.name { slot_names = names i };
+      receipts = record c.receipts { slot_names = others i };
       shape = record { paths = lists_in-tree_of_lists c.shape.paths i; keeps = list_in-tree_of c.shape.keeps i };
       quotas = list_in-tree_of c.quotas i;
       payload = c.payload;

@@ -1,30 +1,22 @@
 -- How a node's value is kept for the next one, or gets ready for the release of the high lock.
-use Rattle.std.proofs.Common.{◌≡◌, ℕ, ◌+◌, ◌<◌, ◌≤◌, Bool, true, List, ◌++◌, refl, ap, sym, ◌∙◌, subst, arith, Option, Some, None}
+use Rattle.std.proofs.Common.{◌≡◌, ℕ, ◌+◌, ◌<◌, ◌≤◌, Bool, true, List, [], ◌∷◌, ◌++◌, refl, ap, sym, ◌∙◌, subst, arith, Option, Some, None}
 use Rattle.std.specs.Prelude.{IfSome, IsSomeAnd, option_map}
 use Rattle.std.specs.Int.{bit_at}
 use Rattle.lock_rules.specs.Tag.{Tag}
-use Rattle.keep_local.specs.Turns.{run, last_turn}
-use Rattle.keep_local.specs.States.{TrailState, IsTrail, MayLeave, option_list, left_at, tested}
-use Rattle.clof_compose.specs.Calls.{ClosesWith, MayRelease, tests_in, tests_of}
+use Rattle.keep_local.specs.Turns.{run}
+use Rattle.keep_local.specs.States.{TrailState, IsTrail, MayLeave, all_tests, option_list, left_at, tested, tests_of}
+use Rattle.clof_compose.specs.Calls.{ClosesWith, MayRelease, tests_in}
 use Rattle.clof_compose.specs.Contexts.{Context}
-use Rattle.clof_compose.specs.Levels.{AreTold, IsStanding, kept_stand, high_with_root}
+use Rattle.clof_compose.specs.Levels.{IsStanding, kept_stand, high_with_root}
 use Rattle.clof_compose.specs.Meanings.{Rest, Stand}
 use Rattle.clof_compose.specs.Owns.{IsHandedOver, IsOwnFit, bit_of}
 use Rattle.clof_compose.specs.Releases.{HasNoted, IsReleasing}
 use Rattle.clof_compose.specs.Roots.{IsKept}
 use Rattle.clof_compose.specs.declared.own.High.{High}
-use Rattle.clof_compose.specs.declared.own.High.TheVariants.{Idle, Kept, Away}
+use Rattle.clof_compose.specs.declared.report.Report.{Report}
 use Rattle.clof_compose.specs.declared.root.Root.{Root}
 use Rattle.clof_compose.proofs.Owned.{at_root, if_root, some_with, kept_fits}
-use Rattle.clof_compose.proofs.Released.{bit_is, noted_is, noted_kept, may_release_above, may_leave_here, closes_here, left_over, left_told, left_kept}
-
--- what a kept high lock's root tells is told
-are_told : {P Pass Held : Type 0} (rest : Pass → Rest) (stand : Held → Stand (Root P)) (stands : Held → Type 0) (high : High Pass Held)
-    (n : ℕ) → IsStanding stands high → IsSomeAnd (kept_stand stand high).root (λ r. IsSomeAnd (last_turn r.trail.closed) (λ t. t.tests ≡ n))
-    → AreTold rest stand high n
-are_told rest stand stands (Idle p) n standing told = absurd standing
-are_told rest stand stands (Kept h) n standing told = told
-are_told rest stand stands Away n standing told = absurd standing
+use Rattle.clof_compose.proofs.Released.{bit_is, noted_is, noted_kept, may_release_above, may_leave_here, closes_here, left_over, left_kept}
 
 module _ {P Pass Held : Type 0} (rest : Pass → Rest) (stand : Held → Stand (Root P)) (stands : Held → Type 0) (put : Held → Root P
     → Held) (calls : P → List ℕ) (tag : P → Tag)
@@ -87,10 +79,14 @@ module _ {P Pass Held : Type 0} (rest : Pass → Rest) (stand : Held → Stand (
           (may_leave_here calls tag (kept_stand stand high).context.tag level keep node yes r r₁ rel payload noted lawful was kept answered
           below kept_is)
 
-      pub closes_kept : (n : ℕ) → n ≡ tests_of r₁'.trail.current → IsSomeAnd (kept_stand stand high).root (ClosesWith level n)
-      closes_kept n e = subst (λ (o : Option (Root P)). IsSomeAnd o (ClosesWith level n)) (sym value)
+      pub closes_kept : (n : Report) → n.tests ≡ tests_of r₁'.trail.current → n.receipt.name ≡ r₁'.trail.receipts
+          → n.receipt.tests ≡ all_tests r₁'.trail.closed ++ n.tests ∷ []
+          → IsSomeAnd (kept_stand stand high).root (ClosesWith level n)
+      closes_kept n e own told = subst (λ (o : Option (Root P)). IsSomeAnd o (ClosesWith level n)) (sym value)
           (closes_here calls tag (kept_stand stand high).context.tag level keep node yes r r₁ rel payload noted lawful was kept answered
-          below kept_is n (e ∙ ap (λ (q : Root P). tests_of q.trail.current) (sym root_same) ∙ ap tests_of turn_is))
+          below kept_is n (e ∙ ap (λ (q : Root P). tests_of q.trail.current) (sym root_same) ∙ ap tests_of turn_is)
+          (own ∙ ap (λ (q : Root P). q.trail.receipts) (sym root_same))
+          (told ∙ ap (λ (q : Root P). all_tests q.trail.closed ++ n.tests ∷ []) (sym root_same)))
 
       module _ (others₁ : (x : Root P) → kept_stand stand (high_with_root put high₁ x) ≡ record (kept_stand stand high₁) { root = Some x })
           (stays₁ : (x : Root P) → IsKept calls (kept_stand stand high₁).context.level r₁' x
@@ -140,10 +136,3 @@ module _ {P Pass Held : Type 0} (rest : Pass → Rest) (stand : Held → Stand (
             Context). x.level) context_left ∙ above) (ap (λ (x : Context). x.number) context_left ∙ number) answered
             (some_with (IsHandedOver calls tag (kept_stand stand (high_with_root put high₁ r₂)).context.tag level node (kept + 1))
             (kept_stand stand high₁) (kept_stand stand (high_with_root put high₁ r₂)) r₂ (others₁ r₂) over')
-
-        pub told_left : (n : ℕ) → n ≡ tests_of r₁'.trail.current → AreTold rest stand (high_with_root put high₁ r₂) n
-        told_left n e = are_told rest stand stands (high_with_root put high₁ r₂) n stands_left
-            (some_with (λ (q : Root P). IsSomeAnd (last_turn q.trail.closed) (λ u. u.tests ≡ n)) (kept_stand stand high₁) (kept_stand stand
-            (high_with_root put high₁ r₂)) r₂ (others₁ r₂) (left_told calls tag (kept_stand stand high).context.tag level keep node yes r r₁
-            rel payload noted lawful was kept answered below kept_is r₂ payload₃ trail₃ lawful₂ n
-            (e ∙ ap (λ (q : Root P). tests_of q.trail.current) (sym root_same) ∙ ap tests_of turn_is)))

@@ -103,6 +103,7 @@ pub kept_higher : {P : Type 0} (calls : P → List ℕ) (level above : ℕ) (old
     → IsKept calls above old new
 kept_higher calls level above old new h k = record {
   name = k.name;
+  receipts = k.receipts;
   shape = k.shape;
   quotas = k.quotas;
   more = k.more;

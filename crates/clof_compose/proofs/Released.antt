@@ -1,7 +1,7 @@
 -- How a node's holder notes the answer of `waiter`, and keeps the high lock or not.
 use Rattle.std.proofs.Common.{◌≡◌, ℕ, ◌+◌, ◌<◌, Bool, true, false, List, [], ◌∷◌, ◌++◌, refl, ap, sym, ◌∙◌, subst, arith}
 use Rattle.std.proofs.Common.{Option, Some, None}
-use Rattle.std.specs.Prelude.{All, IfSome, IsSomeAnd, option_map, slice_index}
+use Rattle.std.specs.Prelude.{All, IfSome, option_map, slice_index}
 use Rattle.std.specs.Int.{bit_at}
 use Rattle.std.proofs.lemmas.List.{append-nil}
 use Rattle.std.proofs.lemmas.List.Elements.{All-nil, All-cons}
@@ -12,16 +12,17 @@ use Rattle.lock_rules.specs.Tag.{Tag}
 use Rattle.keep_local.specs.declared.turn.Turn.{Turn}
 use Rattle.keep_local.specs.Shapes.{top_of, callers_of, node_of}
 use Rattle.keep_local.specs.Turns.{run, last_turn, Ends, IsDue}
-use Rattle.keep_local.specs.States.{TrailState, IsTrail, IsNoting, MayLeave, callers_in, all_turns, option_list, left_at, tested}
+use Rattle.keep_local.specs.States.{TrailState, IsTrail, IsNoting, MayLeave, callers_in, all_tests, all_turns, option_list, left_at, tested}
 use Rattle.keep_local.proofs.Runs.{run_same}
 use Rattle.keep_local.proofs.Trails.{with_test_other, with_test_same}
 use Rattle.clof_compose.specs.Calls.{ClosesWith, MayRelease, SameBelow}
 use Rattle.clof_compose.specs.Owns.{IsHandedOver, bit_of}
 use Rattle.clof_compose.specs.Releases.{IsReleasing}
 use Rattle.clof_compose.specs.Roots.{root_tag, IsKept}
+use Rattle.clof_compose.specs.declared.report.Report.{Report}
 use Rattle.clof_compose.specs.declared.root.Root.{Root}
 use Rattle.clof_compose.proofs.Begun.{all_last, last_push, leaves_at_level}
-use Rattle.clof_compose.proofs.Closes.{ends_at}
+use Rattle.clof_compose.proofs.Closes.{closes_now, ends_at}
 use Rattle.clof_compose.proofs.Tops.{calls_closed, closed_is}
 
 callers_noted : (turns : List Turn) (t u : Turn) → t.caller ≡ u.caller → callers_in (turns ++ t ∷ []) ≡ callers_in (turns ++ u ∷ [])
@@ -86,6 +87,7 @@ module _ {P : Type 0} (calls : P → List ℕ) (tag : P → Tag) (t : Tag) (leve
   pub noted_kept : (above : ℕ) → IsKept calls above r r₁
   noted_kept above = record {
     name = ap (λ (s : TrailState). s.name) noted_is;
+    receipts = ap (λ (s : TrailState). s.receipts) noted_is;
     shape = shape_same;
     quotas = ap (λ (s : TrailState). s.quotas) noted_is;
     more = [];
@@ -146,20 +148,15 @@ module _ {P : Type 0} (calls : P → List ℕ) (tag : P → Tag) (t : Tag) (leve
         may_leave_noted
 
     -- with the tests that it has then
-    pub closes_here : (n : ℕ) → n ≡ noted_turn.tests → ClosesWith level n r
-    closes_here n e =
+    pub closes_here : (n : Report) → n.tests ≡ noted_turn.tests → n.receipt.name ≡ r₁.trail.receipts
+        → n.receipt.tests ≡ all_tests r₁.trail.closed ++ n.tests ∷ [] → ClosesWith level n r
+    closes_here n e own told =
         let noting : IsNoting r₁.trail.shape r₁.trail.noted noted_turn = subst (λ (o : Option Turn). IfSome o (IsNoting r₁.trail.shape
         r₁.trail.noted)) (ap (λ (s : TrailState). s.current) noted_is) lawful.noting in
         let ends : Ends r.trail.shape r.trail.closed (left_at noted_turn level) = subst (λ (s : TrailState). Ends s.shape s.closed
         (left_at noted_turn level)) noted_is (ends_at r₁.trail noted_turn level may_leave_noted noting) in
-        subst (λ (m : ℕ). ClosesWith level m r) (sym e) (record {
-          turn = is.turn;
-          now = is.now;
-          same = below_same;
-          left = level;
-          above = omega arith;
-          ends = ends;
-        })
+        closes_now level n r is.turn noted_turn.tests is.now below_same e ends (own ∙ ap (λ (s : TrailState). s.receipts) noted_is)
+        (told ∙ ap (λ (s : TrailState). all_tests s.closed ++ n.tests ∷ []) noted_is)
 
     module _ (r₂ : Root P) (payload' : r₂.payload ≡ r₁.payload)
         (trail' : r₂.trail ≡ record r₁.trail {
@@ -192,14 +189,10 @@ module _ {P : Type 0} (calls : P → List ℕ) (tag : P → Tag) (t : Tag) (leve
             kept_is = omega (arith, counted, before, after, kept_is);
           }
 
-      -- the last turn has the tests that it was closed with
-      pub left_told : (n : ℕ) → n ≡ noted_turn.tests → IsSomeAnd (last_turn r₂.trail.closed) (λ u. u.tests ≡ n)
-      left_told n e = subst (λ (o : Option Turn). IsSomeAnd o (λ u. u.tests ≡ n)) (sym (ap (λ (s : TrailState). last_turn s.closed) left_is
-          ∙ last_push r₁.trail.closed (left_at noted_turn level))) (sym e)
-
       pub left_kept : (above : ℕ) → level < above → IsKept calls above r₁ r₂
       left_kept above h = record {
         name = ap (λ (s : TrailState). s.name) left_is;
+        receipts = ap (λ (s : TrailState). s.receipts) left_is;
         shape = ap (λ (s : TrailState). s.shape) left_is;
         quotas = ap (λ (s : TrailState). s.quotas) left_is;
         more = left_at noted_turn level ∷ [];

@@ -8,5 +8,5 @@ use Rattle.clof_compose.specs.declared.stage.LeaveStage.TheVariants.{Low, High}
 
 pub leave_node : {P L Pass Held HL : Type 0} (low : L → Waiting) (high : HL → Descent) (level node number : ℕ) (s : LeaveStage P L Pass
     Held HL) → (leave_descent low high level node number s).context.node ≡ node
-leave_node low high level node number (Low l tests) = refl
+leave_node low high level node number (Low l report) = refl
 leave_node low high level node number (High held l) = refl

@@ -1,15 +1,16 @@
 -- What the calls of a composed lock ask and promise.
-use Rattle.std.specs.Prelude.{◌≡◌, ℕ, ◌+◌, ◌<◌, ◌≤◌, ◌⊎◌, false, List, Option, Some, None}
+use Rattle.std.specs.Prelude.{◌≡◌, ℕ, ◌+◌, ◌<◌, ◌≤◌, ◌⊎◌, false, List, [], ◌∷◌, ◌++◌, Option, Some, None}
 use Rattle.std.specs.Int.{bit_at}
 use Rattle.lock_rules.specs.Tag.{Tag}
 use Rattle.keep_local.specs.declared.turn.Turn.{Turn}
 use Rattle.keep_local.specs.Shapes.{callers_of}
 use Rattle.keep_local.specs.Turns.{Ends, IsDue}
-use Rattle.keep_local.specs.States.{TrailState, ShareState, IsTrail, IsShareOf, all_turns, callers_in}
+use Rattle.keep_local.specs.States.{TrailState, ShareState, IsTrail, IsShareOf, all_tests, all_turns, callers_in, tests_of}
 use Rattle.clof_compose.specs.Contexts.{IsContextOf}
 use Rattle.clof_compose.specs.Courses.{Course}
 use Rattle.clof_compose.specs.Meanings.{Climb, Descent}
 use Rattle.clof_compose.specs.Roots.{root_tag}
+use Rattle.clof_compose.specs.declared.report.Report.{Report}
 use Rattle.clof_compose.specs.declared.root.Root.{Root}
 
 -- the share is one of the trail, may make another turn, and is that of a caller under this context of a lock of this level
@@ -61,22 +62,20 @@ module _ {P : Type 0} (calls : P → List ℕ) (tag : P → Tag) where
     pub noted : r.trail.noted ≡ level
     pub undue : (j : ℕ) → j < level → ¬ IsDue r.trail.shape r.trail.closed turn.tests j
 
--- the tests of the open turn, 0 where there is none
-abbrev pub tests_of : Option Turn → ℕ
-tests_of None = 0
-tests_of (Some t) = t.tests
-
 module _ {P : Type 0} where
   abbrev pub tests_in : Option (Root P) → ℕ
   tests_in None = 0
   tests_in (Some r) = tests_of r.trail.current
 
-  -- With these tests the open turn of the root closes as a release by a holder of a lock of this level closes it: below the level they are
-  -- as they were noted, and with some level to leave at, this one or a higher one, the turn ends lawfully behind the closed ones
-  pub record ClosesWith (level tests : ℕ) (r : Root P) : Type 0 where
+  -- The open turn of the root was closed as a release by a holder of a lock of this level closes it, and the report is that of this turn:
+  -- below the level its tests are as they were noted, it ends lawfully behind the closed ones at this level or a higher one, and the root's
+  -- trail gave a receipt of their tests and this turn's
+  pub record ClosesWith (level : ℕ) (report : Report) (r : Root P) : Type 0 where
     pub turn : Turn
     pub now : r.trail.current ≡ Some turn
-    pub same : SameBelow level turn.tests tests
+    pub same : SameBelow level turn.tests report.tests
     pub left : ℕ
     pub above : level ≤ left
-    pub ends : Ends r.trail.shape r.trail.closed (record turn { tests = tests; left = left })
+    pub ends : Ends r.trail.shape r.trail.closed (record turn { tests = report.tests; left = left })
+    pub own : report.receipt.name ≡ r.trail.receipts
+    pub told : report.receipt.tests ≡ all_tests r.trail.closed ++ report.tests ∷ []

@@ -5,9 +5,10 @@ use Rattle.lock_rules.specs.Tag.{Tag, leaf, fork}
 use Rattle.lock_rules.specs.Views.{tree_of}
 use Rattle.keep_local.specs.declared.shape.Shape.{Shape}
 
--- the name of a trail, its shape and its quotas, and the payload's tag
+-- what names a trail, its table and that of its receipts, its shape and its quotas, and the payload's tag
 pub record Course : Type 0 where
   pub name : TableId
+  pub receipts : TableId
   pub shape : Shape
   pub quotas : List ℕ
   pub payload : Tag
@@ -61,14 +62,18 @@ name_from l0 = let l1 = tail_of l0 in let l2 = tail_of l1 in let l3 = tail_of l2
 
 -- a course written as a tag
 unfoldable pub course_tag : Course → Tag
-course_tag c = fork (tree_of_name c.name) (fork (tree_of_lists c.shape.paths) (fork (tree_of c.shape.keeps) (fork (tree_of c.quotas)
-    c.payload)))
+course_tag c = fork (tree_of_name c.name) (fork (tree_of_name c.receipts) (fork (tree_of_lists c.shape.paths) (fork (tree_of c.shape.keeps)
+    (fork (tree_of c.quotas) c.payload))))
 
 -- the course that a tag names
 unfoldable pub course_of : Tag → Course
 course_of t = record {
   name = name_from (list_in (left_of t));
-  shape = record { paths = lists_in (left_of (right_of t)); keeps = list_in (left_of (right_of (right_of t))) };
-  quotas = list_in (left_of (right_of (right_of (right_of t))));
-  payload = right_of (right_of (right_of (right_of t)));
+  receipts = name_from (list_in (left_of (right_of t)));
+  shape = record {
+    paths = lists_in (left_of (right_of (right_of t)));
+    keeps = list_in (left_of (right_of (right_of (right_of t))));
+  };
+  quotas = list_in (left_of (right_of (right_of (right_of (right_of t)))));
+  payload = right_of (right_of (right_of (right_of (right_of t))));
 }

@@ -1,9 +1,9 @@
 -- What the tokens of a level mean.
-use Rattle.std.specs.Prelude.{◌≡◌, ℕ, ◌+◌, ◌<◌, Bool, None, IfSome, IsSomeAnd}
+use Rattle.std.specs.Prelude.{◌≡◌, ℕ, ◌+◌, ◌<◌, Bool, None, IfSome}
 use Rattle.std.specs.Int.{bit_at}
 use Rattle.lock_rules.specs.Tag.{Tag}
 use Rattle.lock_rules.specs.Meanings.{Place}
-use Rattle.keep_local.specs.Turns.{run, last_turn}
+use Rattle.keep_local.specs.Turns.{run}
 use Rattle.clof_compose.specs.Contexts.{Context, own_tag, root_tag_in}
 use Rattle.clof_compose.specs.Meanings.{Rest, Climb, Stand, Descent}
 use Rattle.clof_compose.specs.Owns.{bit_of, no_context}
@@ -38,14 +38,6 @@ module _ {P Pass Held : Type 0} where
   abbrev pub own_with_root : (Held → Root P → Held) → Own P Pass Held → Root P → Own P Pass Held
   own_with_root put o r = record o { high = high_with_root put o.high r }
 
-module _ {P Pass Held : Type 0} (rest : Pass → Rest) (stand : Held → Stand (Root P)) where
-  -- these are the tests of the turn that the last release closed: of the root's last turn where the high lock is kept, and else those that
-  -- the pass came back with
-  abbrev pub AreTold : High Pass Held → ℕ → Type 0
-  AreTold (Idle p) tests = (rest p).tests ≡ tests
-  AreTold (Kept h) tests = IsSomeAnd (stand h).root (λ r. IsSomeAnd (last_turn r.trail.closed) (λ t. t.tests ≡ tests))
-  AreTold Away tests = ⊥
-
 -- the high lock's holder stands, what the level keeps of it is right, and nobody was asked yet in this hold
 pub record IsHolding {P : Type 0} (level node kept : ℕ) (tag_is : Tag) (stands : Type 0) (s : Stand (Root P)) : Type 0 where
   pub stands_is : stands
@@ -65,7 +57,7 @@ pub record IsDescending (level node : ℕ) (said : Bool) (tag_is : Tag) (descend
   pub above : level < d.level
   pub context_above : d.context.level ≡ level + 1
   pub tag_same : own_tag node d.context ≡ tag_is
-  pub said_is : bit_at d.tests level ≡ bit_of said
+  pub said_is : bit_at d.report.tests level ≡ bit_of said
 
 module _ {P Pass Held : Type 0} where
   -- the value has the pass of its context again, which has these tests
@@ -73,4 +65,4 @@ module _ {P Pass Held : Type 0} where
     pub pass : Pass
     pub value_is : after ≡ record before { high = Idle pass }
     pub context_is : (rest pass).context ≡ context
-    pub tests_is : (rest pass).tests ≡ tests
+    pub tests_is : (rest pass).report.tests ≡ tests

@@ -10,3 +10,4 @@ pub mod Levels
 pub mod Stages
 pub mod Nodes
 pub mod Releases
+pub mod Reports

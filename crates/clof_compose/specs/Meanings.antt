@@ -1,11 +1,12 @@
 -- What the tokens of a composed lock mean.
 use Rattle.std.specs.Prelude.{ℕ, Bool, Option}
 use Rattle.clof_compose.specs.Contexts.{Context}
+use Rattle.clof_compose.specs.declared.report.Report.{Report}
 
--- a pass: the tests of the turn that its last release closed, 0 for a pass as it was made
+-- a pass: what its last release told of the turn that it closed
 pub record Rest : Type 0 where
   pub context : Context
-  pub tests : ℕ
+  pub report : Report
 
 -- a queue: the level at which it waits, and what the basic token there has: how many loads it recorded, and whether the last one showed
 -- the word that it waits for
@@ -20,10 +21,10 @@ pub record Stand (R : Type 0) : Type 0 where
   pub context : Context
   pub root : Option R
 
--- a pass that leaves, as a queue; the tests are those of the turn that was closed
+-- a pass that leaves, as a queue, and what its release tells
 pub record Descent : Type 0 where
   pub context : Context
   pub level : ℕ
   pub loads : ℕ
   pub ready : Bool
-  pub tests : ℕ
+  pub report : Report

@@ -93,4 +93,4 @@ module _ {B L : Type 0} (name tag : B → Tag) (place : L → Place) where
     pub number_is : p.id.number ≡ k
     pub node_is : slice_get parents k ≡ Some p.id.node
     pub falls : FallsTo name tag parents locks k (place p.low)
-    pub fresh : p.tests ≡ 0
+    pub fresh : p.report.tests ≡ 0

@@ -24,7 +24,7 @@ pub record IsIdle (node : ℕ) (said : Bool) (r : Rest) : Type 0 where
   pub level : ℕ
   pub above : r.context.level ≡ level + 1
   pub number_is : r.context.number ≡ node
-  pub said_is : bit_at r.tests level ≡ bit_of said
+  pub said_is : bit_at r.report.tests level ≡ bit_of said
 
 module _ {P : Type 0} (calls : P → List ℕ) (tag : P → Tag) where
   -- the root as a level keeps it: its last turn left at the level, and is of a caller under the node

@@ -9,9 +9,15 @@ use Rattle.clof_compose.specs.Courses.{Course, course_tag}
 use Rattle.clof_compose.specs.declared.root.Root.{Root}
 
 module _ {P : Type 0} (tag : P → Tag) where
-  -- the name, the shape and the quotas of the trail, and the payload's tag
+  -- what names the trail, its shape and its quotas, and the payload's tag
   abbrev pub root_course : Root P → Course
-  root_course r = record { name = r.trail.name; shape = r.trail.shape; quotas = r.trail.quotas; payload = tag r.payload }
+  root_course r = record {
+    name = r.trail.name;
+    receipts = r.trail.receipts;
+    shape = r.trail.shape;
+    quotas = r.trail.quotas;
+    payload = tag r.payload;
+  }
 
   abbrev pub root_tag : Root P → Tag
   root_tag r = course_tag (root_course r)
@@ -37,6 +43,7 @@ module _ {P : Type 0} (calls : P → List ℕ) where
   -- lower
   pub record IsKept (level : ℕ) (old new : Root P) : Type 0 where
     pub name : new.trail.name ≡ old.trail.name
+    pub receipts : new.trail.receipts ≡ old.trail.receipts
     pub shape : new.trail.shape ≡ old.trail.shape
     pub quotas : new.trail.quotas ≡ old.trail.quotas
     pub more : List Turn

@@ -31,13 +31,13 @@ module _ {P Q Pass Held HQ : Type 0} where
 
 module _ {P L Pass Held HL : Type 0} where
   abbrev pub leave_descent : (L → Waiting) → (HL → Descent) → ℕ → ℕ → ℕ → LeaveStage P L Pass Held HL → Descent
-  leave_descent low high level node number (leave.Low l tests) = record {
+  leave_descent low high level node number (leave.Low l report) = record {
     context = level_context level node number (low l).place;
     level
         = level;
     loads = (low l).loads;
     ready = (low l).ready;
-    tests = tests;
+    report = report;
   }
   leave_descent low high level node number (leave.High held l) = record (high l) {
     context = level_context level node number (holder_of
@@ -45,6 +45,6 @@ module _ {P L Pass Held HL : Type 0} where
   }
 
   abbrev pub IsLeaving : (L → Type 0) → (HL → Descent) → (HL → Type 0) → ℕ → LeaveStage P L Pass Held HL → Type 0
-  IsLeaving rests high descends level (leave.Low l tests) = rests l
+  IsLeaving rests high descends level (leave.Low l report) = rests l
   IsLeaving rests high descends level (leave.High held l) = IsDescending level held.value.node held.value.said (holder_of held).place.tag
       (descends l) (high l) × (answer_of held.value.said ≡ (holder_of held).tested)

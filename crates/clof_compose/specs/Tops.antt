@@ -6,6 +6,7 @@ use Rattle.lock_rules.specs.Passes.{IsOf}
 use Rattle.keep_local.specs.Shapes.{top_of}
 use Rattle.clof_compose.specs.Contexts.{Context}
 use Rattle.clof_compose.specs.Courses.{course_of}
+use Rattle.clof_compose.specs.Reports.{no_report}
 use Rattle.clof_compose.specs.declared.top_tokens.TopPass.{TopPass}
 
 -- a context of the top lock has the pass of its number, under the one node 0, and the lock's tag is the root's
@@ -25,8 +26,8 @@ pub record IsOfTop (level : ℕ) (name tag : Tag) (c : Context) : Type 0 where
 
 -- a pass as it is made
 abbrev pub fresh_pass : {L : Type 0} → ℕ → L → TopPass L
-fresh_pass level low = record { low = low; level = level; tests = 0 }
+fresh_pass level low = record { low = low; level = level; report = no_report }
 
 -- passes that have released nothing yet
 abbrev pub AreFresh : {L : Type 0} → List (TopPass L) → Type 0
-AreFresh passes = All (λ p. p.tests ≡ 0) passes
+AreFresh passes = All (λ p. p.report.tests ≡ 0) passes

@@ -92,9 +92,9 @@ pub trait Composed<P: Payload>: Sized {
         ensures descends { IfNot result (λ l. Self.Leave.descends l) }
         ensures above { IfNot result (λ l. level self.now ≤ (Self.Leave.descent l).level) }
         ensures noted { IfNot result (λ l. IsSomeAnd (Self.Held.stand held).root (ClosesWith (level self.now)
-            (Self.Leave.descent l).tests)) }
+            (Self.Leave.descent l).report)) }
         ensures pass { IfGot result (λ p. (Self.Pass.rest p).context ≡ (Self.Held.stand held).context) }
-        ensures tests { IfGot result (λ p. IsSomeAnd (Self.Held.stand held).root (ClosesWith (level self.now) (Self.Pass.rest p).tests)) };
+        ensures tests { IfGot result (λ p. IsSomeAnd (Self.Held.stand held).root (ClosesWith (level self.now) (Self.Pass.rest p).report)) };
 
     /// Goes on with a release. The answer is `Not` only where it leaves at a lower level now, or where the one load of this call at that
     /// level, which the token
@@ -107,9 +107,9 @@ pub trait Composed<P: Payload>: Sized {
         ensures descends { IfNot result (λ l. Self.Leave.descends l) }
         ensures above { IfNot result (λ l. level self.now ≤ (Self.Leave.descent l).level) }
         ensures waits { IfNot result (λ l. HasDescended (Self.Leave.descent leave) (Self.Leave.descent l)) }
-        ensures noted { IfNot result (λ l. (Self.Leave.descent l).tests ≡ (Self.Leave.descent leave).tests) }
+        ensures noted { IfNot result (λ l. (Self.Leave.descent l).report ≡ (Self.Leave.descent leave).report) }
         ensures pass { IfGot result (λ p. (Self.Pass.rest p).context ≡ (Self.Leave.descent leave).context) }
-        ensures tests { IfGot result (λ p. (Self.Pass.rest p).tests ≡ (Self.Leave.descent leave).tests) };
+        ensures tests { IfGot result (λ p. (Self.Pass.rest p).report ≡ (Self.Leave.descent leave).report) };
 
     /// Waits until the pass holds the lock.
     fn acquire<R: Wait>(&self, rt: &R, pass: Self::Pass, share: &mut Share) -> Self::Held
@@ -129,7 +129,7 @@ pub trait Composed<P: Payload>: Sized {
         requires root { IsSomeAnd (Self.Held.stand held).root (MayRelease P.calls P.tag (tag self.now) (level self.now)
             (Self.Held.stand held).context.number) }
         ensures pass { (Self.Pass.rest result).context ≡ (Self.Held.stand held).context }
-        ensures tests { IsSomeAnd (Self.Held.stand held).root (ClosesWith (level self.now) (Self.Pass.rest result).tests) };
+        ensures tests { IsSomeAnd (Self.Held.stand held).root (ClosesWith (level self.now) (Self.Pass.rest result).report) };
 
     /// Takes the lock apart, with all its passes in the order of their numbers.
     fn close(self, passes: Vec<Self::Pass>) -> Root<P>

@@ -111,12 +111,12 @@ impl<
                 stage: LeaveStage::High(low, leave),
                 id,
             }),
-            Step::Got((low, tests)) => match lock.begin_release(low) {
+            Step::Got((low, report)) => match lock.begin_release(low) {
                 Step::Not(low) => Step::Not(LevelLeave {
-                    stage: LeaveStage::Low(low, tests),
+                    stage: LeaveStage::Low(low, report),
                     id,
                 }),
-                Step::Got(low) => Step::Got(LevelPass { low, id, tests }),
+                Step::Got(low) => Step::Got(LevelPass { low, id, report }),
             },
         }
     }
@@ -127,8 +127,8 @@ impl<
     ) -> Step<LevelLeave<P, B::Leave, H::Pass, H::Held, H::Leave>, LevelPass<B::Pass>> {
         let LevelLeave { stage, id } = leave;
         let lock = lock_of(&self.nodes, id.node);
-        let (left, tests) = match stage {
-            LeaveStage::Low(low, tests) => (lock.poll_release(low), tests),
+        let (left, report) = match stage {
+            LeaveStage::Low(low, report) => (lock.poll_release(low), report),
             LeaveStage::High(mut low, leave) => match self.high.poll_release(leave) {
                 Step::Not(leave) => {
                     return Step::Not(LevelLeave {
@@ -137,17 +137,17 @@ impl<
                     });
                 }
                 Step::Got(pass) => {
-                    let tests = put_back(&mut low.value, pass);
-                    (lock.begin_release(low), tests)
+                    let report = put_back(&mut low.value, pass);
+                    (lock.begin_release(low), report)
                 }
             },
         };
         match left {
             Step::Not(low) => Step::Not(LevelLeave {
-                stage: LeaveStage::Low(low, tests),
+                stage: LeaveStage::Low(low, report),
                 id,
             }),
-            Step::Got(low) => Step::Got(LevelPass { low, id, tests }),
+            Step::Got(low) => Step::Got(LevelPass { low, id, report }),
         }
     }
 
@@ -169,9 +169,9 @@ impl<
         let LevelHeld { mut low, id, .. } = held;
         let lock = lock_of(&self.nodes, id.node);
         low.value.said = lock.waiter(&mut low);
-        let tests = let_go_and_wait(&self.high, rt, &mut low.value, id.level, self.keep);
+        let report = let_go_and_wait(&self.high, rt, &mut low.value, id.level, self.keep);
         let low = lock.release(rt, low);
-        LevelPass { low, id, tests }
+        LevelPass { low, id, report }
     }
 
     fn close(self, passes: Vec<LevelPass<B::Pass>>) -> Root<P>

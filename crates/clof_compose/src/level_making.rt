@@ -17,6 +17,7 @@ use crate::level_tokens::LevelPass;
 use crate::node::Node;
 use crate::own::{High, Own};
 use crate::payload::Payload;
+use crate::report::Report;
 use crate::token::{Resting, Standing};
 use boxed_value::Boxed;
 use lock_rules::{Basic, Cargo, Held as Holds};
@@ -48,7 +49,7 @@ pub fn make_level<
     requires sound { H.sound high }
     requires above { H.level high ≡ level + 1 }
     requires all { AreAll (λ p. (H.Pass.rest p).context) (H.has high) (H.level high) (H.tag high) (H.count high) passes.items }
-    requires fresh { All (λ p. (H.Pass.rest p).tests ≡ 0) passes.items }
+    requires fresh { All (λ p. (H.Pass.rest p).report.tests ≡ 0) passes.items }
     requires shape { IsInShape (course_of (H.tag high)).shape level keep parents.now }
     requires contexts { AreContexts (course_of (H.tag high)).shape level (length parents.now) }
     requires nodes { AreContexts (course_of (H.tag high)).shape (level + 1) (H.count high) }
@@ -62,7 +63,7 @@ pub fn make_level<
     ensures passes { IfOk result (λ m. AreAll (λ p. level_context p.id.level p.id.node p.id.number (B.Pass.place p.low))
         (IsOfLevel B.name B.tag m.0.level m.0.parents.items (locks_of m.0.nodes.items)) m.0.level (H.tag m.0.high)
         (length m.0.parents.items) m.1.items) }
-    ensures fresh { IfOk result (λ m. All (λ p. p.tests ≡ 0) m.1.items) }
+    ensures fresh { IfOk result (λ m. All (λ p. p.report.tests ≡ 0) m.1.items) }
     ensures high { IfErr result (λ r. r.high ≡ high) }
     ensures returned { IfErr result (λ r. AreAll (λ p. (H.Pass.rest p).context) (H.has high) (H.level high) (H.tag high) (H.count high)
         r.passes.items) }
@@ -110,7 +111,7 @@ fn make_nodes<
     requires all { AreAll (λ p. (H.Pass.rest p).context) (H.has high.now) (H.level high.now) (H.tag high.now) (length passes.items)
         passes.items }
     requires above { 0 < H.level high.now }
-    requires fresh { All (λ p. (H.Pass.rest p).tests ≡ 0) passes.items }
+    requires fresh { All (λ p. (H.Pass.rest p).report.tests ≡ 0) passes.items }
     requires parents { (n : ℕ) → n < length passes.items → 0 < under parents.now n (length parents.now) }
     requires few { length parents.now < 2 ^ 32 }
     requires few_nodes { length passes.items ≤ 2 ^ 32 }
@@ -163,7 +164,7 @@ fn make_node<
     requires some { 0 < contexts }
     requires number { (Pass.rest pass).context.number ≡ number }
     requires above { 0 < (Pass.rest pass).context.level }
-    requires fresh { (Pass.rest pass).tests ≡ 0 }
+    requires fresh { (Pass.rest pass).report.tests ≡ 0 }
     ensures tag { IfOk result (λ n. B.tag n.lock ≡ own_tag number (Pass.rest pass).context) }
     ensures count { IfOk result (λ n. B.count n.lock ≡ contexts) }
     ensures lows { IfOk result (λ n. AreAllLow B.Pass.place (B.name n.lock) (B.tag n.lock) (B.count n.lock) n.list.items) }
@@ -226,7 +227,8 @@ fn give_passes<V: Cargo, B: Basic<V>>(
             node,
             number: number as u32,
         };
-        passes.push_reserved(LevelPass { low, id, tests: 0 });
+        let report = Report::blank();
+        passes.push_reserved(LevelPass { low, id, report });
     }
     passes.reverse();
     (nodes, passes)

@@ -10,6 +10,7 @@ use crate::context_id::ContextId;
 use crate::own::Own;
 use crate::own_cargo::kept_root;
 use crate::payload::Payload;
+use crate::report::Report;
 use crate::root::Root;
 use crate::stage::{LeaveStage, QueueStage};
 use crate::token::{Climbing, Descending, Resting, Standing};
@@ -19,7 +20,7 @@ use lock_rules::{Departing, Held as Holds, Holding, Placed, Queueing};
 pub struct LevelPass<L> {
     pub(crate) low: L,
     pub(crate) id: ContextId,
-    pub(crate) tests: u32,
+    pub(crate) report: Report,
 }
 
 #[derive(Drop)]
@@ -43,10 +44,14 @@ pub struct LevelLeave<P, L, Pass, Held, HL> {
 }
 
 impl<L: Placed> Resting for LevelPass<L> {
-    ghost rest = { λ p. record { context = level_context p.id.level p.id.node p.id.number (L.place p.low); tests = p.tests } };
+    ghost rest = { λ p. record { context = level_context p.id.level p.id.node p.id.number (L.place p.low); report = p.report } };
 
     fn tests(&self) -> u32 {
-        self.tests
+        self.report.tests
+    }
+
+    fn take_report(&mut self) -> Report {
+        self.report.take()
     }
 }
 

@@ -7,6 +7,7 @@ ghost use Rattle.clof_compose.specs.Roots.{root_tag, IsFit};
 ghost use Rattle.clof_compose.specs.Tops.{IsTop, IsOfTop, AreFresh, fresh_pass, top_context};
 
 use crate::payload::Payload;
+use crate::report::Report;
 use crate::root::Root;
 use crate::top::Top;
 use crate::top_tokens::TopPass;
@@ -57,7 +58,7 @@ fn top_passes<L: Placed>(mut lows: Vec<L>, mut list: Vec<TopPass<L>>, level: u32
         list.push_reserved(TopPass {
             low,
             level,
-            tests: 0,
+            report: Report::blank(),
         });
     }
     list.reverse();

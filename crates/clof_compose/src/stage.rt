@@ -1,6 +1,7 @@
 //! How far a token of a level has come.
 
 use crate::own::Own;
+use crate::report::Report;
 use lock_rules::Held as Holds;
 
 /// Queued at the level's own basic lock, or at the high lock with the node's value in hand.
@@ -10,9 +11,9 @@ pub enum QueueStage<P, Q, Pass, Held, HQ> {
     High(Holds<Own<P, Pass, Held>>, HQ),
 }
 
-/// Leaving the level's own basic lock, with the tests of the turn that was closed, or the high lock with the node's value in hand.
+/// Leaving the level's own basic lock, with what the release tells, or the high lock with the node's value in hand.
 #[derive(Drop)]
 pub enum LeaveStage<P, L, Pass, Held, HL> {
-    Low(L, u32),
+    Low(L, Report),
     High(Holds<Own<P, Pass, Held>>, HL),
 }

@@ -1,12 +1,14 @@
 //! What the tokens of a composed lock mean.
 ghost use Rattle.std.specs.Prelude.{◌≡◌, Some};
 ghost use Rattle.std.specs.Borrow.{Lends, sem};
+ghost use Rattle.keep_local.specs.States.{no_receipt};
 ghost use Rattle.clof_compose.specs.Meanings.{Rest, Climb, Stand, Descent};
 ghost use Rattle.clof_compose.specs.Roots.{IsKept};
 ghost use Rattle.clof_compose.specs.declared.root.Root.{Root as TheRoot};
 ghost use Rattle.clof_compose.specs.contracts.root.Root.{the_row};
 
 use crate::payload::Payload;
+use crate::report::Report;
 use crate::root::Root;
 
 /// A pass that isn't in use.
@@ -15,7 +17,12 @@ pub trait Resting: Drop {
 
     /// The tests of the turn that the last release closed, 0 before the first.
     fn tests(&self) -> u32
-        ensures { result ≡ (rest self.now).tests };
+        ensures { result ≡ (rest self.now).report.tests };
+
+    /// What the last release told. The pass keeps the tests, and has a receipt of no turn from then on.
+    fn take_report(&mut self) -> Report
+        ensures report { result ≡ (rest self.old).report }
+        ensures left { rest self.new ≡ record (rest self.old) { report = record (rest self.old).report { receipt = no_receipt } } };
 }
 
 /// A pass in the queue of some level.

@@ -83,10 +83,10 @@ impl<P: Payload, B: Basic<Root<P>, Held = Held<Root<P>>>> Composed<P> for Top<B,
     fn begin_release(&self, held: TopHeld<P>) -> Step<TopLeave<B::Leave>, TopPass<B::Pass>> {
         let level = self.level;
         let mut low = held.low;
-        let tests = close_turn(&mut low.value, level);
+        let report = close_turn(&mut low.value, level);
         match self.low.begin_release(low) {
-            Step::Not(low) => Step::Not(TopLeave { low, level, tests }),
-            Step::Got(low) => Step::Got(TopPass { low, level, tests }),
+            Step::Not(low) => Step::Not(TopLeave { low, level, report }),
+            Step::Got(low) => Step::Got(TopPass { low, level, report }),
         }
     }
 
@@ -94,10 +94,10 @@ impl<P: Payload, B: Basic<Root<P>, Held = Held<Root<P>>>> Composed<P> for Top<B,
         &self,
         leave: TopLeave<B::Leave>,
     ) -> Step<TopLeave<B::Leave>, TopPass<B::Pass>> {
-        let TopLeave { low, level, tests } = leave;
+        let TopLeave { low, level, report } = leave;
         match self.low.poll_release(low) {
-            Step::Not(low) => Step::Not(TopLeave { low, level, tests }),
-            Step::Got(low) => Step::Got(TopPass { low, level, tests }),
+            Step::Not(low) => Step::Not(TopLeave { low, level, report }),
+            Step::Got(low) => Step::Got(TopPass { low, level, report }),
         }
     }
 
@@ -117,9 +117,9 @@ impl<P: Payload, B: Basic<Root<P>, Held = Held<Root<P>>>> Composed<P> for Top<B,
     fn release<R: Wait>(&self, rt: &R, held: TopHeld<P>) -> TopPass<B::Pass> {
         let level = self.level;
         let mut low = held.low;
-        let tests = close_turn(&mut low.value, level);
+        let report = close_turn(&mut low.value, level);
         let low = self.low.release(rt, low);
-        TopPass { low, level, tests }
+        TopPass { low, level, report }
     }
 
     fn close(self, passes: Vec<TopPass<B::Pass>>) -> Root<P>

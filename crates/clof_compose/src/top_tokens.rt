@@ -6,6 +6,7 @@ ghost use Rattle.clof_compose.specs.Roots.{IsInHand};
 ghost use Rattle.clof_compose.specs.Tops.{top_context};
 
 use crate::payload::Payload;
+use crate::report::Report;
 use crate::root::Root;
 use crate::token::{Climbing, Descending, Resting, Standing};
 use lock_rules::{Departing, Held, Holding, Placed, Queueing};
@@ -14,7 +15,7 @@ use lock_rules::{Departing, Held, Holding, Placed, Queueing};
 pub struct TopPass<L> {
     pub(crate) low: L,
     pub(crate) level: u32,
-    pub(crate) tests: u32,
+    pub(crate) report: Report,
 }
 
 #[derive(Drop)]
@@ -35,14 +36,18 @@ pub struct TopHeld<P> {
 pub struct TopLeave<L> {
     pub(crate) low: L,
     pub(crate) level: u32,
-    pub(crate) tests: u32,
+    pub(crate) report: Report,
 }
 
 impl<L: Placed> Resting for TopPass<L> {
-    ghost rest = { λ p. record { context = top_context p.level (L.place p.low); tests = p.tests } };
+    ghost rest = { λ p. record { context = top_context p.level (L.place p.low); report = p.report } };
 
     fn tests(&self) -> u32 {
-        self.tests
+        self.report.tests
+    }
+
+    fn take_report(&mut self) -> Report {
+        self.report.take()
     }
 }
 
@@ -81,7 +86,7 @@ impl<L: Departing> Descending for TopLeave<L> {
       loads =
           (L.waiting l.low).loads;
       ready = (L.waiting l.low).ready;
-      tests = l.tests;
+      report = l.report;
     } };
 
     ghost descends = { λ l. L.rests l.low };

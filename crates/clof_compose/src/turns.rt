@@ -1,10 +1,10 @@
 //! The turns of a root, as a lock's calls open and close them.
-ghost use Rattle.std.specs.Prelude.{◌≡◌, ◌+◌, ◌<◌, ◌++◌, None, Some, IsSome, IfSome, option_map};
+ghost use Rattle.std.specs.Prelude.{◌≡◌, ◌+◌, ◌<◌, [], ◌∷◌, ◌++◌, None, Some, IsSome, IfSome, option_map};
 ghost use Rattle.keep_local.specs.Shapes.{top_of};
 ghost use Rattle.keep_local.specs.Turns.{Begins};
-ghost use Rattle.keep_local.specs.States.{IsTrail, IsShareOf, MayLeave, left_at, opened, option_list, tested};
-ghost use Rattle.clof_compose.specs.Calls.{tests_of};
+ghost use Rattle.keep_local.specs.States.{IsTrail, IsShareOf, MayLeave, all_tests, left_at, opened, option_list, tested, tests_of};
 
+use crate::report::Report;
 use crate::root::Root;
 use keep_local::Share;
 
@@ -23,8 +23,8 @@ pub(crate) fn open_turn<P>(root: &mut Root<P>, share: &mut Share, climb: u32)
     root.trail.open(share, climb);
 }
 
-/// Closes the open turn, which leaves at this level. The answer is its tests.
-pub(crate) fn close_turn<P>(root: &mut Root<P>, level: u32) -> u32
+/// Closes the open turn, which leaves at this level. The answer tells its tests, and has a receipt of those up to it.
+pub(crate) fn close_turn<P>(root: &mut Root<P>, level: u32) -> Report
     requires open { IsSome root.old.trail.current }
     requires may { IfSome root.old.trail.current (MayLeave root.old.trail level) }
     ensures payload { root.new.payload ≡ root.old.payload }
@@ -35,12 +35,15 @@ pub(crate) fn close_turn<P>(root: &mut Root<P>, level: u32) -> u32
       noted = 0;
     } }
     ensures lawful { IsTrail root.new.trail }
-    ensures tests { result ≡ tests_of root.old.trail.current }
+    ensures tests { result.tests ≡ tests_of root.old.trail.current }
+    ensures own { result.receipt.name ≡ root.old.trail.receipts }
+    ensures told { result.receipt.tests ≡ all_tests root.old.trail.closed ++ result.tests ∷ [] }
 {
     let turns = root.trail.turns();
     let tests = turns[turns.len() - 1].tests;
     root.trail.leave(level);
-    tests
+    let receipt = root.trail.receipt();
+    Report { tests, receipt }
 }
 
 /// Notes for the open turn whether somebody is queued behind at a level.

@@ -1,6 +1,7 @@
 pub mod Sums
 pub mod Counts
 pub mod Tied
+pub mod ReceiptKept
 pub mod Seated
 pub mod Splits
 pub mod Runs

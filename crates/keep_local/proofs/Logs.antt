@@ -11,8 +11,8 @@ use Rattle.keep_local.specs.declared.trail.Log.{Log}
 use Rattle.keep_local.specs.Shapes.{top_of}
 use Rattle.keep_local.specs.Turns.{run, turns_of, Begins}
 use Rattle.keep_local.specs.Views.{times}
-use Rattle.keep_local.specs.States.{ShareState, TieState, IsCounted, IsShareOf, IsTrail, MayLeave, all_turns, callers_in, opened, tested}
-use Rattle.keep_local.specs.States.{left_at}
+use Rattle.keep_local.specs.States.{NotesState, ShareState, TieState, IsCounted, IsShareOf, IsTrail, MayLeave, all_tests, all_turns, callers_in, opened, tested}
+use Rattle.keep_local.specs.States.{left_at, tests_of, with_test}
 use Rattle.keep_local.specs.Trails.{log_state, IsKept}
 use Rattle.keep_local.proofs.Runs.{run_same, run_lower, run_higher}
 use Rattle.keep_local.proofs.Trails.{none_past, whole, times_callers, trail_opened, trail_noted, trail_left}
@@ -44,11 +44,11 @@ length-callers (t ∷ ts) = ap suc (length-callers ts)
 pub log_opened : (l l' : Log) (share : ShareState) (climb : ℕ) → IsKept l → IsCounted l.tie share
     → length l.tie.callers < sum l.tie.quotas → (log_state l).current ≡ None
     → Begins l.shape (take l.closed l.turns.items) (opened (log_state l) share.caller climb)
-    → l'.tie ≡ record l.tie { callers = l.tie.callers ++ share.caller ∷ [] } → l'.shape ≡ l.shape
+    → l'.tie ≡ record l.tie { callers = l.tie.callers ++ share.caller ∷ [] } → l'.receipts ≡ l.receipts → l'.shape ≡ l.shape
     → l'.turns.items ≡ l.turns.items ++ opened (log_state l) share.caller climb ∷ [] → vec_capacity l.turns ≤ vec_capacity l'.turns
     → l'.closed ≡ l.closed → l'.noted ≡ l.noted → l'.runs ≡ l.runs
     → IsKept l' × (log_state l' ≡ record (log_state l) { current = Some (opened (log_state l) share.caller climb) })
-log_opened l l' share climb kept told room free begins tie shape turns capacity closed noted runs =
+log_opened l l' share climb kept told room free begins tie given shape turns capacity closed noted runs =
     let t : Turn = opened (log_state l) share.caller climb in
     let ts : List Turn = l.turns.items in
     let past = none_past ts l.closed free in
@@ -60,6 +60,7 @@ log_opened l l' share climb kept told room free begins tie shape turns capacity 
     let last : slice_get l'.turns.items l'.closed ≡ Some t = (λ i. slice_get (turns i) ((closed ∙ end) i)) ∙ last_of ts t in
     let state : log_state l' ≡ record (log_state l) { current = Some t } = λ i. record {
       name = (tie i).name;
+      receipts = (given i).name;
       shape = shape i;
       quotas = (tie i).quotas;
       closed = front i;
@@ -78,6 +79,9 @@ log_opened l l' share climb kept told room free begins tie shape turns capacity 
         trail = subst IsTrail (sym state) trail;
         callers = ap (λ (z : TieState). z.callers) tie ∙ ap (λ (cs : List ℕ). cs ++ share.caller ∷ []) kept.callers
             ∙ sym (map-append (λ (u : Turn). u.caller) ts (t ∷ [])) ∙ ap callers_in (sym turns);
+        recorded = ap (λ (z : NotesState). z.tests) given ∙ kept.recorded ∙ sym (ap all_tests front);
+        noting = ap (λ (z : NotesState). z.noting) given ∙ kept.noting ∙ ap tests_of free ∙ sym (ap tests_of last);
+        levels_noted = ap (λ (z : NotesState). z.noted) given ∙ kept.levels_noted ∙ sym noted;
         closed = omega (arith, closed, long, longer, within);
         open_one = omega (arith, closed, long, longer, past);
         room = let a = ap (λ (z : TieState). sum z.quotas) tie in let b = kept.room in omega (arith, a, b, capacity);
@@ -103,16 +107,19 @@ callers_set (x ∷ ts) (suc n) t u e same = ap (λ (cs : List ℕ). x.caller ∷
 -- the open turn is replaced, and nothing else that the table counts
 pub log_noted : (l l' : Log) (t : Turn) (level : ℕ) (queued : Bool) → IsKept l → slice_get l.turns.items l.closed ≡ Some t
     → level ≡ l.noted → level < top_of l.shape
-    → l'.tie ≡ l.tie → l'.shape ≡ l.shape → l'.turns.items ≡ set l.turns.items l.closed (tested t level queued)
+    → l'.tie ≡ l.tie
+    → l'.receipts ≡ record l.receipts { noting = with_test l.receipts.noting l.receipts.noted queued; noted = l.receipts.noted + 1 }
+    → l'.shape ≡ l.shape → l'.turns.items ≡ set l.turns.items l.closed (tested t level queued)
     → vec_capacity l.turns ≤ vec_capacity l'.turns → l'.closed ≡ l.closed → l'.noted ≡ level + 1 → l'.runs ≡ l.runs
     → IsKept l' × (log_state l' ≡ record (log_state l) { current = Some (tested t level queued); noted = level + 1 })
-log_noted l l' t level queued kept now next below tie shape turns capacity closed noted runs =
+log_noted l l' t level queued kept now next below tie given shape turns capacity closed noted runs =
     let u : Turn = tested t level queued in
     let ts : List Turn = l.turns.items in
     let front : take l'.closed l'.turns.items ≡ take l.closed ts = (λ i. take (closed i) (turns i)) ∙ take-set ts l.closed u in
     let last : slice_get l'.turns.items l'.closed ≡ Some u = (λ i. slice_get (turns i) (closed i)) ∙ set_there ts l.closed t u now in
     let state : log_state l' ≡ record (log_state l) { current = Some u; noted = level + 1 } = λ i. record {
       name = (tie i).name;
+      receipts = (given i).name;
       shape = shape i;
       quotas = (tie i).quotas;
       closed = front i;
@@ -127,6 +134,10 @@ log_noted l l' t level queued kept now next below tie shape turns capacity close
         trail = subst IsTrail (sym state) (trail_noted (log_state l) t level queued kept.trail now next below);
         callers = ap (λ (z : TieState). z.callers) tie ∙ kept.callers ∙ sym (callers_set ts l.closed t u now refl)
             ∙ ap callers_in (sym turns);
+        recorded = ap (λ (z : NotesState). z.tests) given ∙ kept.recorded ∙ sym (ap all_tests front);
+        noting = ap (λ (z : NotesState). z.noting) given ∙ (λ i. with_test ((kept.noting ∙ ap tests_of now) i) ((kept.levels_noted
+            ∙ sym next) i) queued) ∙ sym (ap tests_of last);
+        levels_noted = ap (λ (z : NotesState). z.noted) given ∙ ap (λ (n : ℕ). n + 1) (kept.levels_noted ∙ sym next) ∙ sym noted;
         closed = omega (arith, closed, long, same, within);
         open_one = omega (arith, closed, long, same, one);
         room = let a = ap (λ (z : TieState). sum z.quotas) tie in let b = kept.room in omega (arith, a, b, capacity);
@@ -154,11 +165,12 @@ runs_raised old new level turns u e raised were k h = dite (ℕ_discrete k level
 
 -- a turn is closed
 pub log_left : (l l' : Log) (t : Turn) (level : ℕ) → IsKept l → slice_get l.turns.items l.closed ≡ Some t → MayLeave (log_state l) level t
-    → l'.tie ≡ l.tie → l'.shape ≡ l.shape → l'.turns.items ≡ set l.turns.items l.closed (left_at t level)
+    → l'.tie ≡ l.tie → l'.receipts ≡ record l.receipts { tests = l.receipts.tests ++ l.receipts.noting ∷ []; noting = 0; noted = 0 } → l'.shape ≡ l.shape
+    → l'.turns.items ≡ set l.turns.items l.closed (left_at t level)
     → vec_capacity l.turns ≤ vec_capacity l'.turns → l'.closed ≡ l.closed + 1 → l'.noted ≡ 0
     → length l'.runs ≡ length l.runs → AreRaised l.runs l'.runs level
     → IsKept l' × (log_state l' ≡ record (log_state l) { closed = (log_state l).closed ++ left_at t level ∷ []; current = None; noted = 0 })
-log_left l l' t level kept now may tie shape turns capacity closed noted counters raised =
+log_left l l' t level kept now may tie given shape turns capacity closed noted counters raised =
     let u : Turn = left_at t level in
     let ts : List Turn = l.turns.items in
     let inside : l.closed < length ts = slice_get_within ts l.closed t now in
@@ -171,6 +183,7 @@ log_left l l' t level kept now may tie shape turns capacity closed noted counter
     slice_get_past l'.turns.items l'.closed (omega (arith, long, same, closed, one)) in
     let state : log_state l' ≡ record (log_state l) { closed = take l.closed ts ++ u ∷ []; current = None; noted = 0 } = λ i. record {
       name = (tie i).name;
+      receipts = (given i).name;
       shape = shape i;
       quotas = (tie i).quotas;
       closed = front i;
@@ -181,6 +194,10 @@ log_left l l' t level kept now may tie shape turns capacity closed noted counter
         trail = subst IsTrail (sym state) (trail_left (log_state l) t level kept.trail now may);
         callers = ap (λ (z : TieState). z.callers) tie ∙ kept.callers ∙ sym (callers_set ts l.closed t u now refl)
             ∙ ap callers_in (sym turns);
+        recorded = ap (λ (z : NotesState). z.tests) given ∙ (λ i. kept.recorded i ++ (kept.noting ∙ ap tests_of now) i ∷ [])
+            ∙ sym (map-append (λ (w : Turn). w.tests) (take l.closed ts) (u ∷ [])) ∙ sym (ap all_tests front);
+        noting = ap (λ (z : NotesState). z.noting) given ∙ sym (ap tests_of last);
+        levels_noted = ap (λ (z : NotesState). z.noted) given ∙ sym noted;
         closed = omega (arith, closed, long, same, inside);
         open_one = omega (arith, closed, long, same, one);
         room = let a = ap (λ (z : TieState). sum z.quotas) tie in let b = kept.room in omega (arith, a, b, capacity);

@@ -11,8 +11,8 @@ use Rattle.std.proofs.lemmas.List.{length-replicate, get_or-replicate}
 use Rattle.std.proofs.lemmas.List.Elements.{All-nil}
 use Rattle.keep_local.specs.Shapes.{IsWellFormed, top_of, callers_of}
 use Rattle.keep_local.specs.Turns.{run, Begins}
-use Rattle.keep_local.specs.States.{TrailState, ShareState, TieState, IsCounted, IsShareOf, IsTrail, MayLeave, option_list, callers_in}
-use Rattle.keep_local.specs.States.{new_trail, opened, with_test, tested, left_at}
+use Rattle.keep_local.specs.States.{TrailState, NotesState, ShareState, TieState, IsCounted, IsShareOf, IsTrail, MayLeave, option_list, callers_in}
+use Rattle.keep_local.specs.States.{all_tests, new_notes, new_trail, tests_of, opened, with_test, tested, left_at}
 use Rattle.keep_local.specs.Trails.{log_state, IsKept}
 use Rattle.keep_local.proofs.Counts.{times_same}
 use Rattle.keep_local.proofs.Trails.{blank, some_within, some_at}
@@ -63,7 +63,7 @@ turn_opened l s share share' climb tie turns caller top has free begins told roo
       tests = 0;
       left = top_is i;
     } ∷ [] in
-    let did = log_opened l l' share climb has.kept told room (ap (λ (z : TrailState). z.current) has.state ∙ free) begins' tie_is refl
+    let did = log_opened l l' share climb has.kept told room (ap (λ (z : TrailState). z.current) has.state ∙ free) begins' tie_is refl refl
     (items ∙ ap (λ (z : List Turn). l.turns.items ++ z) turn_is) (omega (arith, capacity)) refl refl refl in
     let counted : IsCounted tie share' =
     subst (λ (z : TieState × ShareState). IsCounted z.0 z.1) (λ i. (sym tie_is i, sym share_made i))
@@ -87,19 +87,25 @@ open_turn : (l : Log) (s : TrailState) (t : Turn) → HasState l s → IsSome s.
 open_turn l s t has is read = slice_get_read l.turns.items (length l.turns.items) l.closed t refl (now_open l s has is) read
 
 -- a level was noted
-pub level_noted : (l : Log) (s : TrailState) (t : Turn) (tests level : ℕ) (queued : Bool) → HasState l s → IsSome s.current
+pub level_noted : (l : Log) (s : TrailState) (t : Turn) (tests level : ℕ) (queued : Bool) (given : NotesState) → HasState l s
+    → IsSome s.current
+    → given ≡ record l.receipts { noting = with_test l.receipts.noting l.receipts.noted queued; noted = l.receipts.noted + 1 }
     → t ≡ get_or l.turns.items l.closed t → level ≡ s.noted → level < top_of s.shape
     → tests ≡ with_test t.tests level queued
-    → HasState (record l { turns = with_item l.turns l.closed (record t { tests = tests }); noted = level + 1 })
+    → HasState (record l { receipts = given; turns = with_item l.turns l.closed (record t { tests = tests }); noted = level + 1 })
     (record s { current = option_map (λ u. tested u level queued) s.current; noted = level + 1 })
-level_noted l s t tests level queued has is read next below did =
+level_noted l s t tests level queued given has is given_is read next below did =
     let now = open_turn l s t has is read in
     let next' : level ≡ l.noted = next ∙ ap (λ (z : TrailState). z.noted) (sym has.state) in
     let below' : level < top_of l.shape = subst (λ (z : TrailState). level < top_of z.shape) (sym has.state) below in
-    let l' : Log = record l { turns = with_item l.turns l.closed (record t { tests = tests }); noted = level + 1 } in
+    let l' : Log = record l {
+      receipts = given;
+      turns = with_item l.turns l.closed (record t { tests = tests });
+      noted = level + 1;
+    } in
     let items : l'.turns.items ≡ set l.turns.items l.closed (tested t level queued) =
     ap (λ (n : ℕ). set l.turns.items l.closed (record t { tests = n })) did in
-    let noted = log_noted l l' t level queued has.kept now next' below' refl refl items (omega arith) refl refl refl in
+    let noted = log_noted l l' t level queued has.kept now next' below' refl given_is refl items (omega arith) refl refl refl in
     let current : s.current ≡ Some t = ap (λ (z : TrailState). z.current) (sym has.state) ∙ now in
     record {
       kept = noted.0;
@@ -124,19 +130,31 @@ counter_fits l s level has is below =
     omega (arith, within, a, b, c, d, e, f)
 
 -- the turn was closed
-pub turn_left : (l : Log) (s : TrailState) (t : Turn) (level : ℕ) (runs : List ℕ) → HasState l s → IsSome s.current
-    → t ≡ get_or l.turns.items l.closed t → IfSome s.current (MayLeave s level)
+pub turn_left : (l : Log) (s : TrailState) (t : Turn) (level : ℕ) (runs : List ℕ) (given : NotesState) → HasState l s → IsSome s.current
+    → given ≡ record l.receipts { tests = l.receipts.tests ++ l.receipts.noting ∷ []; noting = 0; noted = 0 } → t ≡ get_or l.turns.items l.closed t → IfSome s.current (MayLeave s level)
     → length runs ≡ length l.runs → AreRaised l.runs runs level
-    → HasState (record l { turns = with_item l.turns l.closed (left_at t level); closed = l.closed + 1; noted = 0; runs = runs })
+    → HasState (record l {
+      receipts = given;
+      turns = with_item l.turns l.closed (left_at t level);
+      closed = l.closed + 1;
+      noted = 0;
+      runs = runs;
+    })
     (record s { closed = s.closed ++ option_list (option_map (λ u. left_at u level) s.current); current = None; noted = 0 })
-turn_left l s t level runs has is read may counters raised =
+turn_left l s t level runs given has is given_is read may counters raised =
     let now = open_turn l s t has is read in
     let current : s.current ≡ Some t = ap (λ (z : TrailState). z.current) (sym has.state) ∙ now in
     let may' : MayLeave (log_state l) level t =
     subst (λ (z : TrailState). MayLeave z level t) (sym has.state)
     (subst (λ (o : Option Turn). IfSome o (MayLeave s level)) current may) in
-    let l' : Log = record l { turns = with_item l.turns l.closed (left_at t level); closed = l.closed + 1; noted = 0; runs = runs } in
-    let left = log_left l l' t level has.kept now may' refl refl refl (omega arith) refl refl counters raised in
+    let l' : Log = record l {
+      receipts = given;
+      turns = with_item l.turns l.closed (left_at t level);
+      closed = l.closed + 1;
+      noted = 0;
+      runs = runs;
+    } in
+    let left = log_left l l' t level has.kept now may' refl given_is refl refl (omega arith) refl refl counters raised in
     record {
       kept = left.0;
       state = left.1 ∙ (λ i. record
@@ -162,18 +180,19 @@ left_within l s level has is may =
 
 -- a log before its first turn
 pub log_new : (l : Log) → IsWellFormed l.shape → callers_of l.shape < 2 ^ 32 → length l.tie.quotas ≡ callers_of l.shape
-    → sum l.tie.quotas < 2 ^ 32 → l.tie.callers ≡ [] → l.turns.items ≡ [] → l.closed ≡ 0 → l.noted ≡ 0
-    → sum l.tie.quotas ≤ vec_capacity l.turns → l.runs ≡ replicate 33 0 → HasState l (new_trail l.tie.name l.shape l.tie.quotas)
-log_new l shaped few quotas fits callers turns closed noted room runs =
-    let state : log_state l ≡ new_trail l.tie.name l.shape l.tie.quotas = λ i. record {
+    → sum l.tie.quotas < 2 ^ 32 → l.tie.callers ≡ [] → l.receipts ≡ new_notes l.receipts.name → l.turns.items ≡ [] → l.closed ≡ 0 → l.noted ≡ 0
+    → sum l.tie.quotas ≤ vec_capacity l.turns → l.runs ≡ replicate 33 0 → HasState l (new_trail l.tie.name l.receipts.name l.shape l.tie.quotas)
+log_new l shaped few quotas fits callers given turns closed noted room runs =
+    let state : log_state l ≡ new_trail l.tie.name l.receipts.name l.shape l.tie.quotas = λ i. record {
       name = l.tie.name;
+      receipts = l.receipts.name;
       shape = l.shape;
       quotas = l.tie.quotas;
       closed = take (closed i) (turns i);
       current = slice_get (turns i) (closed i);
       noted = noted i;
     } in
-    let trail : IsTrail (new_trail l.tie.name l.shape l.tie.quotas) = record {
+    let trail : IsTrail (new_trail l.tie.name l.receipts.name l.shape l.tie.quotas) = record {
       shaped = shaped;
       few = few;
       quotas = quotas;
@@ -188,6 +207,9 @@ log_new l shaped few quotas fits callers turns closed noted room runs =
       kept = record {
         trail = subst IsTrail (sym state) trail;
         callers = callers ∙ ap callers_in (sym turns);
+        recorded = ap (λ (z : NotesState). z.tests) given ∙ (λ i. all_tests (take (sym closed i) (sym turns i)));
+        noting = ap (λ (z : NotesState). z.noting) given ∙ (λ i. tests_of (slice_get (sym turns i) (sym closed i)));
+        levels_noted = ap (λ (z : NotesState). z.noted) given ∙ sym noted;
         closed = omega (arith, closed);
         open_one = omega (arith, closed, none);
         room = room;

@@ -38,7 +38,7 @@ set_at [] i x y e = absurd (some-ne-none x (sym e))
 set_at (z ∷ zs) zero x y e = refl
 set_at (z ∷ zs) (suc i) x y e = set_at zs i x y e
 
-one_at : {A : Type 0} (x y : A) (j : ℕ) → get_elem? (x ∷ []) j ≡ some y → (j ≡ 0) × (x ≡ y)
+pub one_at : {A : Type 0} (x y : A) (j : ℕ) → get_elem? (x ∷ []) j ≡ some y → (j ≡ 0) × (x ≡ y)
 one_at x y zero e = (refl, some-injective x y e)
 one_at x y (suc j) e = absurd (some-ne-none y (sym e))
 

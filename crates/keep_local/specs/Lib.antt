@@ -8,3 +8,7 @@ pub mod States
 pub mod Shares
 pub mod Ties
 pub mod Trails
+pub mod ReceiptViews
+pub mod ReceiptRule
+pub mod ReceiptSteps
+pub mod Receipts

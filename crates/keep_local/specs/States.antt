@@ -10,10 +10,11 @@ use Rattle.keep_local.specs.Views.{times}
 use Rattle.keep_local.specs.Shapes.{top_of, callers_of, IsWellFormed}
 use Rattle.keep_local.specs.Turns.{turns_of, IsLeft, IsLawfulTrail}
 
--- A trail: what tells its table from all others, its shape, the callers' quotas, the closed turns, the open turn, and how many levels
--- were noted for it
+-- A trail: what tells its table from all others, what tells the table of its receipts, its shape, the callers' quotas, the closed turns,
+-- the open turn, and how many levels were noted for it
 pub record TrailState : Type 0 where
   pub name : TableId
+  pub receipts : TableId
   pub shape : Shape
   pub quotas : List ℕ
   pub closed : List Turn
@@ -26,6 +27,29 @@ pub record ShareState : Type 0 where
   pub caller : ℕ
   pub made : ℕ
   pub quota : ℕ
+
+-- A receipt: the table that it comes from, and the tests of the turns that its trail had closed when it was given, in order
+pub record ReceiptState : Type 0 where
+  pub name : TableId
+  pub tests : List ℕ
+
+-- a receipt of no turn and no trail
+abbrev pub no_receipt : ReceiptState
+no_receipt = record {
+  name = record { words = 0; slots = 0; views_name = 0; atom = 0; block = 0; offset = 0; slot_names = [] };
+  tests = [];
+}
+
+-- What a trail keeps of the table of its receipts: its name, the tests of the closed turns, and those that were noted for the open turn so
+-- far, and for how many levels
+pub record NotesState : Type 0 where
+  pub name : TableId
+  pub tests : List ℕ
+  pub noting : ℕ
+  pub noted : ℕ
+
+abbrev pub new_notes : TableId → NotesState
+new_notes name = record { name = name; tests = []; noting = 0; noted = 0 }
 
 -- What a trail keeps of its table: its name, the quotas, and the callers of all turns
 pub record TieState : Type 0 where
@@ -56,6 +80,15 @@ option_list (Some t) = t ∷ []
 abbrev pub all_turns : TrailState → List Turn
 all_turns s = s.closed ++ option_list s.current
 
+-- the tests of turns
+abbrev pub all_tests : List Turn → List ℕ
+all_tests turns = map (λ t. t.tests) turns
+
+-- the tests of an open turn, 0 where there is none
+abbrev pub tests_of : Option Turn → ℕ
+tests_of None = 0
+tests_of (Some t) = t.tests
+
 abbrev pub callers_in : List Turn → List ℕ
 callers_in turns = map (λ t. t.caller) turns
 
@@ -68,8 +101,16 @@ pub record IsShareOf (s : TrailState) (share : ShareState) : Type 0 where
   pub made : share.made ≡ turns_of share.caller (all_turns s)
 
 -- a trail before its first turn
-abbrev pub new_trail : TableId → Shape → List ℕ → TrailState
-new_trail name shape quotas = record { name = name; shape = shape; quotas = quotas; closed = []; current = None; noted = 0 }
+abbrev pub new_trail : TableId → TableId → Shape → List ℕ → TrailState
+new_trail name receipts shape quotas = record {
+  name = name;
+  receipts = receipts;
+  shape = shape;
+  quotas = quotas;
+  closed = [];
+  current = None;
+  noted = 0;
+}
 
 -- the turn as it is opened
 abbrev pub opened : TrailState → ℕ → ℕ → Turn

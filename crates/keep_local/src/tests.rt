@@ -1,8 +1,8 @@
 //! Vectors: each is played through the public calls, and compared with the turns that it must give and with the plain checker.
-ghost use Rattle.std.specs.Prelude.{◌≡◌, ◌^◌, ◌<◌, sum, All, IsSome};
+ghost use Rattle.std.specs.Prelude.{◌≡◌, ◌≢◌, ◌^◌, ◌<◌, [], sum, All, IfSome, IsSome};
 ghost use Rattle.std.specs.Bool.{OnTrue};
 
-use crate::{Shape, Share, Trail, Turn, begins, is_lawful, level_to_leave, run_of};
+use crate::{Receipt, Shape, Share, Trail, Turn, begins, is_lawful, level_to_leave, run_of};
 use out_of_memory::OutOfMemory;
 use sequence::Sequence;
 use std::alloc::Global;
@@ -64,6 +64,7 @@ fn release(trail: &mut Trail, tests: u32)
     requires open { IsSome trail.old.current }
     requires fresh { trail.old.noted ≡ 0 }
     ensures name { trail.new.name ≡ trail.old.name }
+    ensures receipts { trail.new.receipts ≡ trail.old.receipts }
 {
     let top = trail.shape().keeps.as_slice().len() as u32;
     for level in 0..top {
@@ -81,6 +82,7 @@ fn release(trail: &mut Trail, tests: u32)
 fn hold(trail: &mut Trail, share: &mut Share, tests: u32) -> bool
     requires own { share.old.name ≡ trail.old.name }
     ensures trail { trail.new.name ≡ trail.old.name }
+    ensures receipts { trail.new.receipts ≡ trail.old.receipts }
     ensures share { share.new.name ≡ share.old.name }
 {
     if trail.is_open() || share.made() >= share.quota() {
@@ -373,6 +375,45 @@ fn other_paths_are_not_well_formed(rt: HostRuntime) {
         };
         assert!(rt; !shape.is_well_formed());
     }
+}
+
+// A receipt of the closed turns, where there are some and none is open.
+fn receipt_of(trail: &mut Trail) -> Option<Receipt>
+    ensures own { IfSome result (λ receipt. receipt.name ≡ trail.old.receipts) }
+    ensures some { IfSome result (λ receipt. receipt.tests ≢ []) }
+    ensures trail { trail.new ≡ trail.old }
+{
+    if trail.is_open() || trail.turns().is_empty() {
+        return None;
+    }
+    Some(trail.receipt())
+}
+
+// Whether a receipt that is given behind the first turn is agreed on behind the second, and changes nothing.
+fn is_agreed_on(alloc: Global) -> Result<bool, OutOfMemory> {
+    let shape = shape_of(alloc, &KEPT_ONCE)?;
+    let callers = shape.paths.as_slice().len();
+    if !shape.is_well_formed() || callers != 2 {
+        return Ok(false);
+    }
+    let (mut trail, mut shares) = Trail::reserve(alloc, shape, &[1, 1])?;
+    let turns = turns_of(alloc, KEPT_ONCE.turns)?;
+    if shares.len() != 2 || !hold(&mut trail, &mut shares[0], 1) {
+        return Ok(false);
+    }
+    let Some(mut receipt) = receipt_of(&mut trail) else {
+        return Ok(false);
+    };
+    let held = hold(&mut trail, &mut shares[1], 0);
+    trail.agree_on(&mut receipt);
+    Ok(held && has_turns(&trail, &turns))
+}
+
+#[test]
+fn a_receipt_is_agreed_on_behind_later_turns(rt: HostRuntime) {
+    let Ok(true) = is_agreed_on(rt.alloc()) else {
+        panic!(rt; "the receipt or a turn was refused")
+    };
 }
 
 fn sent<T: Send>(value: T) -> T {

@@ -1,11 +1,14 @@
 //! The record of all holds of a lock.
 ghost use Rattle.std.specs.Prelude.{◌≡◌, ℕ, ◌+◌, ◌^◌, ◌<◌, ◌≤◌, ◌↔◌, [], ◌∷◌, ◌++◌, length, sum, slice_index, IfOk, IfSome, IsSome};
-ghost use Rattle.std.specs.Prelude.{IsTrue, None, Some, option_map};
+ghost use Rattle.std.specs.Prelude.{IsTrue, None, Some, option_map, ◌≢◌};
+ghost use Rattle.keep_local.specs.ReceiptRule.{AreFirst};
 ghost use Rattle.keep_local.specs.Shapes.{IsWellFormed, top_of, callers_of};
 ghost use Rattle.keep_local.specs.Turns.{run, Begins};
-ghost use Rattle.keep_local.specs.States.{IsTrail, IsShareOf, MayLeave, all_turns, left_at, new_shares, new_trail, opened, option_list};
-ghost use Rattle.keep_local.specs.States.{tested, with_test as set_where_queued};
+ghost use Rattle.keep_local.specs.States.{IsTrail, IsShareOf, MayLeave, all_tests, all_turns, left_at, new_shares, new_trail, opened};
+ghost use Rattle.keep_local.specs.States.{option_list, tested, with_test as set_where_queued};
 
+use crate::receipt::Receipt;
+use crate::receipts::Receipts;
 use crate::shape::Shape;
 use crate::share::Share;
 use crate::tie::Tie;
@@ -20,13 +23,15 @@ const LEVELS: usize = 33;
 // What a trail keeps. The turns up to `closed` are closed, and at most one behind them is open.
 #[derive(Drop)]
 pub(crate) struct Log {
-    tie: Tie,
-    shape: Shape,
+    // What changes with each turn stands first, together.
     turns: Vec<Turn>,
     closed: usize,
     noted: u32,
     // The run of each level, over the closed turns.
     runs: [u32; LEVELS],
+    tie: Tie,
+    receipts: Receipts,
+    shape: Shape,
 }
 
 /// The turns of a lock's callers, in order. It is one pointer, since it moves with every hold.
@@ -59,15 +64,17 @@ impl Trail {
         requires few { callers_of shape < 2 ^ 32 }
         requires quotas { length quotas.now ≡ callers_of shape }
         requires fits { sum quotas.now < 2 ^ 32 }
-        ensures trail { IfOk result (λ m. m.0 ≡ new_trail m.0.name shape quotas.now) }
+        ensures trail { IfOk result (λ m. m.0 ≡ new_trail m.0.name m.0.receipts shape quotas.now) }
         ensures shares { IfOk result (λ m. m.1.items ≡ new_shares m.0.name quotas.now) }
         ensures lawful { IfOk result (λ m. IsTrail m.0) }
     {
         let room: u32 = quotas.iter().sum();
         let turns = Vec::with_capacity(alloc, room as usize)?;
         let (tie, shares) = Tie::make(alloc, quotas)?;
+        let receipts = Receipts::make(alloc)?;
         let log = Log {
             tie,
+            receipts,
             shape,
             turns,
             closed: 0,
@@ -111,6 +118,7 @@ impl Trail {
         let log = &mut *self.log;
         let turn = &mut log.turns[log.closed];
         turn.tests = with_test(turn.tests, level, yes);
+        log.receipts.note(yes);
         log.noted = level + 1;
     }
 
@@ -128,9 +136,32 @@ impl Trail {
     {
         let log = &mut *self.log;
         log.turns[log.closed].left = level;
+        log.receipts.record();
         log.closed += 1;
         log.noted = 0;
         count_run(&mut log.runs, level);
+    }
+
+    /// A receipt of the closed turns, which whoever has it may keep while the trail is in other hands.
+    pub fn receipt(&mut self) -> Receipt
+        ensures own { result.name ≡ self.old.receipts }
+        ensures tests { result.tests ≡ all_tests self.old.closed }
+        ensures same { self.new ≡ self.old }
+        ensures lawful { IsTrail self.new }
+    {
+        self.log.receipts.give()
+    }
+
+    /// Shows that the tests that a receipt of this trail knows are those of its first turns.
+    pub fn agree_on(&mut self, receipt: &mut Receipt)
+        requires own { receipt.old.name ≡ self.old.receipts }
+        requires some { receipt.old.tests ≢ [] }
+        ensures first { AreFirst receipt.old.tests (all_tests self.old.closed) }
+        ensures receipt { receipt.new ≡ receipt.old }
+        ensures same { self.new ≡ self.old }
+        ensures lawful { IsTrail self.new }
+    {
+        self.log.receipts.check(receipt);
     }
 
     /// Whether a turn is open.

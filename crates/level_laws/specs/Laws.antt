@@ -1,11 +1,12 @@
 -- What a composed lock promises, over the rules of its basic locks and the values at home in them.
-use Rattle.std.specs.Prelude.{◌≡◌, ℕ, Bool, true, List, Option, slice_get, Some}
+use Rattle.std.specs.Prelude.{◌≡◌, ℕ, Bool, true, List, Option, length, slice_get, Some}
 use Rattle.atomic_table.specs.Table.{State}
 use Rattle.lock_rules.specs.Tag.{Tag}
 use Rattle.lock_rules.specs.declared.view.Phase.{Phase}
 use Rattle.lock_rules.specs.declared.view.View.{View}
 use Rattle.lock_tables.specs.Points.{IsBasic, IsHomeValue, IsPassIn}
 use Rattle.lock_tables.specs.Queue.{IsHead}
+use Rattle.keep_local.specs.declared.turn.Turn.{Turn}
 use Rattle.clof_compose.specs.Contexts.{Context}
 use Rattle.clof_compose.specs.Meanings.{Rest, Stand}
 use Rattle.clof_compose.specs.Nodes.{AreLocks}
@@ -35,3 +36,9 @@ module _ {P Pass Held : Type 0} (calls : P → List ℕ) (tag : P → Tag) (rest
       → IsBasic (λ o. IsOwnFit rest stand calls tag stands o.node o.kept o.said o.high) (λ o. own_tag_of rest stand o.node o.high)
       (λ o. is_kept rest stand o.high) holds n lock_tag queue s
       → IsHomeValue s.homes x → is_kept rest stand x.high ≡ true → (p : ℕ) × IsHead p queue
+
+-- the turn behind these closed ones has these tests
+pub record HasTestsBehind (before : List Turn) (tests : ℕ) (turns : List Turn) : Type 0 where
+  pub turn : Turn
+  pub is : slice_get turns (length before) ≡ Some turn
+  pub tests_are : turn.tests ≡ tests

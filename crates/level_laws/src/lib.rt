@@ -1,13 +1,16 @@
-//! What a composed lock promises as a whole, as laws of its parts. Each is a function that does nothing, whose contract is the law.
+//! What a composed lock promises as a whole, as laws of its parts. Each is a function that changes nothing, whose contract is the law.
 //!
 //! How often in a row a level keeps its high lock is a law of the trail, `keep_local::keeps_at_most`.
 #![tactic(auto)]
 
-ghost use Rattle.std.specs.Prelude.{Bool};
+ghost use Rattle.std.specs.Prelude.{◌≡◌, ◌≢◌, ℕ, [], Bool};
 ghost use Rattle.lock_rules.specs.declared.view.Phase.{Phase};
-ghost use Rattle.level_laws.specs.Laws.{AtMostOneHolds, ContextsAreApart, KeptIsWaitedFor};
+ghost use Rattle.level_laws.specs.Laws.{AtMostOneHolds, ContextsAreApart, KeptIsWaitedFor, HasTestsBehind};
+ghost use Rattle.clof_compose.specs.Calls.{ClosesWith};
+ghost use Rattle.clof_compose.specs.declared.root.Root.{Root};
 
-use clof_compose::{Composed, Own, Payload, Resting, Standing};
+use clof_compose::{Composed, Own, Payload, Report, Resting, Standing};
+use keep_local::Trail;
 use lock_rules::{Basic, Cargo, Held as Holds};
 
 /// Between any two atomic steps at most one pass holds a basic lock. So the root, which is the value of the top lock, has at most one
@@ -30,3 +33,16 @@ pub fn contexts_are_apart<
 pub fn kept_is_waited_for<P: Payload, Pass: Resting, Held: Standing<P>>()
     ensures { (holds : Phase → Bool) → KeptIsWaitedFor P.calls P.tag Pass.rest Held.stand Held.stands holds }
 {}
+
+/// What a release told is true of the trail, whatever turns others have made since: the turn behind those that were closed before the
+/// release, which is the one that the release closed, has the tests that it told.
+pub fn told_turn_stands<P: Payload>(trail: &mut Trail, report: &mut Report)
+    requires own { report.old.receipt.name ≡ trail.old.receipts }
+    requires released { report.old.receipt.tests ≢ [] }
+    ensures stands { (level : ℕ) (before : Root P) → ClosesWith level report.old before
+        → HasTestsBehind before.trail.closed report.old.tests trail.old.closed }
+    ensures trail { trail.new ≡ trail.old }
+    ensures report { report.new ≡ report.old }
+{
+    trail.agree_on(&mut report.receipt);
+}

@@ -18,8 +18,8 @@ pub if_some : {A : Type 0} (P Q : A → Type 0) (o : Option A) → ((a : A) → 
 if_some P Q None weaker is = tt
 if_some P Q (Some a) weaker is = weaker a is
 
-module _ (name : TableId) (shape : Shape) (quotas : List ℕ) (t : Tag) (root : Root Roll) (tagged : t ≡ root_tag roll_tag root)
-    (trail : root.trail ≡ new_trail name shape quotas) where
+module _ (name receipts : TableId) (shape : Shape) (quotas : List ℕ) (t : Tag) (root : Root Roll) (tagged : t ≡ root_tag roll_tag root)
+    (trail : root.trail ≡ new_trail name receipts shape quotas) where
   course_made : course_of t ≡ root_course roll_tag root
   course_made = course_is calls_of roll_tag t root (sym tagged)
 

@@ -26,6 +26,7 @@ may_release_lowest calls tag t level number caller share r r₁ lowest has conte
     let shape = ap (λ (c : Course). c.shape) (course_is calls tag t r has.tagged) in record {
       tagged = (λ i. course_tag (record {
         name = (trail i).name;
+        receipts = (trail i).receipts;
         shape = (trail i).shape;
         quotas = (trail i).quotas;
         payload = payload i;

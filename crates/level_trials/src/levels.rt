@@ -48,7 +48,7 @@ pub trait Lacking {
         requires same { (course_of (C.tag lock)).shape ≡ shape.now }
         requires contexts { AreContexts shape.now level (C.count lock) }
         requires all { AreAll (λ p. (C.Pass.rest p).context) (C.has lock) (C.level lock) (C.tag lock) (C.count lock) passes.items }
-        requires fresh { All (λ p. (C.Pass.rest p).tests ≡ 0) passes.items }
+        requires fresh { All (λ p. (C.Pass.rest p).report.tests ≡ 0) passes.items }
         requires quotas { length (course_of (C.tag lock)).quotas ≡ callers_of shape.now }
         requires shares { shares.items ≡ new_shares (course_of (C.tag lock)).name (course_of (C.tag lock)).quotas }
         requires room { HasRoom (course_of (C.tag lock)) }

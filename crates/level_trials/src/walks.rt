@@ -52,7 +52,7 @@ pub fn walk<C: Composed<Roll> + Drop, R: Wait>(
 
 // The tests that each pass tells. The answer is `None` for want of memory.
 fn tests_of<P: Resting>(alloc: Global, passes: &[P]) -> Option<Vec<u32>>
-    ensures { IfSome result (λ told. told.items ≡ map (λ p. (P.rest p).tests) passes.now) }
+    ensures { IfSome result (λ told. told.items ≡ map (λ p. (P.rest p).report.tests) passes.now) }
 {
     let mut told = Vec::new(alloc);
     for pass in passes {

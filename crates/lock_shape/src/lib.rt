@@ -90,7 +90,7 @@ pub fn add_level<
     requires sound { H.sound high }
     requires above { H.level high ≡ level + 1 }
     requires all { AreAll (λ p. (H.Pass.rest p).context) (H.has high) (H.level high) (H.tag high) (H.count high) passes.items }
-    requires fresh { All (λ p. (H.Pass.rest p).tests ≡ 0) passes.items }
+    requires fresh { All (λ p. (H.Pass.rest p).report.tests ≡ 0) passes.items }
     requires shaped { IsWellFormed shape.now }
     requires few { callers_of shape.now < 2 ^ 32 }
     requires level { level < top_of shape.now }
@@ -105,7 +105,7 @@ pub fn add_level<
     ensures passes { IfOk result (λ m. AreAll (λ p. level_context p.id.level p.id.node p.id.number (B.Pass.place p.low))
         (IsOfLevel B.name B.tag m.0.level m.0.parents.items (locks_of m.0.nodes.items)) m.0.level (H.tag m.0.high)
         (length m.0.parents.items) m.1.items) }
-    ensures fresh { IfOk result (λ m. All (λ p. p.tests ≡ 0) m.1.items) }
+    ensures fresh { IfOk result (λ m. All (λ p. p.report.tests ≡ 0) m.1.items) }
 {
     let parents = parents_at(alloc, shape, level)?;
     let keep = shape.keeps.as_slice()[level as usize];

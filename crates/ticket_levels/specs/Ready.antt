@@ -21,7 +21,7 @@ pub record IsReady {P : Type 0} (rest : P → Rest) (has : Context → Type 0) (
   pub same : (course_of tag).shape ≡ shape
   pub contexts : AreContexts shape level count
   pub all : AreAll (λ p. (rest p).context) has level tag count passes
-  pub fresh : All (λ p. (rest p).tests ≡ 0) passes
+  pub fresh : All (λ p. (rest p).report.tests ≡ 0) passes
   pub quotas : length (course_of tag).quotas ≡ callers_of shape
   pub dealt : shares ≡ new_shares (course_of tag).name (course_of tag).quotas
   pub room : HasRoom (course_of tag)

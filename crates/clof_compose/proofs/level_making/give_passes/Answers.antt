@@ -52,7 +52,7 @@ loop-number-preserved g c =
             node_is = at;
             falls = falls_one g.B.Basic.name g.B.Basic.tag c.args.parents.now (locks_of c.args.nodes.items) (c.loop-number.number - 1) node
                 c.index_mut.result.now.lock _ at locked low;
-            fresh = refl;
+            fresh = ap (λ r. r.tests) c.blank-report.ensures;
           }) c.loop-number.invariant.given;
       counted = omega (arith, some, more, counted);
       room = c.push_reserved.ensures.capacity ∙ c.loop-number.invariant.room;

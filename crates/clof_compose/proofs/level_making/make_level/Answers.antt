@@ -73,5 +73,5 @@ returns-in-Ok-clause-passes g c =
     c.give_passes-nodes.result.1.items) (sym c.give_passes-nodes.ensures.locks) all)
 
 pub returns-in-Ok-clause-fresh : goal.returns-in-Ok-clause-fresh
-returns-in-Ok-clause-fresh g c = all_each (λ p. p.tests ≡ 0) c.give_passes-nodes.result.1.items (λ k p e.
+returns-in-Ok-clause-fresh g c = all_each (λ p. p.report.tests ≡ 0) c.give_passes-nodes.result.1.items (λ k p e.
     (c.give_passes-nodes.ensures.each k p e).fresh)

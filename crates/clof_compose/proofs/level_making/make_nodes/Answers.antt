@@ -18,7 +18,7 @@ loop-pass-init g c =
       filled = λ n node e. absurd (let h = sym (ap (λ l. slice_get l n) c.requires.empty) ∙ e in cc);
       behind = from_all (λ p. (g.H.Pass.Resting.rest p).context) (g.H.Composed.has c.args.high.now) (g.H.Composed.level c.args.high.now) (g.H.Composed.tag
           c.args.high.now) _ _ _ _ c.requires.all none turned;
-      fresh = subst (λ l. All (λ p. (g.H.Pass.Resting.rest p).tests ≡ 0) l) (sym turned) c.requires.fresh;
+      fresh = subst (λ l. All (λ p. (g.H.Pass.Resting.rest p).report.tests ≡ 0) l) (sym turned) c.requires.fresh;
       counted = omega (arith, none, long);
       room = c.reverse.ensures.capacity;
       nodes_room = refl;
@@ -49,8 +49,8 @@ make_node-requires-clause-above g c =
 pub make_node-requires-clause-fresh : goal.make_node-requires-clause-fresh
 make_node-requires-clause-fresh g c =
     let turned = ap reverse c.in-Some.ensures.items ∙ reverse-append c.pop.new.self.items (c.in-Some.pass ∷ []) in
-    All-head (λ p. (g.H.Pass.Resting.rest p).tests ≡ 0) c.in-Some.pass (reverse c.pop.new.self.items) (subst (λ l. All (λ p.
-    (g.H.Pass.Resting.rest p).tests ≡ 0) l) turned c.loop-pass.invariant.fresh)
+    All-head (λ p. (g.H.Pass.Resting.rest p).report.tests ≡ 0) c.in-Some.pass (reverse c.pop.new.self.items) (subst (λ l. All (λ p.
+    (g.H.Pass.Resting.rest p).report.tests ≡ 0) l) turned c.loop-pass.invariant.fresh)
 
 pub loop-pass-preserved : goal.loop-pass-preserved
 loop-pass-preserved g c =
@@ -81,8 +81,8 @@ loop-pass-preserved g c =
           });
       behind = subst (λ n. AreFrom (λ p. (g.H.Pass.Resting.rest p).context) (g.H.Composed.has c.args.high.now) (g.H.Composed.level c.args.high.now) (g.H.Composed.tag
           c.args.high.now) n (reverse c.pop.new.self.items)) (sym more) next.1;
-      fresh = All-tail (λ p. (g.H.Pass.Resting.rest p).tests ≡ 0) c.in-Some.pass (reverse c.pop.new.self.items) (subst (λ l. All (λ p.
-          (g.H.Pass.Resting.rest p).tests ≡ 0) l) turned c.loop-pass.invariant.fresh);
+      fresh = All-tail (λ p. (g.H.Pass.Resting.rest p).report.tests ≡ 0) c.in-Some.pass (reverse c.pop.new.self.items) (subst (λ l. All (λ p.
+          (g.H.Pass.Resting.rest p).report.tests ≡ 0) l) turned c.loop-pass.invariant.fresh);
       counted = omega (arith, fewer, more, counted);
       room = c.in-Some.ensures.capacity ∙ c.loop-pass.invariant.room;
       nodes_room = c.push_reserved.ensures.capacity ∙ c.loop-pass.invariant.nodes_room;

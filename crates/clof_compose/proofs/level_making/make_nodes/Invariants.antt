@@ -11,7 +11,7 @@ invariant-loop-pass g l = record {
   filled : AreFilled g.B.Basic.name g.B.Basic.tag g.B.Basic.count g.B.Pass.Placed.place l.parents (length l.parents) l.nodes.items;
   behind : AreFrom (λ p. (g.H.Pass.Resting.rest p).context) (g.H.Composed.has l.high) (g.H.Composed.level l.high) (g.H.Composed.tag
       l.high) (length l.nodes.items) (reverse l.passes.items);
-  fresh : All (λ p. (g.H.Pass.Resting.rest p).tests ≡ 0) (reverse l.passes.items);
+  fresh : All (λ p. (g.H.Pass.Resting.rest p).report.tests ≡ 0) (reverse l.passes.items);
   counted : length l.nodes.items + length l.passes.items ≡ length l.fn.passes.items;
   room : vec_capacity l.passes ≡ vec_capacity l.fn.passes;
   nodes_room : vec_capacity l.nodes ≡ vec_capacity l.fn.nodes;

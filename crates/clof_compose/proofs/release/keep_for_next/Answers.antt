@@ -1,7 +1,7 @@
 use Rattle.std.proofs.Common.{sym, subst}
 use Rattle.clof_compose.specs.Levels.{high_with_root}
 use Rattle.clof_compose.specs.Owns.{IsOwnFit}
-use Rattle.clof_compose.proofs.Keeping.{stands_noted, ready_above, bit_noted, all_noted, closes_kept, may_leave, stands_left, fits_left, told_left}
+use Rattle.clof_compose.proofs.Keeping.{stands_noted, ready_above, bit_noted, all_noted, closes_kept, may_leave, stands_left, fits_left}
 use Rattle.clof_compose.proofs.release.keep_for_next.Goals as goal
 
 pub returns-in_default-clause-stands : goal.returns-in_default-clause-stands
@@ -92,15 +92,4 @@ returns-clause-tests g c =
     c.requires.node c.requires.kept c.requires.root c.note_waiter.ensures.payload c.note_waiter.ensures.noted
     c.note_waiter.ensures.lawful c.note_waiter.ensures.lawful_before
     c.kept_root-2.result.now c.kept_root-2.ensures.value c.in-Some.ensures.yes c.in-Some.ensures.below c.close_turn.result
-    c.close_turn.ensures.tests
-
-pub returns-clause-told : goal.returns-clause-told
-returns-clause-told g c =
-    told_left g.Pass.Resting.rest g.Held.Standing.stand g.Held.Standing.stands g.Held.Standing.put_root g.P.Payload.calls g.P.Payload.tag
-    c.args.level c.args.keep c.args.own.now.node c.args.own.now.kept c.args.own.now.said c.args.own.now.high c.kept_root.result.now
-    c.note_waiter.new.root c.kept_root.ensures.value c.kept_root.ensures.others c.kept_root.ensures.stays c.requires.above
-    c.requires.node c.requires.kept c.requires.root c.note_waiter.ensures.payload c.note_waiter.ensures.noted
-    c.note_waiter.ensures.lawful c.note_waiter.ensures.lawful_before
-    c.kept_root-2.result.now c.kept_root-2.ensures.value c.in-Some.ensures.yes c.in-Some.ensures.below c.kept_root-2.ensures.others
-    c.kept_root-2.ensures.stays c.close_turn.new.root
-    c.close_turn.ensures.payload c.close_turn.ensures.closed c.close_turn.ensures.lawful c.close_turn.result c.close_turn.ensures.tests
+    c.close_turn.ensures.tests c.close_turn.ensures.own c.close_turn.ensures.told

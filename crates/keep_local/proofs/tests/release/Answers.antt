@@ -1,4 +1,4 @@
-use Rattle.std.proofs.Common.{◌≡◌, ◌<◌, ◌≤◌, eq-eqb, ne_eqb, inl, inr, ap, sym, ◌∙◌, arith, rules}
+use Rattle.std.proofs.Common.{◌<◌, eq-eqb, ne_eqb, inl, inr, ap, ◌∙◌, arith, rules}
 use Rattle.std.specs.Prelude.{slice_index}
 use Rattle.keep_local.specs.Shapes.{top_of}
 use Rattle.keep_local.specs.Turns.{run}
@@ -19,6 +19,7 @@ leave-requires-clause-may c =
 pub loop-level-preserved : goal.loop-level-preserved
 loop-level-preserved c = record {
   name = ap (λ s. s.name) c.note.ensures.noted ∙ c.loop-level.invariant.name;
+  receipts = ap (λ s. s.receipts) c.note.ensures.noted ∙ c.loop-level.invariant.receipts;
   shape = ap (λ s. s.shape) c.note.ensures.noted ∙ c.loop-level.invariant.shape;
   releasing = releasing_next _ _ _ _ c.loop-level.invariant.releasing c.note.ensures.noted c.note.ensures.lawful
       (elim c.else-queued.branch [

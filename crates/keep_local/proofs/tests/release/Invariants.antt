@@ -5,6 +5,7 @@ use Rattle.keep_local.proofs.tests.release.Given as goal
 abbrev pub invariant-loop-level : goal.invariant-loop-level
 invariant-loop-level l = record {
   name : l.trail.name ≡ l.fn.trail.name;
+  receipts : l.trail.receipts ≡ l.fn.trail.receipts;
   shape : l.trail.shape ≡ l.fn.trail.shape;
   releasing : IsReleasing l.trail l.level;
 }

@@ -57,16 +57,16 @@ begin_release-requires-clause-tagged g c =
 
 pub returns-in-Not-clause-noted : goal.returns-in-Not-clause-noted
 returns-in-Not-clause-noted g c =
-    closes_at _ _ (g.H.Leave.Descending.descent c.in-Not.leave).tests _ _
+    closes_at _ _ (g.H.Leave.Descending.descent c.in-Not.leave).report _ _
     (ap (λ v. (kept_stand g.H.Held.Standing.stand v.high).root) c.waiter-low.ensures.value)
     (level_same c.requires.sound c.requires.own) c.in-Not.ensures.noted
 
 pub returns-in-Not-begin_release-clause-noted : goal.returns-in-Not-begin_release-clause-noted
 returns-in-Not-begin_release-clause-noted g c =
-    closes_at _ _ c.in-Got.tests _ _ (ap (λ v. (kept_stand g.H.Held.Standing.stand v.high).root) c.waiter-low.ensures.value)
+    closes_at _ _ c.in-Got.report _ _ (ap (λ v. (kept_stand g.H.Held.Standing.stand v.high).root) c.waiter-low.ensures.value)
     (level_same c.requires.sound c.requires.own) c.in-Got.ensures.tests
 
 pub returns-in-Got-begin_release-clause-tests : goal.returns-in-Got-begin_release-clause-tests
 returns-in-Got-begin_release-clause-tests g c =
-    closes_at _ _ c.in-Got.tests _ _ (ap (λ v. (kept_stand g.H.Held.Standing.stand v.high).root) c.waiter-low.ensures.value)
+    closes_at _ _ c.in-Got.report _ _ (ap (λ v. (kept_stand g.H.Held.Standing.stand v.high).root) c.waiter-low.ensures.value)
     (level_same c.requires.sound c.requires.own) c.in-Got.ensures.tests

@@ -40,12 +40,14 @@ begin_release-requires-clause-fit g c =
     let owes = subst (λ s. IsLeaving g.B.Leave.Departing.rests g.H.Leave.Descending.descent g.H.Leave.Descending.descends
     c.args.leave.id.level s) c.in-High.is c.requires.descends in
     let at = high_context c.requires.sound own _ _ owes.0.tag_same in
+    let idle = c.put_back-report.ensures.idle in
+    let told = c.put_back-report.ensures.report ∙ c.in-Got.ensures.tests in
     subst (λ v. IsOwnFit g.H.Pass.Resting.rest g.H.Held.Standing.stand g.P.Payload.calls g.P.Payload.tag g.H.Held.Standing.stands v.node
-    v.kept v.said v.high) (sym c.put_back-tests.ensures.value) (record {
+    v.kept v.said v.high) (sym idle.value_is) (record {
       level = c.args.leave.id.level;
-      above = ap (λ x. x.level) c.in-Got.ensures.pass ∙ at.level_is;
-      number_is = ap (λ x. x.number) c.in-Got.ensures.pass ∙ at.number_is;
-      said_is = ap (λ n. bit_at n c.args.leave.id.level) c.in-Got.ensures.tests ∙ owes.0.said_is;
+      above = ap (λ x. x.level) (idle.context_is ∙ c.in-Got.ensures.pass) ∙ at.level_is;
+      number_is = ap (λ x. x.number) (idle.context_is ∙ c.in-Got.ensures.pass) ∙ at.number_is;
+      said_is = ap (λ n. bit_at n c.args.leave.id.level) (idle.tests_is ∙ ap (λ r. r.tests) told) ∙ owes.0.said_is;
     })
 
 pub begin_release-requires-clause-tagged : goal.begin_release-requires-clause-tagged
@@ -56,6 +58,6 @@ begin_release-requires-clause-tagged g c =
     let owes = subst (λ s. IsLeaving g.B.Leave.Departing.rests g.H.Leave.Descending.descent g.H.Leave.Descending.descends
     c.args.leave.id.level s) c.in-High.is c.requires.descends in
     let here = ap (λ l. slice_get (locks_of l) c.args.leave.id.node) (sym c.deref.ensures.value) ∙ c.lock_of-lock.ensures in
-    ap (λ v. own_tag_of g.H.Pass.Resting.rest g.H.Held.Standing.stand v.node v.high) c.put_back-tests.ensures.value
-    ∙ ap (own_tag c.in-High.low.value.node) c.in-Got.ensures.pass ∙ owes.0.tag_same
+    ap (λ v. own_tag_of g.H.Pass.Resting.rest g.H.Held.Standing.stand v.node v.high) c.put_back-report.ensures.idle.value_is
+    ∙ ap (own_tag c.in-High.low.value.node) (c.put_back-report.ensures.idle.context_is ∙ c.in-Got.ensures.pass) ∙ owes.0.tag_same
     ∙ (pass_of c.requires.sound own c.lock_of-lock.result.now here).tag_is

@@ -7,18 +7,21 @@ count_run-requires-clause-small c = let has = (as_held _ _ _ c.deref_mut-log.ens
 
 pub invariant_of-self : goal.invariant_of-self
 invariant_of-self c =
-    (turn_left _ _ c.index_mut.result.now _ _
-    (as_held _ _ _ c.deref_mut-log.ensures.value c.self.invariant c.self.view_is) c.requires.open c.index_mut.ensures.value c.requires.may c.count_run.auto.runs
+    (turn_left _ _ c.index_mut.result.now _ _ _
+    (as_held _ _ _ c.deref_mut-log.ensures.value c.self.invariant c.self.view_is) c.requires.open c.record.ensures
+    c.index_mut.ensures.value c.requires.may c.count_run.auto.runs
     (record { own = c.count_run.ensures.own; lower = c.count_run.ensures.lower; higher = c.count_run.ensures.higher })).kept
 
 pub returns-clause-left : goal.returns-clause-left
 returns-clause-left c =
-    (turn_left _ _ c.index_mut.result.now _ _
-    (as_held _ _ _ c.deref_mut-log.ensures.value c.self.invariant c.self.view_is) c.requires.open c.index_mut.ensures.value c.requires.may c.count_run.auto.runs
+    (turn_left _ _ c.index_mut.result.now _ _ _
+    (as_held _ _ _ c.deref_mut-log.ensures.value c.self.invariant c.self.view_is) c.requires.open c.record.ensures
+    c.index_mut.ensures.value c.requires.may c.count_run.auto.runs
     (record { own = c.count_run.ensures.own; lower = c.count_run.ensures.lower; higher = c.count_run.ensures.higher })).state
 
 pub returns-clause-lawful : goal.returns-clause-lawful
 returns-clause-lawful c =
-    (turn_left _ _ c.index_mut.result.now _ _
-    (as_held _ _ _ c.deref_mut-log.ensures.value c.self.invariant c.self.view_is) c.requires.open c.index_mut.ensures.value c.requires.may c.count_run.auto.runs
+    (turn_left _ _ c.index_mut.result.now _ _ _
+    (as_held _ _ _ c.deref_mut-log.ensures.value c.self.invariant c.self.view_is) c.requires.open c.record.ensures
+    c.index_mut.ensures.value c.requires.may c.count_run.auto.runs
     (record { own = c.count_run.ensures.own; lower = c.count_run.ensures.lower; higher = c.count_run.ensures.higher })).kept.trail

@@ -11,5 +11,5 @@ invariant_of-result c =
     subst IsKept (sym c.in_ok-log.ensures.ok)
     (log_new _ c.requires.shape c.requires.few (ap length quotas ∙ c.requires.quotas)
     (subst (λ (qs : List ℕ). sum qs < 2 ^ 32) (sym quotas) c.requires.fits)
-    c.in_ok-tie.ensures.callers c.in_ok-turns.ensures.items refl refl
+    c.in_ok-tie.ensures.callers c.in_ok-receipts.ensures c.in_ok-turns.ensures.items refl refl
     (subst (λ (qs : List ℕ). sum qs ≤ vec_capacity c.in_ok-turns.turns) (sym quotas) room) refl).kept
