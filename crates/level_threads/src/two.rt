@@ -8,7 +8,7 @@ ghost use Rattle.level_trials.specs.Rooms.{HasRoom, roll_tag};
 ghost use Rattle.ticket_levels.specs.Ready.{IsReady};
 ghost use Rattle.level_threads.specs.Shifts.{HasWorked, MayWork};
 
-use crate::shared::{is_shared, passes_are_shared};
+use crate::shared::{is_shared, passes_are_shared, receipts_are_shared};
 use clof_compose::{Composed, Resting, Root};
 use keep_local::Shape;
 use level_trials::{Job, Roll, close_ended, deal, hold_all};
@@ -57,6 +57,7 @@ fn run_in_threads<R: Threads + Wait + Sync>(
         (⟦<Lock2 as Composed<Roll>>⟧.level lock.now) (⟦<Lock2 as Composed<Roll>>⟧.tag lock.now) k j) }
 {
     passes_are_shared();
+    receipts_are_shared();
     is_shared::<Lock2>();
     by_all(rt, &Shift { rt, lock }, jobs)
 }
