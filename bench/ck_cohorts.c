@@ -1,7 +1,7 @@
 /*
  * Holds of the cohort lock of Concurrency Kit (Debian's libck-dev), a ticket lock a cohort under a ticket lock: each thread takes it as often as asked
- * and adds one to a number. Threads fall into cohorts of the same size, in order. It prints the number of cohorts, of threads, and the number at the
- * end. With 0 cohorts the lock is one ticket lock.
+ * and, as the holders of cohort_bench and compose_bench do, notes its number behind those of the holds before. Threads fall into cohorts of the same
+ * size, in order. It prints the number of cohorts, of threads, and of what was noted. With 0 cohorts the lock is one ticket lock.
  *
  *   cc -O2 -pthread -o ck_cohorts ck_cohorts.c && ./ck_cohorts 2 4 1000000 10
  */
@@ -21,29 +21,35 @@ static bool taken(ck_spinlock_ticket_t *lock, void *unused) { (void)unused; retu
 
 CK_COHORT_PROTOTYPE(tickets, take, leave, taken, take, leave, taken)
 
+typedef CK_COHORT_INSTANCE(tickets) cohort_lock;
+
 static struct { ck_spinlock_ticket_t lock; } __attribute__((aligned(LINE))) global = { CK_SPINLOCK_TICKET_INITIALIZER }, local[MOST];
-static struct { CK_COHORT_INSTANCE(tickets) cohort; } __attribute__((aligned(LINE))) cohort[MOST];
-static struct { volatile uint64_t value; } __attribute__((aligned(LINE))) number;
+static struct { cohort_lock lock; } __attribute__((aligned(LINE))) cohort[MOST];
+static struct { uint32_t *callers; uint64_t count; } __attribute__((aligned(LINE))) roll;
+static struct { cohort_lock *cohort; uint32_t number; } __attribute__((aligned(LINE))) caller[MOST];
 
 static uint64_t holds;
 
+static void note(uint32_t number) { roll.callers[roll.count++] = number; }
+
 static void *by_cohort(void *argument)
 {
-    CK_COHORT_INSTANCE(tickets) *own = argument;
+    uint32_t number = *(uint32_t *)argument;
+    cohort_lock *own = caller[number].cohort;
     for (uint64_t i = 0; i < holds; i++) {
         CK_COHORT_LOCK(tickets, own, NULL, NULL);
-        number.value++;
+        note(number);
         CK_COHORT_UNLOCK(tickets, own, NULL, NULL);
     }
     return NULL;
 }
 
-static void *by_ticket(void *unused)
+static void *by_ticket(void *argument)
 {
-    (void)unused;
+    uint32_t number = *(uint32_t *)argument;
     for (uint64_t i = 0; i < holds; i++) {
         ck_spinlock_ticket_lock(&global.lock);
-        number.value++;
+        note(number);
         ck_spinlock_ticket_unlock(&global.lock);
     }
     return NULL;
@@ -58,15 +64,18 @@ int main(int argc, char **argv)
         return 2;
     }
     holds = strtoull(argv[3], NULL, 10);
+    roll.callers = calloc(holds * threads, sizeof *roll.callers);
+    if (roll.callers == NULL) return 1;
     for (int c = 0; c < cohorts; c++) {
         ck_spinlock_ticket_init(&local[c].lock);
-        CK_COHORT_INIT(tickets, &cohort[c].cohort, &global.lock, &local[c].lock, atoi(argv[4]));
+        CK_COHORT_INIT(tickets, &cohort[c].lock, &global.lock, &local[c].lock, atoi(argv[4]));
     }
     for (int t = 0; t < threads; t++) {
-        if (cohorts == 0) pthread_create(&thread[t], NULL, by_ticket, NULL);
-        else pthread_create(&thread[t], NULL, by_cohort, &cohort[t / (threads / cohorts)].cohort);
+        caller[t].number = t;
+        caller[t].cohort = cohorts == 0 ? NULL : &cohort[t / (threads / cohorts)].lock;
+        pthread_create(&thread[t], NULL, cohorts == 0 ? by_ticket : by_cohort, &caller[t].number);
     }
     for (int t = 0; t < threads; t++) pthread_join(thread[t], NULL);
-    printf("%d %d %llu\n", cohorts, threads, (unsigned long long)number.value);
+    printf("%d %d %llu\n", cohorts, threads, (unsigned long long)roll.count);
     return 0;
 }

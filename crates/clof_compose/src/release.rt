@@ -24,6 +24,7 @@ use std::sync::Wait;
 
 /// Notes the answer of `waiter` that the value keeps for the open turn. Where it is a yes and the value has kept the high lock for fewer
 /// turns than the level's threshold, the turn is closed there, and the answer tells of it.
+#[inline(always)]
 pub(crate) fn keep_for_next<P: Payload, Pass: Resting, Held: Standing<P>>(
     own: &mut Own<P, Pass, Held>,
     level: u32,
