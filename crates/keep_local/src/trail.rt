@@ -152,7 +152,8 @@ impl Trail {
         self.log.receipts.give()
     }
 
-    /// Shows that the tests that a receipt of this trail knows are those of its first turns.
+    /// Shows that the tests that a receipt of this trail knows are those of its first turns. It is asked of a receipt of one turn or more:
+    /// one of none has nothing to show.
     pub fn agree_on(&mut self, receipt: &mut Receipt)
         requires own { receipt.old.name ≡ self.old.receipts }
         requires some { receipt.old.tests ≢ [] }
