@@ -1,8 +1,8 @@
 #!/usr/bin/env bash
 # Times holds of composed locks by one caller (crates/compose_bench) and by several threads (crates/cohort_bench) beside the cohort lock of Concurrency
 # Kit (Debian's libck-dev), and beside composed locks with fewer levels or fewer turns, in turn, five times each, and prints a table: what is held,
-# nanoseconds a hold (the median) of both, and the ratio. It needs a built compose_bench and cohort_bench (rt run in their folders), those that its rows
-# name.
+# nanoseconds a hold (the median) of both, and the ratio. Each hold notes its caller in a list, here and over Concurrency Kit. It needs a built
+# compose_bench and cohort_bench (rt run in their folders), those that its rows name.
 #
 #   bench/cohorts.sh [ROW..]              the rows two levels turns near cohorts, by default all, in a minute
 #
