@@ -26,7 +26,7 @@ typedef CK_COHORT_INSTANCE(tickets) cohort_lock;
 static struct { ck_spinlock_ticket_t lock; } __attribute__((aligned(LINE))) global = { CK_SPINLOCK_TICKET_INITIALIZER }, local[MOST];
 static struct { cohort_lock lock; } __attribute__((aligned(LINE))) cohort[MOST];
 static struct { uint32_t *callers; uint64_t count; } __attribute__((aligned(LINE))) roll;
-static struct { cohort_lock *cohort; uint32_t number; } __attribute__((aligned(LINE))) caller[MOST];
+static struct caller { cohort_lock *cohort; uint32_t number; } __attribute__((aligned(LINE))) callers[MOST];
 
 static uint64_t holds;
 
@@ -34,22 +34,21 @@ static void note(uint32_t number) { roll.callers[roll.count++] = number; }
 
 static void *by_cohort(void *argument)
 {
-    uint32_t number = *(uint32_t *)argument;
-    cohort_lock *own = caller[number].cohort;
+    struct caller *own = argument;
     for (uint64_t i = 0; i < holds; i++) {
-        CK_COHORT_LOCK(tickets, own, NULL, NULL);
-        note(number);
-        CK_COHORT_UNLOCK(tickets, own, NULL, NULL);
+        CK_COHORT_LOCK(tickets, own->cohort, NULL, NULL);
+        note(own->number);
+        CK_COHORT_UNLOCK(tickets, own->cohort, NULL, NULL);
     }
     return NULL;
 }
 
 static void *by_ticket(void *argument)
 {
-    uint32_t number = *(uint32_t *)argument;
+    struct caller *own = argument;
     for (uint64_t i = 0; i < holds; i++) {
         ck_spinlock_ticket_lock(&global.lock);
-        note(number);
+        note(own->number);
         ck_spinlock_ticket_unlock(&global.lock);
     }
     return NULL;
@@ -65,15 +64,18 @@ int main(int argc, char **argv)
     }
     holds = strtoull(argv[3], NULL, 10);
     roll.callers = calloc(holds * threads, sizeof *roll.callers);
-    if (roll.callers == NULL) return 1;
+    if (roll.callers == NULL) {
+        fprintf(stderr, "ck_cohorts: there is no memory for the callers\n");
+        return 1;
+    }
     for (int c = 0; c < cohorts; c++) {
         ck_spinlock_ticket_init(&local[c].lock);
         CK_COHORT_INIT(tickets, &cohort[c].lock, &global.lock, &local[c].lock, atoi(argv[4]));
     }
     for (int t = 0; t < threads; t++) {
-        caller[t].number = t;
-        caller[t].cohort = cohorts == 0 ? NULL : &cohort[t / (threads / cohorts)].lock;
-        pthread_create(&thread[t], NULL, cohorts == 0 ? by_ticket : by_cohort, &caller[t].number);
+        callers[t].number = t;
+        if (cohorts > 0) callers[t].cohort = &cohort[t / (threads / cohorts)].lock;
+        pthread_create(&thread[t], NULL, cohorts == 0 ? by_ticket : by_cohort, &callers[t]);
     }
     for (int t = 0; t < threads; t++) pthread_join(thread[t], NULL);
     printf("%d %d %llu\n", cohorts, threads, (unsigned long long)roll.count);
