@@ -1,16 +1,8 @@
 -- A course is told by its tag.
-use Rattle.std.proofs.Common.{◌≡◌, ℕ, List, [], ◌∷◌, refl, ap, sym, ◌∙◌}
+use Rattle.std.proofs.Common.{◌≡◌, ap, sym, ◌∙◌}
 use Rattle.lock_rules.specs.Tag.{Tag}
-use Rattle.lock_rules.specs.Views.{tree_of}
-use Rattle.clof_compose.specs.Courses.{Course, course_of, course_tag, list_in, lists_in, tree_of_lists}
-
-list_in-tree_of : (xs : List ℕ) → list_in (tree_of xs) ≡ xs
-list_in-tree_of [] = refl
-list_in-tree_of (x ∷ xs) = λ i. x ∷ list_in-tree_of xs i
-
-lists_in-tree_of_lists : (xss : List (List ℕ)) → lists_in (tree_of_lists xss) ≡ xss
-lists_in-tree_of_lists [] = refl
-lists_in-tree_of_lists (xs ∷ xss) = λ i. list_in-tree_of xs i ∷ lists_in-tree_of_lists xss i
+use Rattle.lock_rules.proofs.Trees.{list_in-tree_of, lists_in-tree_of_lists}
+use Rattle.clof_compose.specs.Courses.{Course, course_of, course_tag}
 
 pub course_of-course_tag : (c : Course) → course_of (course_tag c) ≡ c
 unfolding course_of course_tag

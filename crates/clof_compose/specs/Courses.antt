@@ -2,6 +2,7 @@
 use Rattle.std.specs.Prelude.{ℕ, List, [], ◌∷◌}
 use Rattle.atomic_table.specs.Seated.{TableId}
 use Rattle.lock_rules.specs.Tag.{Tag, leaf, fork}
+use Rattle.lock_rules.specs.Trees.{list_in, lists_in, tree_of_lists}
 use Rattle.lock_rules.specs.Views.{tree_of}
 use Rattle.keep_local.specs.declared.shape.Shape.{Shape}
 
@@ -20,22 +21,6 @@ left_of (fork a b) = a
 abbrev pub right_of : Tag → Tag
 right_of (leaf n) = leaf 0
 right_of (fork a b) = b
-
-abbrev pub number_in : Tag → ℕ
-number_in (leaf n) = n
-number_in (fork a b) = 0
-
-abbrev pub list_in : Tag → List ℕ
-list_in (leaf n) = []
-list_in (fork a b) = number_in a ∷ list_in b
-
-abbrev pub tree_of_lists : List (List ℕ) → Tag
-tree_of_lists [] = leaf 0
-tree_of_lists (xs ∷ xss) = fork (tree_of xs) (tree_of_lists xss)
-
-abbrev pub lists_in : Tag → List (List ℕ)
-lists_in (leaf n) = []
-lists_in (fork a b) = list_in a ∷ lists_in b
 
 abbrev pub tail_of : List ℕ → List ℕ
 tail_of [] = []

@@ -3,9 +3,8 @@ ghost use Rattle.std.specs.Prelude.{false};
 ghost use Rattle.lock_rules.specs.declared.step.Answer.TheVariants.{Open};
 ghost use Rattle.clof_compose.specs.Roots.{root_tag, IsFit};
 
-use crate::payload::Payload;
 use crate::root::Root;
-use lock_rules::Cargo;
+use lock_rules::{Cargo, Payload};
 
 impl<P: Payload> Cargo for Root<P> {
     ghost tag = { root_tag P.tag };

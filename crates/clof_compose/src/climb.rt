@@ -14,11 +14,10 @@ ghost use Rattle.clof_compose.specs.declared.own.High.TheVariants.{Idle, Kept, A
 use crate::composed::Composed;
 use crate::own::{High, Own};
 use crate::own_cargo::kept_root;
-use crate::payload::Payload;
 use crate::token::{Resting, Standing};
 use crate::turns::open_turn;
 use keep_local::Share;
-use lock_rules::{Cargo, Held as Holds, Step};
+use lock_rules::{Cargo, Held as Holds, Payload, Step};
 use std::sync::Wait;
 
 /// The value of a node whose high lock is H, in its holder's hand.

@@ -7,8 +7,7 @@ use crate::composed::Composed;
 use crate::level_tokens::LevelPass;
 use crate::node::Node;
 use crate::own::{High, Own};
-use crate::payload::Payload;
-use lock_rules::{Basic, Cargo};
+use lock_rules::{Basic, Cargo, Payload};
 
 /// Puts the basic pass of each context into the list of its node.
 pub(crate) fn take_passes<V: Cargo, B: Basic<V>>(

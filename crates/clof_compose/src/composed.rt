@@ -11,11 +11,10 @@ ghost use Rattle.clof_compose.specs.Roots.{root_tag, IsFit, IsKept};
 ghost use Rattle.clof_compose.specs.declared.root.Root.{Root as TheRoot};
 ghost use Rattle.clof_compose.specs.contracts.root.Root.{the_row};
 
-use crate::payload::Payload;
 use crate::root::Root;
 use crate::token::{Climbing, Descending, Resting, Standing};
 use keep_local::Share;
-use lock_rules::Step;
+use lock_rules::{Payload, Step};
 use std::sync::Wait;
 
 /// A lock of one or more levels, whose holder reaches one root.

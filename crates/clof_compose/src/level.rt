@@ -12,12 +12,11 @@ use crate::level_tokens::{LevelHeld, LevelLeave, LevelPass, LevelQueue};
 use crate::node::{Node, lock_of};
 use crate::own::Own;
 use crate::passing::go_up;
-use crate::payload::Payload;
 use crate::release::{let_go, let_go_and_wait, put_back};
 use crate::root::Root;
 use crate::stage::{LeaveStage, QueueStage};
 use keep_local::Share;
-use lock_rules::{Basic, Held as Holds, Step};
+use lock_rules::{Basic, Held as Holds, Payload, Step};
 use std::sync::Wait;
 
 /// A basic lock for each node of a level, over a high lock of which each node has one context.

@@ -16,11 +16,10 @@ use crate::level::Level;
 use crate::level_tokens::LevelPass;
 use crate::node::Node;
 use crate::own::{High, Own};
-use crate::payload::Payload;
 use crate::report::Report;
 use crate::token::{Resting, Standing};
 use boxed_value::Boxed;
-use lock_rules::{Basic, Cargo, Held as Holds};
+use lock_rules::{Basic, Cargo, Held as Holds, Payload};
 use std::alloc::Global;
 use std::marker::PhantomData;
 

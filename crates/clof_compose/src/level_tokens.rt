@@ -9,12 +9,11 @@ ghost use Rattle.clof_compose.specs.Stages.{queue_climb, IsQueued, leave_descent
 use crate::context_id::ContextId;
 use crate::own::Own;
 use crate::own_cargo::kept_root;
-use crate::payload::Payload;
 use crate::report::Report;
 use crate::root::Root;
 use crate::stage::{LeaveStage, QueueStage};
 use crate::token::{Climbing, Descending, Resting, Standing};
-use lock_rules::{Departing, Held as Holds, Holding, Placed, Queueing};
+use lock_rules::{Departing, Held as Holds, Holding, Payload, Placed, Queueing};
 
 #[derive(Drop)]
 pub struct LevelPass<L> {

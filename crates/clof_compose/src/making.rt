@@ -6,12 +6,11 @@ ghost use Rattle.clof_compose.specs.Passes.{AreAll};
 ghost use Rattle.clof_compose.specs.Roots.{root_tag, IsFit};
 ghost use Rattle.clof_compose.specs.Tops.{IsTop, IsOfTop, AreFresh, fresh_pass, top_context};
 
-use crate::payload::Payload;
 use crate::report::Report;
 use crate::root::Root;
 use crate::top::Top;
 use crate::top_tokens::TopPass;
-use lock_rules::{Basic, Held, Placed, Refused};
+use lock_rules::{Basic, Held, Payload, Placed, Refused};
 use std::alloc::Global;
 
 /// A lock of one level, the top of the root's trail, with its passes in the order of their numbers. There is one context for each caller

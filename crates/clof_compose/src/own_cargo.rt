@@ -11,11 +11,10 @@ ghost use Rattle.clof_compose.specs.contracts.own.High.{the_row as the_high_row}
 ghost use Rattle.clof_compose.specs.contracts.root.Root.{the_row as the_root_row};
 
 use crate::own::{High, Own};
-use crate::payload::Payload;
 use crate::root::Root;
 use crate::token::{Resting, Standing};
 use boxed_value::Boxed;
-use lock_rules::Cargo;
+use lock_rules::{Cargo, Payload};
 
 impl<P: Payload, Pass: Resting, Held: Standing<P>> Cargo for Own<P, Pass, Held> {
     ghost tag = { λ o. own_tag_of Pass.rest Held.stand o.node o.high };

@@ -14,10 +14,9 @@ use crate::climb::{InHand, take_high};
 use crate::composed::Composed;
 use crate::context_id::ContextId;
 use crate::level_tokens::{LevelHeld, LevelQueue};
-use crate::payload::Payload;
 use crate::stage::QueueStage;
 use keep_local::Share;
-use lock_rules::{Queueing, Step};
+use lock_rules::{Payload, Queueing, Step};
 
 /// Goes up to the high lock with the value of a node in hand. The answer is the level's token.
 pub(crate) fn go_up<P: Payload, H: Composed<P>, Q: Queueing>(

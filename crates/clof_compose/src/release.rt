@@ -15,11 +15,10 @@ use crate::climb::InHand;
 use crate::composed::Composed;
 use crate::own::{High, Own};
 use crate::own_cargo::kept_root;
-use crate::payload::Payload;
 use crate::report::Report;
 use crate::token::{Resting, Standing};
 use crate::turns::{close_turn, note_waiter};
-use lock_rules::Step;
+use lock_rules::{Payload, Step};
 use std::sync::Wait;
 
 /// Notes the answer of `waiter` that the value keeps for the open turn. Where it is a yes and the value has kept the high lock for fewer

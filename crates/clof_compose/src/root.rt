@@ -3,8 +3,8 @@ ghost use Rattle.std.specs.Prelude.{◌≡◌};
 ghost use Rattle.std.specs.Borrow.{Lends, sem};
 ghost use Rattle.clof_compose.specs.contracts.root.Root.{the_row};
 
-use crate::payload::Payload;
 use keep_local::Trail;
+use lock_rules::Payload;
 
 /// The turns of the lock's callers, and what they work on.
 #[derive(Drop)]

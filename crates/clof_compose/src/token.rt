@@ -7,9 +7,9 @@ ghost use Rattle.clof_compose.specs.Roots.{IsKept};
 ghost use Rattle.clof_compose.specs.declared.root.Root.{Root as TheRoot};
 ghost use Rattle.clof_compose.specs.contracts.root.Root.{the_row};
 
-use crate::payload::Payload;
 use crate::report::Report;
 use crate::root::Root;
+use lock_rules::Payload;
 
 /// A pass that isn't in use.
 pub trait Resting: Drop {

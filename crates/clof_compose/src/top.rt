@@ -7,12 +7,11 @@ ghost use Rattle.clof_compose.specs.Roots.{root_tag, IsFit};
 ghost use Rattle.clof_compose.specs.Tops.{IsTop, IsOfTop, top_context};
 
 use crate::composed::Composed;
-use crate::payload::Payload;
 use crate::root::Root;
 use crate::top_tokens::{TopHeld, TopLeave, TopPass, TopQueue};
 use crate::turns::{close_turn, open_turn};
 use keep_local::Share;
-use lock_rules::{Basic, Held, Step};
+use lock_rules::{Basic, Held, Payload, Step};
 use std::sync::Wait;
 
 /// A basic lock at the top, whose value is the root.

@@ -5,11 +5,10 @@ ghost use Rattle.lock_rules.specs.declared.step.Answer.TheVariants.{Open};
 ghost use Rattle.clof_compose.specs.Roots.{IsInHand};
 ghost use Rattle.clof_compose.specs.Tops.{top_context};
 
-use crate::payload::Payload;
 use crate::report::Report;
 use crate::root::Root;
 use crate::token::{Climbing, Descending, Resting, Standing};
-use lock_rules::{Departing, Held, Holding, Placed, Queueing};
+use lock_rules::{Departing, Held, Holding, Payload, Placed, Queueing};
 
 #[derive(Drop)]
 pub struct TopPass<L> {

@@ -6,7 +6,8 @@ ghost use Rattle.lock_rules.specs.Passes.{IsOf};
 
 use anyhow::Context;
 use lock_rules::{Basic, Pass, Placed, Plain};
-use lock_trials::{Works, apart, by_four};
+use lock_threads::Works;
+use lock_trials::{apart, by_four};
 use std::alloc::Global;
 use std::sync::Wait;
 use std::thread::Threads;

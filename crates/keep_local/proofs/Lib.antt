@@ -11,3 +11,4 @@ pub mod Steps
 pub mod Lawful
 pub mod Checked
 pub mod Noting
+pub mod Shared

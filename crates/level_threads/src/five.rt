@@ -8,11 +8,12 @@ ghost use Rattle.level_trials.specs.Rooms.{HasRoom, roll_tag};
 ghost use Rattle.ticket_levels.specs.Ready.{IsReady};
 ghost use Rattle.level_threads.specs.Shifts.{HasWorked, MayWork};
 
-use crate::shared::{is_shared, passes_are_shared, receipts_are_shared};
+use crate::shared::is_shared;
 use clof_compose::{Composed, Resting, Root};
-use keep_local::Shape;
+use keep_local::{Shape, receipts_are_shared};
 use level_trials::{Job, Roll, close_ended, deal, hold_all};
-use lock_trials::{Works, by_all};
+use lock_rules::passes_are_shared;
+use lock_threads::{Works, by_all};
 use std::alloc::Global;
 use std::sync::Wait;
 use std::thread::Threads;
@@ -39,22 +40,22 @@ impl<'a, R: Wait> Works<Job<LowPass>> for Shift<'a, R> {
     }
 }
 
-// Each caller makes all the turns that it has left, in a thread of its own. The answer is `None` for want of memory.
+// Each caller makes all the turns that it has left, in a thread of its own.
 fn run_in_threads<R: Threads + Wait + Sync>(
     rt: &R,
     lock: &Lock5,
     jobs: Vec<Job<LowPass>>,
-) -> Option<Vec<Job<LowPass>>>
+) -> Vec<Job<LowPass>>
     requires sound { ⟦<Lock5 as Composed<Roll>>⟧.sound lock.now }
     requires lowest { ⟦<Lock5 as Composed<Roll>>⟧.level lock.now ≡ 0 }
     requires room { HasRoom (course_of (⟦<Lock5 as Composed<Roll>>⟧.tag lock.now)) }
     requires each { (k : ℕ) (j : _) → slice_get jobs.items k ≡ Some j → IsJob ⟦<LowPass as Resting>⟧.rest
         (⟦<Lock5 as Composed<Roll>>⟧.has lock.now) (⟦<Lock5 as Composed<Roll>>⟧.level lock.now)
         (⟦<Lock5 as Composed<Roll>>⟧.tag lock.now) k j }
-    ensures many { IfSome result (λ ended. length ended.items ≡ length jobs.items) }
-    ensures each { IfSome result (λ ended. (k : ℕ) (j : _) → slice_get ended.items k ≡ Some j
+    ensures many { length result.items ≡ length jobs.items }
+    ensures each { (k : ℕ) (j : _) → slice_get result.items k ≡ Some j
         → IsEnded ⟦<LowPass as Resting>⟧.rest (⟦<Lock5 as Composed<Roll>>⟧.has lock.now)
-        (⟦<Lock5 as Composed<Roll>>⟧.level lock.now) (⟦<Lock5 as Composed<Roll>>⟧.tag lock.now) k j) }
+        (⟦<Lock5 as Composed<Roll>>⟧.level lock.now) (⟦<Lock5 as Composed<Roll>>⟧.tag lock.now) k j }
 {
     passes_are_shared();
     receipts_are_shared();
@@ -63,7 +64,7 @@ fn run_in_threads<R: Threads + Wait + Sync>(
 }
 
 // Each caller to whom a job was dealt makes all its turns, as `run_in_threads` says. The answer has the jobs and the emptied list of the
-// passes; it is `None` for want of memory, and where no job was dealt.
+// passes; it is `None` where no job was dealt.
 fn run_dealt<R: Threads + Wait + Sync>(
     rt: &R,
     lock: &Lock5,
@@ -88,10 +89,7 @@ fn run_dealt<R: Threads + Wait + Sync>(
     let Some((jobs, passes)) = dealt else {
         return None;
     };
-    let Some(ended) = run_in_threads(rt, lock, jobs) else {
-        return None;
-    };
-    Some((ended, passes))
+    Some((run_in_threads(rt, lock, jobs), passes))
 }
 
 // The callers of a lock that is ready make all their turns, and it is taken apart. The answer is its root, or `None` for want of memory.

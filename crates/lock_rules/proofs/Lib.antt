@@ -1,3 +1,5 @@
 pub mod Names
 pub mod Passes
 pub mod Sums
+pub mod Shared
+pub mod Trees

@@ -6,3 +6,4 @@ pub mod Rows
 pub mod Tokens
 pub mod Passes
 pub mod Holders
+pub mod Trees

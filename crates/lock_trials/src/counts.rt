@@ -4,8 +4,9 @@ ghost use Rattle.lock_rules.specs.Passes.{IsOf};
 ghost use Rattle.lock_rules.specs.Tag.{leaf};
 
 use crate::bounded::BoundedCount;
-use crate::threads::{Works, apart, by_four, by_two};
+use crate::threads::{apart, by_four, by_two};
 use lock_rules::Basic;
+use lock_threads::Works;
 use std::alloc::Global;
 use std::sync::Wait;
 use std::thread::Threads;

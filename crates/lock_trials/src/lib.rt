@@ -16,6 +16,4 @@ pub use counts::{count_alone, count_by_four, count_by_two};
 pub use parcel::Parcel;
 pub use script::{Call, Holder, Move, Outcome, START, Token, Told, Who, carry_out, first, second};
 pub use slow::{Slow, SlowLeave, SlowQueue};
-pub use threads::{
-    HOLDS, Works, apart, by_all, by_four, by_two, hold_alone, hold_by_four, hold_by_two,
-};
+pub use threads::{HOLDS, apart, by_four, by_two, hold_alone, hold_by_four, hold_by_two};

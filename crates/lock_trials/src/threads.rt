@@ -8,9 +8,10 @@ ghost use Rattle.lock_trials.specs.Tokens.{AreFour};
 
 use crate::parcel::Parcel;
 use lock_rules::{Basic, Cargo};
+use lock_threads::Works;
 use std::alloc::Global;
 use std::sync::Wait;
-use std::thread::{Threads, join, map_vec};
+use std::thread::{Threads, join};
 
 /// How often each thread holds the lock in the tests of the locks.
 pub const HOLDS: u32 = 100;
@@ -57,20 +58,6 @@ fn hold_often<B: Basic<Parcel>, R: Wait>(
         pass = hold(rt, lock, pass, parks);
     }
     pass
-}
-
-/// What a thread does with its job, such as a pass. The checker doesn't yet send a closure to a thread whose body rests on a trait like
-/// `Basic`, where an associated type has a bound with a type argument, so the closures rest on this trait.
-pub trait Works<J> {
-    // This job may be done.
-    ghost allows: { Self → J → Type 0 };
-
-    // This is what may come of this job.
-    ghost gives: { Self → J → J → Type 0 };
-
-    fn work(&self, job: J) -> J
-        requires { allows self.now job }
-        ensures { gives self.now job result };
 }
 
 /// The holds of one thread.
@@ -152,24 +139,6 @@ pub fn by_four<J: Send + Drop, W: Works<J> + Sync, R: Threads + Sync>(
             ensures fourth { W.gives worker.entry.now fourth result.1 }
         { by_two(rt, worker, third, fourth) },
     )
-}
-
-/// Each job is done by a thread of its own. The answer has what came of each, in order, or is `None` for want of memory.
-pub fn by_all<J: Send + Drop, W: Works<J> + Sync, R: Threads + Sync>(
-    rt: &R,
-    worker: &W,
-    jobs: Vec<J>,
-) -> Option<Vec<J>>
-    requires allowed { (i : ℕ) (job : J) → slice_get jobs.items i ≡ Some job → W.allows worker.now job }
-    ensures many { IfSome result (λ done. length done.items ≡ length jobs.items) }
-    ensures each { IfSome result (λ done. (i : ℕ) (job left : J) → slice_get jobs.items i ≡ Some job
-        → slice_get done.items i ≡ Some left → W.gives worker.now job left) }
-{
-    let work = |job: J| -> J
-        requires { W.allows worker.now job }
-        ensures { W.gives worker.entry.now job result }
-    { worker.work(job) };
-    map_vec(rt, jobs, &work).ok()
 }
 
 /// Takes the four passes of a lock out of their list, which is then empty.

@@ -10,8 +10,5 @@ by_all-requires-clause-allowed g c κs within = λ k j e.
     may_work _ _ _ _ _ c.requires.sound c.requires.lowest c.requires.room k j (c.requires.each k j e)
 
 pub returns-clause-each : goal.returns-clause-each
-returns-clause-each g c = if_both (λ done. length done.items ≡ length c.args.jobs.items)
-    (λ done. (k : ℕ) (j j' : _) → slice_get c.args.jobs.items k ≡ Some j → slice_get done.items k ≡ Some j' → HasWorked _ j j')
-    (λ done. (k : ℕ) (j' : _) → slice_get done.items k ≡ Some j' → IsEnded _ _ _ _ k j') c.by_all.result
-    (λ done many worked. all_ended _ _ _ _ c.args.jobs.items done.items many c.requires.each worked) c.by_all.ensures.many
+returns-clause-each g c = all_ended _ _ _ _ c.args.jobs.items c.by_all.result.items c.by_all.ensures.many c.requires.each
     c.by_all.ensures.each

@@ -1,10 +1,8 @@
--- An idle pass or a receipt may be shared between threads: it owns a view alone, and a view may go to another thread.
+-- An idle pass may be shared between threads: it owns a view alone, and a view may go to another thread.
 use denote.RattleType.{RattleType}
 use denote.Param.Send.{IsSync, part_keyless, sendable}
 use Rattle.atomic_table.proofs.badge.Badge.TheSendSync as badge
 use Rattle.atomic_table.specs.contracts.badge.Badge as Badge
-use Rattle.keep_local.specs.contracts.receipt.Receipt as Receipt
-use Rattle.keep_local.specs.contracts.receipt_view.ReceiptView as ReceiptView
 use Rattle.lock_rules.specs.contracts.tokens.Pass as Pass
 use Rattle.lock_rules.specs.contracts.view.View as View
 
@@ -13,6 +11,3 @@ badge_shared V = record { shared = λ d b o κ q. part_keyless (Badge.the_row V)
 
 pub pass_shared : IsSync Pass.the_row
 pass_shared = let view = badge_shared View.the_row in search sendable depth 20
-
-pub receipt_shared : IsSync Receipt.the_row
-receipt_shared = let view = badge_shared ReceiptView.the_row in search sendable depth 20

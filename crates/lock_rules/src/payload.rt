@@ -1,4 +1,4 @@
-//! What a composed lock asks of the payload of its root.
+//! What a lock of several levels asks of the payload of its root.
 ghost use Rattle.std.specs.Prelude.{ℕ, List};
 ghost use Rattle.lock_rules.specs.Tag.{Tag};
 
