@@ -11,3 +11,5 @@ pub mod Nodes
 pub mod Stages
 pub mod Lists
 pub mod Parents
+pub mod Shares
+pub mod Releasing

@@ -11,3 +11,4 @@ pub mod Stages
 pub mod Nodes
 pub mod Releases
 pub mod Reports
+pub mod Shares

@@ -8,7 +8,7 @@ use Rattle.clof_compose.specs.Courses.{course_of}
 use Rattle.clof_compose.specs.Meanings.{Rest}
 use Rattle.clof_compose.specs.Passes.{IsNumber}
 use Rattle.level_trials.specs.Jobs.{IsEnded, IsJob}
-use Rattle.level_trials.specs.Walkers.{IsShareIn}
+use Rattle.clof_compose.specs.Shares.{IsShareIn}
 use Rattle.level_trials.specs.declared.holds.Job.{Job}
 
 single : {A : Type 0} (Q : ℕ → A → Type 0) (x : A) → Q 0 x → (k : ℕ) (a : A) → slice_get (x ∷ []) k ≡ Some a → Q k a

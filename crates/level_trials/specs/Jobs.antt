@@ -5,7 +5,7 @@ use Rattle.clof_compose.specs.Contexts.{Context}
 use Rattle.clof_compose.specs.Courses.{course_of}
 use Rattle.clof_compose.specs.Meanings.{Rest}
 use Rattle.clof_compose.specs.Passes.{IsNumber}
-use Rattle.level_trials.specs.Walkers.{IsShareIn}
+use Rattle.clof_compose.specs.Shares.{IsShareIn}
 use Rattle.level_trials.specs.declared.holds.Job.{Job}
 
 module _ {P : Type 0} (rest : P → Rest) (has : Context → Type 0) (level : ℕ) (tag : Tag) where

@@ -1,26 +1,19 @@
 -- Where the callers of a walk stand.
-use Rattle.std.specs.Prelude.{◌≡◌, ℕ, ◌<◌, IsSomeAnd, slice_index}
-use Rattle.keep_local.specs.Shapes.{callers_of}
+use Rattle.std.specs.Prelude.{◌≡◌, ℕ, ◌<◌, IsSomeAnd}
 use Rattle.keep_local.specs.States.{ShareState}
 use Rattle.lock_rules.specs.Tag.{Tag}
 use Rattle.clof_compose.specs.Calls.{HasOpened}
 use Rattle.clof_compose.specs.Contexts.{Context}
-use Rattle.clof_compose.specs.Courses.{Course, course_of}
+use Rattle.clof_compose.specs.Courses.{course_of}
 use Rattle.clof_compose.specs.Passes.{IsNumber}
 use Rattle.clof_compose.specs.Meanings.{Rest, Climb, Stand, Descent}
+use Rattle.clof_compose.specs.Shares.{IsShareIn}
 use Rattle.clof_compose.specs.declared.root.Root.{Root}
 use Rattle.level_trials.specs.Rooms.{roll_tag}
 use Rattle.level_trials.specs.declared.roll.Roll.{Roll}
 use Rattle.level_trials.specs.declared.walker.Walker.{Walker}
 use Rattle.level_trials.specs.declared.walker.State.{State}
 use Rattle.level_trials.specs.declared.walker.State.TheVariants.{Idle, Queued, Holding, Leaving, Stepping}
-
--- the share is this caller's in the trail that the course names
-pub record IsShareIn (course : Course) (caller : ℕ) (share : ShareState) : Type 0 where
-  pub own : share.name ≡ course.name
-  pub caller_is : share.caller ≡ caller
-  pub known : caller < callers_of course.shape
-  pub quota : share.quota ≡ slice_index course.quotas caller
 
 module _ {P Q H L : Type 0} (rest : P → Rest) (climb : Q → Climb) (climbs : Q → Type 0) (stand : H → Stand (Root Roll))
     (stands : H → Type 0) (descent : L → Descent) (descends : L → Type 0) (has : Context → Type 0) (level : ℕ) (tag : Tag) where

@@ -4,7 +4,7 @@ ghost use Rattle.clof_compose.specs.Calls.{MayTurn};
 ghost use Rattle.clof_compose.specs.Courses.{course_of};
 ghost use Rattle.clof_compose.specs.Passes.{IsNumber};
 ghost use Rattle.level_trials.specs.Rooms.{HasRoom};
-ghost use Rattle.level_trials.specs.Walkers.{IsShareIn};
+ghost use Rattle.clof_compose.specs.Shares.{IsShareIn};
 
 use crate::roll::{Roll, call};
 use clof_compose::{Composed, Resting, Standing};

@@ -7,7 +7,7 @@ ghost use Rattle.clof_compose.specs.Passes.{AreAll, IsNumber};
 ghost use Rattle.clof_compose.specs.Roots.{IsFit, root_tag};
 ghost use Rattle.level_trials.specs.Jobs.{IsEnded, IsJob};
 ghost use Rattle.level_trials.specs.Rooms.{roll_tag};
-ghost use Rattle.level_trials.specs.Walkers.{IsShareIn};
+ghost use Rattle.clof_compose.specs.Shares.{IsShareIn};
 
 use crate::holds::Job;
 use crate::roll::Roll;

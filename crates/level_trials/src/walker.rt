@@ -4,7 +4,8 @@ ghost use Rattle.clof_compose.specs.Calls.{HasOpened};
 ghost use Rattle.clof_compose.specs.Courses.{course_of};
 ghost use Rattle.level_trials.specs.Rooms.{HasRoom, roll_tag};
 ghost use Rattle.clof_compose.specs.Passes.{IsNumber};
-ghost use Rattle.level_trials.specs.Walkers.{IsShareIn, Stands};
+ghost use Rattle.clof_compose.specs.Shares.{IsShareIn};
+ghost use Rattle.level_trials.specs.Walkers.{Stands};
 
 use crate::roll::{Roll, call};
 use clof_compose::{Composed, Standing};

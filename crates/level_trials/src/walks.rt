@@ -7,7 +7,8 @@ ghost use Rattle.clof_compose.specs.Courses.{course_of};
 ghost use Rattle.clof_compose.specs.Passes.{AreAll, IsNumber};
 ghost use Rattle.clof_compose.specs.Roots.{IsFit, root_tag};
 ghost use Rattle.level_trials.specs.Rooms.{HasRoom, roll_tag};
-ghost use Rattle.level_trials.specs.Walkers.{IsDone, IsShareIn, IsWalker};
+ghost use Rattle.clof_compose.specs.Shares.{IsShareIn};
+ghost use Rattle.level_trials.specs.Walkers.{IsDone, IsWalker};
 
 use crate::roll::Roll;
 use crate::rounds::{are_done, round};

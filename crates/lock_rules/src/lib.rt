@@ -27,6 +27,7 @@ pub use basic::Basic;
 pub use cargo::Cargo;
 pub use held::{Held, HeldSeat};
 pub use laws::passes_are_shared;
+pub use pauses::Pauses;
 pub use payload::Payload;
 pub use plain::Plain;
 pub use step::{Answer, Refused, Step};

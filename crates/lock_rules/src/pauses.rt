@@ -6,20 +6,22 @@ const EARLY_POLLS: u32 = 100;
 
 /// The pauses of one call. Behind the early polls they grow, and then yield the processor.
 #[derive(Drop)]
-pub(crate) struct Pauses {
+pub struct Pauses {
     backoff: Backoff,
     early: u32,
 }
 
 impl Pauses {
-    pub(crate) fn new() -> Pauses {
+    /// Those of a call that has not paused yet.
+    pub fn new() -> Pauses {
         Pauses {
             backoff: Backoff::new(),
             early: EARLY_POLLS,
         }
     }
 
-    pub(crate) fn pause(&mut self) {
+    /// Makes the next pause.
+    pub fn pause(&mut self) {
         if self.early > 0 {
             self.early -= 1;
             self.backoff.reset();

@@ -7,7 +7,7 @@ use Rattle.clof_compose.specs.Courses.{course_of}
 use Rattle.clof_compose.proofs.Owned.{some_with}
 use Rattle.level_trials.specs.Rooms.{roll_tag}
 use Rattle.level_trials.proofs.Rooms.{calls_of, room_left}
-use Rattle.level_trials.proofs.Releasing.{may_release_lowest}
+use Rattle.clof_compose.proofs.Releasing.{may_release_lowest}
 use Rattle.level_trials.proofs.holds.hold.Goals as goal
 
 pub call-requires : goal.call-requires

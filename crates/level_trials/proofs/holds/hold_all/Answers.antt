@@ -1,6 +1,6 @@
 use Rattle.std.proofs.Common.{ap, sym, ◌∙◌, subst, arith}
 use Rattle.clof_compose.specs.Contexts.{Context}
-use Rattle.level_trials.proofs.Shares.{may_turn}
+use Rattle.clof_compose.proofs.Shares.{may_turn}
 use Rattle.level_trials.proofs.holds.hold_all.Goals as goal
 
 pub hold-pass-requires-clause-own : goal.hold-pass-requires-clause-own

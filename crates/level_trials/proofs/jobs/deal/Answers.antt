@@ -1,5 +1,5 @@
 use Rattle.std.proofs.Common.{sym, ◌∙◌}
-use Rattle.level_trials.proofs.Shares.{as_many_shares, new_share_in}
+use Rattle.clof_compose.proofs.Shares.{as_many_shares, new_share_in}
 use Rattle.level_trials.proofs.jobs.deal.Goals as goal
 
 pub pair-requires-clause-shares : goal.pair-requires-clause-shares

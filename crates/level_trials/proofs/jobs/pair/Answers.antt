@@ -5,7 +5,7 @@ use Rattle.clof_compose.specs.Courses.{course_of}
 use Rattle.clof_compose.specs.Passes.{IsNumber}
 use Rattle.clof_compose.proofs.Lists.{length_more, one_before}
 use Rattle.level_trials.specs.Jobs.{IsJob}
-use Rattle.level_trials.specs.Walkers.{IsShareIn}
+use Rattle.clof_compose.specs.Shares.{IsShareIn}
 use Rattle.level_trials.proofs.Items.{at_end, from_first, in_front}
 use Rattle.level_trials.proofs.jobs.pair.Goals as goal
 

@@ -3,7 +3,7 @@ use Rattle.std.specs.Prelude.{slice_get}
 use Rattle.clof_compose.specs.Courses.{course_of}
 use Rattle.clof_compose.specs.Passes.{IsNumber}
 use Rattle.level_trials.specs.Jobs.{IsJob}
-use Rattle.level_trials.specs.Walkers.{IsShareIn}
+use Rattle.clof_compose.specs.Shares.{IsShareIn}
 use Rattle.level_trials.proofs.jobs.pair.Given as goal
 
 -- the passes and the shares that have left their lists are in the jobs, the last one first

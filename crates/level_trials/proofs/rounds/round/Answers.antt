@@ -1,9 +1,10 @@
 use Rattle.std.proofs.Common.{subst, arith}
 use Rattle.std.proofs.lemmas.Option.{slice_get-get_or}
 use Rattle.clof_compose.specs.Courses.{course_of}
-use Rattle.level_trials.specs.Walkers.{IsShareIn, IsWalker}
+use Rattle.clof_compose.specs.Shares.{IsShareIn}
+use Rattle.level_trials.specs.Walkers.{IsWalker}
 use Rattle.level_trials.proofs.Items.{set_each}
-use Rattle.level_trials.proofs.Shares.{own_share}
+use Rattle.clof_compose.proofs.Shares.{own_share}
 use Rattle.level_trials.proofs.rounds.round.Goals as goal
 
 pub step-requires-clause-share : goal.step-requires-clause-share

@@ -5,7 +5,7 @@ use Rattle.clof_compose.specs.Calls.{HasOpened}
 use Rattle.clof_compose.proofs.Owned.{some_with}
 use Rattle.level_trials.specs.Rooms.{roll_tag}
 use Rattle.level_trials.proofs.Rooms.{calls_of, lowest_context, room_left}
-use Rattle.level_trials.proofs.Releasing.{may_release_lowest}
+use Rattle.clof_compose.proofs.Releasing.{may_release_lowest}
 use Rattle.level_trials.proofs.walker.leave.Goals as goal
 
 pub call-requires : goal.call-requires

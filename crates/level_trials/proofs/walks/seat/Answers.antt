@@ -4,7 +4,8 @@ use native.Mathlib.Decide.{ℕ_discrete}
 use Rattle.clof_compose.specs.Courses.{course_of}
 use Rattle.clof_compose.specs.Passes.{IsNumber}
 use Rattle.clof_compose.proofs.Lists.{length_more, one_before}
-use Rattle.level_trials.specs.Walkers.{IsShareIn, IsWalker}
+use Rattle.clof_compose.specs.Shares.{IsShareIn}
+use Rattle.level_trials.specs.Walkers.{IsWalker}
 use Rattle.level_trials.proofs.Items.{at_end, from_first, in_front}
 use Rattle.level_trials.proofs.walks.seat.Goals as goal
 

@@ -2,7 +2,8 @@ use Rattle.std.proofs.Common.{◌≡◌, ℕ, ◌+◌, length, reverse, Some, ve
 use Rattle.std.specs.Prelude.{slice_get}
 use Rattle.clof_compose.specs.Courses.{course_of}
 use Rattle.clof_compose.specs.Passes.{IsNumber}
-use Rattle.level_trials.specs.Walkers.{IsShareIn, IsWalker}
+use Rattle.clof_compose.specs.Shares.{IsShareIn}
+use Rattle.level_trials.specs.Walkers.{IsWalker}
 use Rattle.level_trials.proofs.walks.seat.Given as goal
 
 -- the passes and the shares that have left their lists are the callers', the last one first

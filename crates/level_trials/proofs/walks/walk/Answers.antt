@@ -2,7 +2,7 @@ use Rattle.std.proofs.Common.{length, ap, sym, ◌∙◌, subst}
 use Rattle.std.specs.Prelude.{slice_get}
 use Rattle.clof_compose.specs.Passes.{AreAll}
 use Rattle.level_trials.proofs.Items.{written_all}
-use Rattle.level_trials.proofs.Shares.{as_many_shares, new_share_in}
+use Rattle.clof_compose.proofs.Shares.{as_many_shares, new_share_in}
 use Rattle.level_trials.proofs.walks.walk.Goals as goal
 
 pub seat-walkers-requires-clause-shares : goal.seat-walkers-requires-clause-shares

@@ -9,7 +9,7 @@ use Rattle.keep_local.specs.Shapes.{callers_of}
 use Rattle.keep_local.specs.States.{ShareState, new_share, new_shares}
 use Rattle.clof_compose.specs.Calls.{MayTurn}
 use Rattle.clof_compose.specs.Courses.{Course}
-use Rattle.level_trials.specs.Walkers.{IsShareIn}
+use Rattle.clof_compose.specs.Shares.{IsShareIn}
 
 -- the share at a place, where callers are counted from a first one
 record IsDealt (name : TableId) (quotas : List ℕ) (first k : ℕ) (s : ShareState) : Type 0 where
