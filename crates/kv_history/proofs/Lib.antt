@@ -1,7 +1,9 @@
 pub mod Keyed
 pub mod Given
+pub mod Next
 pub mod Logs
 pub mod Turns
 pub mod Places
 pub mod Voids
 pub mod Tallies
+pub mod Holding

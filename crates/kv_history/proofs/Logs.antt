@@ -38,6 +38,7 @@ use Rattle.std.specs.List.{AllByRecursion}
 use Rattle.mc_text.specs.Request.{WholeCommand}
 use Rattle.mc_text.specs.Reading.{commands_of}
 use Rattle.kv_history.specs.Contents.{Contents, empty_store}
+use Rattle.kv_history.proofs.Next.{IsBehindOwn, length-own-cons}
 use Rattle.kv_history.specs.Answer.{reply_of, store_after, replies_from, replies_of, store_from, store_of}
 use Rattle.kv_history.specs.Log.{
   Logged,
@@ -47,7 +48,6 @@ use Rattle.kv_history.specs.Log.{
   applied,
   own,
   store_now,
-  IsNext,
   applied_entry,
   void_entry,
   IsOneThread,
@@ -109,7 +109,7 @@ own-push entries entry caller =
     one_command true entry = refl
     one_command false entry = refl
 
-own_first-push : (log : Log) (entry : Logged) → IsNext log entry.caller entry.command → EachOwnFirst log
+own_first-push : (log : Log) (entry : Logged) → IsBehindOwn log entry.caller entry.command → EachOwnFirst log
     → EachOwnFirst (record { sections = log.sections; entries = log.entries ++ entry ∷ [] })
 own_first-push log entry next before caller section place = chosen (entry.caller == caller) refl
   where
@@ -137,13 +137,13 @@ own_first-push log entry next before caller section place = chosen (entry.caller
         ∙ append-nil (own log.entries caller) in
         (found.0, found.1 ∙ ap (λ known. known ++ found.0) (sym same))
 
-callers-push : (log : Log) (entry : Logged) → IsNext log entry.caller entry.command → EachHasSection log
+callers-push : (log : Log) (entry : Logged) → IsBehindOwn log entry.caller entry.command → EachHasSection log
     → EachHasSection (record { sections = log.sections; entries = log.entries ++ entry ∷ [] })
 callers-push log entry next before =
     All-push (λ entry. entry.caller < length log.sections) log.entries entry before
     (slice_get_within log.sections entry.caller next.section next.place)
 
-pub sound-applied : (log : Log) (caller : ℕ) (command : WholeCommand) → IsNext log caller command → IsSound log
+pub sound-applied : (log : Log) (caller : ℕ) (command : WholeCommand) → IsBehindOwn log caller command → IsSound log
     → IsSound (record { sections = log.sections; entries = log.entries ++ applied_entry log.entries caller command ∷ [] })
 sound-applied log caller command next before = record {
   one_thread = one_thread-applied log.entries caller command before.one_thread;
@@ -155,7 +155,7 @@ sound-applied log caller command next before = record {
     false_true : false ≡ true → ⊥
     false_true e = cc
 
-pub sound-void : (log : Log) (caller : ℕ) (command : WholeCommand) → IsNext log caller command → IsSound log
+pub sound-void : (log : Log) (caller : ℕ) (command : WholeCommand) → IsBehindOwn log caller command → IsSound log
     → IsSound (record { sections = log.sections; entries = log.entries ++ void_entry caller command ∷ [] })
 sound-void log caller command next before = record {
   one_thread = one_thread-void log.entries caller command before.one_thread;
@@ -168,16 +168,6 @@ sound-void log caller command next before = record {
 own_count : ℕ → List (List ℕ) → List Logged → ℕ
 own_count from [] entries = 0
 own_count from (section ∷ sections) entries = length (own entries from) + own_count (suc from) sections entries
-
-length-own-cons : (entry : Logged) (entries : List Logged) (caller : ℕ)
-    → length (own (entry ∷ entries) caller) ≡ cond (entry.caller == caller) 1 0 + length (own entries caller)
-length-own-cons entry entries caller = chosen (entry.caller == caller)
-  where
-    chosen : (b : Bool) → length
-        (commands (cond b (entry ∷ filter (λ entry. entry.caller == caller) entries) (filter (λ entry. entry.caller == caller) entries)))
-        ≡ cond b 1 0 + length (own entries caller)
-    chosen true = omega arith
-    chosen false = omega arith
 
 own_count-nil : (from : ℕ) (sections : List (List ℕ)) → own_count from sections [] ≡ 0
 unfolding own_count
@@ -266,7 +256,7 @@ entries-within log sound =
         rw (zero-add place) (rw first.1 (omega (arith, length-append (own log.entries place) first.0)))
 
 -- where a caller has a command left, there are fewer entries than commands
-pub entries-below : (log : Log) (caller : ℕ) (command : WholeCommand) → IsNext log caller command → IsSound log
+pub entries-below : (log : Log) (caller : ℕ) (command : WholeCommand) → IsBehindOwn log caller command → IsSound log
     → length log.entries < command_count log.sections
 entries-below log caller command next sound =
     let within = entries-within (record { sections = log.sections; entries = log.entries ++ void_entry caller command ∷ [] })

@@ -6,8 +6,9 @@ use Rattle.std.specs.Prelude.{Some, slice_get, slice_index_or, option_map, map, 
 use Rattle.std.specs.List.{list_all}
 use Rattle.kv_history.specs.declared.record.Record.{Record}
 use Rattle.kv_history.specs.Log.{Logged, all_replies}
-use Rattle.kv_history.specs.declared.journal.Journal.TheInside.{Inside}
-use Rattle.kv_history.specs.Journal.{IsPlaced, ArePlaced, IsKept, log_of, turn_of}
+use Rattle.kv_history.specs.declared.kept.Kept.{Kept}
+use Rattle.kv_history.specs.Journal.{IsKept, log_of}
+use Rattle.kv_history.specs.Records.{IsPlaced, ArePlaced, turn_of}
 
 -- one more
 pub placed-push : (start : ℕ) (records : List Record) (entries : List Logged) (one : Record) (entry : Logged)
@@ -122,18 +123,17 @@ reply_at (first ∷ entries) place text within is =
     ap (option_map (λ (entry : Logged). entry.reply)) found ∙ ap Some (sym (is ∙ reply_between place (first ∷ entries) _ found))
 
 -- as many records as entries
-pub length-kept : (journal : Inside) → IsKept journal → vec_len journal.records ≡ length (log_of journal).entries
-length-kept journal kept =
-    omega (arith, journal.records.ok.0, length-placed 0 journal.records.items (log_of journal).entries kept.placed)
+pub length-kept : (kept : Kept) → IsKept kept → vec_len kept.records ≡ length (log_of kept).entries
+length-kept kept is = omega (arith, kept.records.ok.0, length-placed 0 kept.records.items (log_of kept).entries is.placed)
 
 -- the record at a place is that of the entry there
-pub record_at : (journal : Inside) (place : ℕ) (one : Record) → IsKept journal → place < length (log_of journal).entries
-    → one ≡ slice_index_or journal.records.items place one → PlacedAt 0 place one (log_of journal).entries
-record_at journal place one kept within is =
-    let inside : place < length journal.records.items =
-    omega (arith, within, length-placed 0 journal.records.items (log_of journal).entries kept.placed) in
-    placed_at 0 journal.records.items (log_of journal).entries kept.placed place one
-    (slice_get-get_or journal.records.items place one inside ∙ ap Some (sym is))
+pub record_at : (kept : Kept) (place : ℕ) (one : Record) → IsKept kept → place < length (log_of kept).entries
+    → one ≡ slice_index_or kept.records.items place one → PlacedAt 0 place one (log_of kept).entries
+record_at kept place one is_kept within is =
+    let inside : place < length kept.records.items =
+    omega (arith, within, length-placed 0 kept.records.items (log_of kept).entries is_kept.placed) in
+    placed_at 0 kept.records.items (log_of kept).entries is_kept.placed place one
+    (slice_get-get_or kept.records.items place one inside ∙ ap Some (sym is))
 
 -- whether no record is void
 pub none_void-placed : (start : ℕ) (records : List Record) (entries : List Logged) → ArePlaced start records entries

@@ -9,7 +9,6 @@ use Rattle.kv_history.specs.Log.{
   Logged,
   Log,
   Turn,
-  IsNext,
   applied_entry,
   void_entry,
   own,
@@ -17,6 +16,7 @@ use Rattle.kv_history.specs.Log.{
   next_entry,
   entries_from,
 }
+use Rattle.kv_history.proofs.Next.{IsBehindOwn}
 
 pub entries_from-push : (sections : List (List ℕ)) (entries : List Logged) (turns : List Turn) (turn : Turn)
     → entries_from sections entries (turns ++ turn ∷ [])
@@ -26,7 +26,7 @@ entries_from-push sections entries (first ∷ turns) turn =
     entries_from-push sections (entries ++ next_entry sections entries first ∷ []) turns turn
 
 -- the command that a caller's turn is for
-pub next_command-is : (log : Log) (caller : ℕ) (command : WholeCommand) → IsNext log caller command
+pub next_command-is : (log : Log) (caller : ℕ) (command : WholeCommand) → IsBehindOwn log caller command
     → next_command log.sections log.entries caller ≡ command
 next_command-is log caller command next =
     let none : WholeCommand = record { request = Quit; spelling = [] } in
@@ -37,7 +37,7 @@ next_command-is log caller command next =
     ∙ get_or-append_seam before command next.rest none
 
 -- the entries after one turn more
-pub entries-applied : (log : Log) (turns : List Turn) (caller : ℕ) (command : WholeCommand) → IsNext log caller command
+pub entries-applied : (log : Log) (turns : List Turn) (caller : ℕ) (command : WholeCommand) → IsBehindOwn log caller command
     → entries_from log.sections [] turns ≡ log.entries
     → entries_from log.sections [] (turns ++ record { caller = caller; void = false } ∷ [])
     ≡ log.entries ++ applied_entry log.entries caller command ∷ []
@@ -46,7 +46,7 @@ entries-applied log turns caller command next are =
     ∙ ap (λ entries. entries ++ next_entry log.sections entries (record { caller = caller; void = false }) ∷ []) are
     ∙ ap (λ command. log.entries ++ applied_entry log.entries caller command ∷ []) (next_command-is log caller command next)
 
-pub entries-void : (log : Log) (turns : List Turn) (caller : ℕ) (command : WholeCommand) → IsNext log caller command
+pub entries-void : (log : Log) (turns : List Turn) (caller : ℕ) (command : WholeCommand) → IsBehindOwn log caller command
     → entries_from log.sections [] turns ≡ log.entries
     → entries_from log.sections [] (turns ++ record { caller = caller; void = true } ∷ [])
     ≡ log.entries ++ void_entry caller command ∷ []

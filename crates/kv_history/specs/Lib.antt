@@ -5,4 +5,5 @@ pub mod Lines
 pub mod Log
 pub mod Views
 pub mod Callers
+pub mod Records
 pub mod Journal

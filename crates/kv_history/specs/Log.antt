@@ -21,7 +21,7 @@ use Rattle.std.specs.Prelude.{
   slice_index_or,
   if◌then◌else◌,
 }
-use Rattle.std.specs.List.{All, flat_map}
+use Rattle.std.specs.List.{All, count_by, flat_map}
 use Rattle.mc_text.specs.Request.{WholeCommand, Quit}
 use Rattle.mc_text.specs.Reading.{commands_of}
 use Rattle.kv_history.specs.Contents.{Contents}
@@ -66,12 +66,12 @@ own entries caller = commands (filter (λ entry. entry.caller == caller) entries
 abbrev pub store_now : List Logged → Contents
 store_now entries = store_of (commands (applied entries))
 
--- the caller has a section, and the command stands in it directly behind the caller's own
-pub record IsNext (log : Log) (caller : ℕ) (command : WholeCommand) : Type 0 where
+-- what a holder knows of a caller's next command, by the sections and the calls made so far: the caller has a section, and the command
+-- stands in it at the place that the number of the caller's calls tells
+pub record IsNext (sections : List (List ℕ)) (calls : List ℕ) (caller : ℕ) (command : WholeCommand) : Type 0 where
   pub section : List ℕ
-  pub rest : List WholeCommand
-  pub place : slice_get log.sections caller ≡ Some section
-  pub next : commands_of section ≡ own log.entries caller ++ command ∷ rest
+  pub place : slice_get sections caller ≡ Some section
+  pub next : slice_get (commands_of section) (count_by (λ other. other == caller) calls) ≡ Some command
 
 -- the entry of a command that is applied, and that of one that isn't
 abbrev pub applied_entry : List Logged → ℕ → WholeCommand → Logged

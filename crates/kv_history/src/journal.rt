@@ -7,11 +7,12 @@ ghost use Rattle.mc_text.specs.Request.{request_of, view};
 ghost use Rattle.mc_text.specs.Reading.{commands_of, rest_of};
 ghost use Rattle.kv_history.specs.Answer.{store_after};
 ghost use Rattle.kv_history.specs.Log.{IsNext, IsOneThread, NoneVoid, VoidIsSilent, EachHasSection, EachOwnFirst, IsHistory};
-ghost use Rattle.kv_history.specs.Log.{all_replies, applied, applied_entry, void_entry, store_now};
+ghost use Rattle.kv_history.specs.Log.{all_replies, applied, applied_entry, calls, void_entry, store_now};
 ghost use Rattle.kv_history.specs.Callers.{section_of, IsTallied};
 
 use crate::Store;
 use crate::caller::Caller;
+use crate::kept::Kept;
 use crate::record::Record;
 use mc_text::{Command, Tally};
 use out_of_memory::OutOfMemory;
@@ -37,14 +38,10 @@ pub struct Entry<'a> {
 }
 
 /// A store with the list of the commands that callers applied to it, and the replies. Contracts see it as its
-/// sections and its entries; `calls` are the callers of the entries.
+/// sections and its entries; `calls` are the callers of the entries. It is one pointer, since it moves with every hold.
 #[derive(Drop)]
 pub struct Journal<'a> {
-    callers: Vec<Caller<'a>>,
-    records: Vec<Record<'a>>,
-    // the replies of all entries, one behind the other
-    replies: Vec<u8>,
-    store: Store,
+    kept: Box<Kept<'a>>,
 }
 
 impl<'a> Model for Journal<'a> {
@@ -54,34 +51,38 @@ impl<'a> Model for Journal<'a> {
 
     ghost use Rattle.kv_history.specs.Journal.{log_of, IsKept};
 
-    ghost view = { log_of };
+    ghost view = { λ journal. log_of journal.kept.value };
 
-    ghost invariant = { IsKept };
+    ghost invariant = { λ journal. IsKept journal.kept.value };
 }
 
 impl<'a> Journal<'a> {
     /// A journal without entries, with the empty store, for callers with these sections: caller 0 has the first. It
-    /// takes room for an entry for each command of every section.
+    /// takes room for an entry for each command of every section, and for replies of 32 bytes a command and twice the
+    /// sections' bytes; replies that have more than this in all make the room grow.
     pub fn reserve(alloc: Global, sections: &[&'a [u8]]) -> Result<Journal<'a>, OutOfMemory>
         requires { sum_by (λ section. length section.now) sections.now < 2 ^ 32 }
         ensures sections { IfOk result (λ journal. journal.sections ≡ map (λ section. section.now) sections.now) }
         ensures entries { IfOk result (λ journal. journal.entries ≡ []) }
     {
         let callers = callers_of(alloc, sections)?;
-        let room = commands_in(&callers) as usize;
-        Ok(Journal {
+        let commands = commands_in(&callers) as usize;
+        let kept = Kept {
+            records: Vec::with_capacity(alloc, commands)?,
+            replies: Vec::with_capacity(alloc, reply_room(commands, sections))?,
             callers,
-            records: Vec::with_capacity(alloc, room)?,
-            replies: Vec::new(alloc),
             store: Store::new(alloc),
-        })
+        };
+        let kept = Box::new(alloc, kept)?;
+        Ok(Journal { kept })
     }
 
     /// Applies the next command of a caller to the store, and appends an entry with its reply; the receipt names its
     /// place. Without memory the store stays, and the entry is void and has an empty reply.
     pub fn apply(&mut self, caller: u32, command: Command<'a>) -> Result<Receipt, OutOfMemory>
-        requires { IsNext self.old caller (view command) }
+        requires { IsNext self.old.sections (calls self.old) caller (view command) }
         ensures sections { self.new.sections ≡ self.old.sections }
+        ensures calls { calls self.new ≡ calls self.old ++ caller ∷ [] }
         ensures applied { OnOk result
             (self.new.entries ≡ self.old.entries ++ applied_entry self.old.entries caller (view command.entry) ∷ []) }
         ensures store { OnOk result (store_now self.new.entries ≡ store_after (store_now self.old.entries) (request_of command.entry)) }
@@ -89,16 +90,9 @@ impl<'a> Journal<'a> {
         ensures void { OnErr result (self.new.entries ≡ self.old.entries ++ void_entry caller (view command.entry) ∷ []) }
         ensures store_stays { OnErr result (store_now self.new.entries ≡ store_now self.old.entries) }
     {
-        let answered = self.store.answer(&command, &mut self.replies);
-        let turn = self.records.len() as u32;
-        let record = Record {
-            spelling: command.spelling(),
-            end: self.replies.len(),
-            caller,
-            void: answered.is_err(),
-        };
-        put(&mut self.records, record);
-        answered?;
+        let kept = &mut *self.kept;
+        let turn = kept.records.len() as u32;
+        kept.apply(caller, &command)?;
         Ok(Receipt { turn })
     }
 
@@ -109,18 +103,32 @@ impl<'a> Journal<'a> {
             ≡ Some result.commands }
         ensures rest { option_map rest_of (slice_get self.now.sections caller) ≡ Some result.rest.now }
     {
-        self.callers[caller].tally
+        self.kept.callers[caller].tally
     }
 
-    /// The number of entries. Each caller's are the first commands of its section, in its order; the replies of a journal
-    /// without void entries are those of one thread.
-    pub fn entries(&self) -> u32
-        ensures count { result ≡ length self.now.entries }
+    /// What holds of every journal. It does nothing.
+    pub fn facts(&self)
         ensures callers { EachHasSection self.now }
+
+        // Each caller's entries are the first commands of its section, in its order.
         ensures own_first { EachOwnFirst self.now }
+
+        // The replies are those of one thread that applies the commands of the entries that aren't void, in their order.
+        ensures applied { IsOneThread (applied self.now.entries) }
+        ensures silent { VoidIsSilent self.now.entries }
+
+        // Without void entries these are all, and the callers, in their order, and the sections make them.
         ensures one_thread { NoneVoid self.now.entries → IsOneThread self.now.entries }
+        ensures history { NoneVoid self.now.entries → IsHistory self.now }
     {
-        self.records.len() as u32
+        let _ = &self.kept;
+    }
+
+    /// The number of entries.
+    pub fn entries(&self) -> u32
+        ensures { result ≡ length self.now.entries }
+    {
+        self.kept.records.len() as u32
     }
 
     /// An entry, by its number.
@@ -130,7 +138,7 @@ impl<'a> Journal<'a> {
         ensures spelling { option_map (λ entry. entry.command.spelling) (slice_get self.now.entries turn) ≡ Some result.spelling.now }
         ensures void { option_map (λ entry. entry.void) (slice_get self.now.entries turn) ≡ Some result.void }
     {
-        let record = &self.records[turn as usize];
+        let record = &self.kept.records[turn as usize];
         Entry {
             caller: record.caller,
             spelling: record.spelling,
@@ -145,7 +153,7 @@ impl<'a> Journal<'a> {
     {
         let turn = turn as usize;
         part(
-            &self.replies,
+            &self.kept.replies,
             self.replies_end(turn),
             self.replies_end(turn + 1),
         )
@@ -155,7 +163,7 @@ impl<'a> Journal<'a> {
     pub fn replies(&self) -> &[u8]
         ensures { result.now ≡ all_replies self.now.entries }
     {
-        &self.replies
+        &self.kept.replies
     }
 
     // Where the replies of the first so many entries end.
@@ -164,7 +172,7 @@ impl<'a> Journal<'a> {
         ensures { result ≡ length (all_replies (take entries self.now.entries)) }
     {
         match entries.checked_sub(1) {
-            Some(last) => self.records[last].end,
+            Some(last) => self.kept.records[last].end,
             None => 0,
         }
     }
@@ -173,19 +181,14 @@ impl<'a> Journal<'a> {
     pub fn store(&self) -> &Store
         ensures { result.now ≡ store_now self.now.entries }
     {
-        &self.store
+        &self.kept.store
     }
 
-    /// Whether no entry is void. The replies are those of one thread that applies the commands in the order of the
-    /// entries; a void entry has none.
+    /// Whether no entry is void.
     pub fn whole(&self) -> bool
-        ensures none_void { IsTrue result ↔ NoneVoid self.now.entries }
-        ensures one_thread { OnTrue result (IsOneThread self.now.entries) }
-        ensures history { OnTrue result (IsHistory self.now) }
-        ensures applied { IsOneThread (applied self.now.entries) }
-        ensures silent { VoidIsSilent self.now.entries }
+        ensures { IsTrue result ↔ NoneVoid self.now.entries }
     {
-        none_void(&self.records)
+        none_void(&self.kept.records)
     }
 }
 
@@ -234,11 +237,11 @@ fn commands_in(callers: &[Caller<'_>]) -> u32
     commands
 }
 
-// Puts a record into room that is there, so the push succeeds.
-fn put<'a>(records: &mut Vec<Record<'a>>, last: Record<'a>)
-    requires { vec_len records.old < vec_capacity records.old }
-    ensures items { records.new.items ≡ records.old.items ++ last.entry ∷ [] }
-    ensures capacity { vec_capacity records.old ≤ vec_capacity records.new }
+// How many bytes are taken for the replies to so many commands, which stand in these sections.
+fn reply_room(commands: usize, sections: &[&[u8]]) -> usize
+    requires commands { commands < 2 ^ 32 }
+    requires bytes { sum_by (λ section. length section.now) sections.now < 2 ^ 32 }
 {
-    let _ = records.push(last);
+    let bytes: usize = sections.iter().map(|section| section.len()).sum();
+    32 * commands + 2 * bytes
 }

@@ -6,6 +6,8 @@ mod changes;
 mod item;
 mod items;
 mod journal;
+mod kept;
+mod payload;
 mod record;
 mod replies;
 mod reply_line;

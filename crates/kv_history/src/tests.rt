@@ -23,7 +23,7 @@ fn applied<'a>(alloc: Global, section: &'a [u8]) -> Result<Journal<'a>, OutOfMem
     while let Some(command) = commands.next() {
         journal.apply(0, command)?;
     }
-    let _ = journal.whole();
+    journal.facts();
     Ok(journal)
 }
 

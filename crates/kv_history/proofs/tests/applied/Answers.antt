@@ -1,11 +1,24 @@
 use Rattle.std.proofs.Common.{◌≡◌, ◌∙◌, ◌++◌, ◌∷◌, [], false, refl, sym, ap, subst, append_assoc}
 use Rattle.std.proofs.lemmas.List.{map-append}
 use Rattle.std.proofs.lemmas.List.Elements.{All-push}
+use Rattle.std.specs.Prelude.{slice_get}
 use Rattle.mc_text.specs.Request.{view}
 use Rattle.mc_text.specs.Commands.{commands_left}
 use Rattle.kv_history.specs.Log.{Logged, NoneVoid, applied_entry, commands, own}
 use Rattle.kv_history.proofs.Logs.{own-push}
+use Rattle.kv_history.proofs.Next.{is_next}
 use Rattle.kv_history.proofs.tests.applied.Goals as goal
+
+pub apply-requires : goal.apply-requires
+apply-requires c =
+    is_next c.loop-command.journal 0 (view c.in-Some.command) (record {
+      section = c.args.section.now;
+      rest = commands_left c.next.new.self;
+      place = ap (λ sections. slice_get sections 0) c.loop-command.invariant.section;
+      next = c.loop-command.invariant.next
+          ∙ ap (λ later. commands c.loop-command.journal.entries ++ later) c.in-Some.ensures.commands
+          ∙ ap (λ known. known ++ view c.in-Some.command ∷ commands_left c.next.new.self) (sym c.loop-command.invariant.alone);
+    })
 
 pub loop-command-preserved : goal.loop-command-preserved
 loop-command-preserved c =

@@ -1,6 +1,7 @@
 use Rattle.std.proofs.Common.{◌≡◌, ◌∙◌, suc, add-one, ap, length, take, arith}
 use Rattle.std.specs.Prelude.{slice_range}
 use Rattle.kv_history.specs.Log.{Log, all_replies}
+use Rattle.kv_history.proofs.Holding.{has_log, replies-has}
 use Rattle.kv_history.proofs.Places.{ends_in_order, ends_within, reply_at}
 use Rattle.kv_history.proofs.journal.Journal.reply.Goals as goal
 
@@ -8,8 +9,8 @@ pub part-requires : goal.part-requires
 part-requires c =
     let log : Log = c.args.self.now in
     let turn = c.args.turn in
-    let replies_are : c.deref.result.now ≡ all_replies log.entries =
-    c.deref.ensures.value ∙ c.self.invariant.replies ∙ ap (λ log. all_replies log.entries) c.self.view_is in
+    let replies_are : c.deref-2.result.now ≡ all_replies log.entries =
+    c.deref-2.ensures.value ∙ replies-has _ _ (has_log _ _ _ c.deref.ensures c.self.invariant c.self.view_is) in
     let through : c.replies_end-2.result ≡ length (all_replies (take (suc turn) log.entries)) =
     c.replies_end-2.ensures ∙ ap (λ n. length (all_replies (take n log.entries))) (add-one turn) in
     record {
@@ -21,8 +22,8 @@ pub returns : goal.returns
 returns c =
     let log : Log = c.args.self.now in
     let turn = c.args.turn in
-    let replies_are : c.deref.result.now ≡ all_replies log.entries =
-    c.deref.ensures.value ∙ c.self.invariant.replies ∙ ap (λ log. all_replies log.entries) c.self.view_is in
+    let replies_are : c.deref-2.result.now ≡ all_replies log.entries =
+    c.deref-2.ensures.value ∙ replies-has _ _ (has_log _ _ _ c.deref.ensures c.self.invariant c.self.view_is) in
     let through : c.replies_end-2.result ≡ length (all_replies (take (suc turn) log.entries)) =
     c.replies_end-2.ensures ∙ ap (λ n. length (all_replies (take n log.entries))) (add-one turn) in
     reply_at log.entries turn c.part.result.now c.requires
