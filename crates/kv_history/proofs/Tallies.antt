@@ -1,8 +1,7 @@
 -- Callers whose sections are tallied.
-use Rattle.std.proofs.Common.{◌≡◌, ℕ, suc, ◌<◌, ◌≤◌, List, [], ◌∷◌, length, Some, sym, ◌∙◌, ap, subst, arith}
+use Rattle.std.proofs.Common.{◌≡◌, ℕ, suc, ◌≤◌, List, [], ◌∷◌, length, arith}
 use Rattle.std.proofs.lemmas.List.Sums.{sum_by-cons}
-use Rattle.std.proofs.lemmas.Option.{slice_get-get_or, slice_get-map}
-use Rattle.std.specs.Prelude.{map, option_map, sum_by, slice_get, slice_index_or}
+use Rattle.std.specs.Prelude.{map, sum_by}
 use Rattle.std.specs.List.{All}
 use denote.Bor.{Bor}
 use Rattle.mc_text.specs.Reading.{commands_of}
@@ -49,16 +48,3 @@ lengths-lent (section ∷ sections) =
       sum_by-cons (λ (one : List ℕ). length one) section.now (map (λ one. one.now) sections),
       sum_by-cons (λ (one : Bor (List ℕ)). length one.now) section sections,
     )
-
--- a caller at a place, with its tally and its section
-pub record TalliedAt (callers : List Caller) (place : ℕ) (one : Caller) : Type 0 where
-  pub tallied : IsTallied one
-  pub section : slice_get (map section_of callers) place ≡ Some one.section.now
-
-pub tallied_at : (callers : List Caller) (place : ℕ) (one : Caller) → All IsTallied callers → place < length callers
-    → one ≡ slice_index_or callers place one → TalliedAt callers place one
-tallied_at callers place one all within is = record {
-  tallied = subst IsTallied (sym is) (all place one within);
-  section = slice_get-map section_of callers place
-      ∙ ap (option_map section_of) (slice_get-get_or callers place one within ∙ ap Some (sym is));
-}
