@@ -1,0 +1,5 @@
+pub trait Gate: Sync {
+    fn queued(&self, caller: u32);
+
+    fn inside(&self, caller: u32);
+}

@@ -1,0 +1,92 @@
+//! What a caller does under the lock.
+ghost use Rattle.std.specs.Prelude.{◌≡◌, ◌+◌, ◌++◌, ◌∷◌, [], false};
+ghost use Rattle.clof_compose.specs.Calls.{MayTurn};
+ghost use Rattle.clof_compose.specs.Courses.{course_of};
+ghost use Rattle.kv_history.specs.Log.{IsNext, calls};
+ghost use Rattle.mc_text.specs.Request.{view};
+ghost use Rattle.threaded_runner.specs.Jobs.{HasServed, IsCommandAt, IsJob};
+
+use crate::gate::Gate;
+use crate::job::Job;
+use crate::waiting::acquire;
+use clof_compose::{Composed, Resting, Root, Standing};
+use keep_local::Share;
+use kv_history::Journal;
+use mc_text::Command;
+use std::sync::Wait;
+
+/// Holds the lock once for each command that a caller has left, and applies the command to the journal at the root. The caller stops
+/// before its commands end where one was refused, which is for want of memory.
+pub fn serve<'a, C: Composed<Journal<'a>>, G: Gate, R: Wait>(
+    rt: &R,
+    lock: &C,
+    gate: &G,
+    job: Job<'a, C::Pass>,
+) -> Job<'a, C::Pass>
+    requires sound { C.sound lock.now }
+    requires lowest { C.level lock.now ≡ 0 }
+    requires job { IsJob C.Pass.rest (C.has lock.now) (C.level lock.now) (C.tag lock.now) job.share.caller job }
+    ensures served { HasServed C.Pass.rest job.entry result }
+{
+    let Job {
+        mut pass,
+        mut share,
+        mut commands,
+        ..
+    } = job;
+    for _ in share.made()..share.quota() {
+        let Some(command) = commands.next() else {
+            unreachable!()
+        };
+        let (back, refused) = hold(rt, lock, gate, pass, &mut share, command);
+        pass = back;
+        if refused {
+            return Job {
+                pass,
+                share,
+                commands,
+                stopped: true,
+            };
+        }
+    }
+    Job {
+        pass,
+        share,
+        commands,
+        stopped: false,
+    }
+}
+
+// Holds the lock once and applies a command. The answer has the pass, and whether the command was refused.
+fn hold<'a, C: Composed<Journal<'a>>, G: Gate, R: Wait>(
+    rt: &R,
+    lock: &C,
+    gate: &G,
+    pass: C::Pass,
+    share: &mut Share,
+    command: Command<'a>,
+) -> (C::Pass, bool)
+    requires sound { C.sound lock.now }
+    requires own { C.has lock.now (C.Pass.rest pass).context }
+    requires lowest { C.level lock.now ≡ 0 }
+    requires share { MayTurn (course_of (C.tag lock.now)) (C.level lock.now) (C.Pass.rest pass).context.number share.old }
+    requires next { IsCommandAt (course_of (C.tag lock.now)).payload share.old.caller share.old.made (view command) }
+    ensures pass { (C.Pass.rest result.0).context ≡ (C.Pass.rest pass).context }
+    ensures made { share.new ≡ record share.old { made = share.old.made + 1 } }
+{
+    let caller = share.caller();
+    let mut held = acquire(rt, lock, gate, pass, share);
+    gate.inside(caller);
+    let refused = apply(held.root(), caller, command);
+    (lock.release(rt, held), refused)
+}
+
+// Applies a command to the journal of a root. The answer is whether it was refused.
+fn apply<'a>(root: &mut Root<Journal<'a>>, caller: u32, command: Command<'a>) -> bool
+    requires next { IsNext root.old.payload.sections (calls root.old.payload) caller (view command) }
+    ensures trail { root.new.trail ≡ root.old.trail }
+    ensures sections { root.new.payload.sections ≡ root.old.payload.sections }
+    ensures called { calls root.new.payload ≡ calls root.old.payload ++ caller ∷ [] }
+{
+    root.payload_mut().apply(caller, command).is_err()
+}

@@ -1,0 +1,16 @@
+//! Callers that hold a composed lock, each in a thread of its own, and apply the commands of their sections to the journal at its root.
+//!
+//! `serve` is what one caller does, over any composed lock; `run_threads` does it for all of them; `run` makes the lock, has the callers
+//! work, takes the lock apart, and prints what they did.
+#![tactic(auto)]
+
+mod crew;
+mod gate;
+mod holding;
+mod job;
+mod waiting;
+
+pub use crew::Crew;
+pub use gate::Gate;
+pub use holding::serve;
+pub use job::Job;
