@@ -31,8 +31,18 @@ use Rattle.placed_runner.specs.Text.{
   turn_line,
   turns_behind,
 }
-use Rattle.placed_runner.specs.Laws.{CanBeHeld, IsSmall}
 use Rattle.placed_runner.proofs.Cuts.{one_cut}
+
+-- the caller and the tests of a hold have 32 bits
+pub record IsSmall (hold : Hold) : Type 0 where
+  pub caller : hold.caller < 2 ^ 32
+  pub tests : hold.tests < 2 ^ 32
+
+-- each of these holds stands for a command that its caller still has
+pub record CanBeHeld (sections : List Placed) (holds : List Hold) : Type 0 where
+  pub commands : List WholeCommand
+  pub are : commands_behind sections [] (map (λ hold. hold.caller) holds) ≡ Some commands
+  pub small : AllByRecursion IsSmall holds
 
 -- ---- numbers in a line
 

@@ -2,8 +2,7 @@ pub mod Cuts
 pub mod Escapes
 pub mod Histories
 pub mod Numbered
-pub mod Owns
-pub mod Runs
+pub mod Printed
 pub mod Texts
 pub mod Uniqueness
 pub mod Walks

@@ -1,60 +1,40 @@
 -- The text of a run whose commands a journal has.
-use Rattle.std.proofs.Common.{◌≡◌, ℕ, zero, suc, ◌-◌, ◌<◌, List, [], ◌∷◌, ◌++◌, length, map, get_or, Some, refl, sym, ap, ◌∙◌, subst}
+use Rattle.std.proofs.Common.{◌≡◌, ℕ, zero, suc, ◌<◌, ◌≤◌, List, [], ◌∷◌, ◌++◌, length, map, get_or, Some, refl, sym, ap, ◌∙◌, subst}
 use Rattle.std.proofs.Common.{append_assoc, inl, inr, arith}
 use Rattle.std.specs.Prelude.{slice_get, option_map, ◌==◌}
-use Rattle.std.specs.List.{filter, count_by}
-use Rattle.std.specs.Option.{option_map_or}
+use Rattle.std.specs.List.{filter, count_by, zip}
 use Rattle.std.proofs.lemmas.List.{map-append, length-append, length-map}
 use Rattle.std.proofs.Math.Seq.{get_or-append_seam}
+use Rattle.std.proofs.lemmas.List.Elements.{filter-append}
 use Rattle.std.proofs.lemmas.List.Sums.{length-filter}
 use Rattle.std.proofs.lemmas.Option.{slice_get-map}
 use Rattle.std.proofs.lemmas.Bool.{cases_Bool, eq-eqb}
 use Rattle.keep_local.specs.declared.turn.Turn.{Turn}
-use Rattle.keep_local.specs.Turns.{climb_after}
-use Rattle.keep_local.specs.Laws.{turn_after}
+use Rattle.keep_local.specs.States.{callers_in}
 use Rattle.mc_text.specs.Request.{WholeCommand}
 use Rattle.mc_text.specs.Reading.{commands_of}
 use Rattle.kv_history.specs.Log.{Log, Logged, IsOneThread, EachHasSection, EachOwnFirst, own, commands, replies}
 use Rattle.placed_runner.specs.Sections.{Placed}
-use Rattle.placed_runner.specs.Entries.{flat_turn, told_entry}
-use Rattle.placed_runner.specs.Text.{run_text, text_of, told, turn_lines, caller_lines, turns_behind, commands_behind, next_command, one_lock, holds_of, Hold, Told}
-use Rattle.placed_runner.proofs.Runs.{own-append}
+use Rattle.placed_runner.specs.declared.sections.Section.{Section}
+use Rattle.placed_runner.specs.Entries.{told_entry}
+use Rattle.placed_runner.specs.Views.{section_view}
+use Rattle.placed_runner.specs.Text.{text_of, told, turn_lines, turns_text, caller_lines, commands_behind, next_command, Told}
 
 -- the callers of entries
 abbrev pub callers : List Logged → List ℕ
 callers entries = map (λ entry. entry.caller) entries
-
--- ---- turns under one lock
-
--- a turn of theirs left at level 0
-flat_left : (done : List ℕ) (place : ℕ) → option_map_or {T = Turn} (λ turn. turn.left) (slice_get (map flat_turn done) place) 0 ≡ 0
-flat_left [] place = refl
-flat_left (caller ∷ done) zero = refl
-flat_left (caller ∷ done) (suc place) = flat_left done place
-
-flat_climb : (n : ℕ) (done : List ℕ) → climb_after (one_lock n) (map flat_turn done) ≡ 0
-flat_climb n done = flat_left done (length (map flat_turn done) - 1)
-
-flat_after : (n : ℕ) (done : List ℕ) (caller : ℕ) → turn_after (one_lock n) (map flat_turn done) caller 0 ≡ flat_turn caller
-flat_after n done caller = ap (λ climb. record { caller = caller; climb = climb; tests = 0; left = 0 }) (flat_climb n done)
-
--- the turns of callers behind others
-flat_turns : (n : ℕ) (done more : List ℕ) → turns_behind (one_lock n) (map flat_turn done) (holds_of more) ≡ map flat_turn more
-flat_turns n done [] = refl
-flat_turns n done (caller ∷ more) =
-    let turn = turn_after (one_lock n) (map flat_turn done) caller 0 in
-    let first = flat_after n done caller in
-    let later : map flat_turn done ++ turn ∷ [] ≡ map flat_turn (done ++ caller ∷ []) =
-    ap (λ (t : Turn). map flat_turn done ++ t ∷ []) first ∙ sym (map-append flat_turn done (caller ∷ [])) in
-    ap (λ (t : Turn). t ∷ turns_behind (one_lock n) (map flat_turn done ++ turn ∷ []) (holds_of more)) first
-    ∙ ap (λ (before : List Turn). flat_turn caller ∷ turns_behind (one_lock n) before (holds_of more)) later
-    ∙ ap (λ (turns : List Turn). flat_turn caller ∷ turns) (flat_turns n (done ++ caller ∷ []) more)
 
 -- ---- the callers' commands
 
 seam : {A : Type 0} (xs : List A) (y : A) (ys : List A) → slice_get (xs ++ y ∷ ys) (length xs) ≡ Some y
 seam [] y ys = refl
 seam (x ∷ xs) y ys = seam xs y ys
+
+own-append : (caller : ℕ) (xs ys : List Logged) → own (xs ++ ys) caller ≡ own xs caller ++ own ys caller
+own-append caller xs ys =
+    ap commands (filter-append (λ (entry : Logged). entry.caller == caller) xs ys)
+    ∙ map-append (λ (entry : Logged). entry.command) (filter (λ entry. entry.caller == caller) xs)
+    (filter (λ entry. entry.caller == caller) ys)
 
 -- how many entries a caller has
 own_length : (caller : ℕ) (entries : List Logged)
@@ -72,7 +52,7 @@ own_count caller entries =
     ∙ own_length caller entries ∙ length-filter (λ other. other == caller) (callers entries)
 
 -- the section of a caller
-there : (sections : List Placed) (caller : ℕ) → caller < length sections → (section : Placed) × (slice_get sections caller ≡ Some section)
+pub there : (sections : List Placed) (caller : ℕ) → caller < length sections → (section : Placed) × (slice_get sections caller ≡ Some section)
 there [] caller within = absurd (omega arith)
 there (section ∷ sections) zero within = (section, refl)
 there (section ∷ sections) (suc caller) within = there sections caller (omega arith)
@@ -127,25 +107,45 @@ commands_from sections log done (entry ∷ more) printed parts =
 
 -- ---- the text
 
-told_all : (entries : List Logged) → told (map flat_turn (callers entries)) (commands entries) (replies entries) ≡ map told_entry entries
-told_all [] = refl
-told_all (entry ∷ entries) = ap (λ (rest : List Told). told_entry entry ∷ rest) (told_all entries)
+-- a turn and its entry, as they are printed
+abbrev pub told_pair : Turn × Logged → Told
+told_pair at = told_entry at.0 at.1
 
-holds_callers : (cs : List ℕ) → map (λ (hold : Hold). hold.caller) (holds_of cs) ≡ cs
-holds_callers [] = refl
-holds_callers (caller ∷ cs) = ap (λ rest. caller ∷ rest) (holds_callers cs)
+told_all : (turns : List Turn) (entries : List Logged) → told turns (commands entries) (replies entries) ≡ map told_pair (zip turns entries)
+told_all [] entries = refl
+told_all (turn ∷ turns) [] = refl
+told_all (turn ∷ turns) (entry ∷ entries) = ap (λ (rest : List Told). told_entry turn entry ∷ rest) (told_all turns entries)
 
--- the text of a run whose commands a whole journal has
-pub text_is : (sections : List Placed) (n : ℕ) (log : Log) → IsPrinted sections log → IsOneThread log.entries
-    → run_text sections (one_lock n) (holds_of (callers log.entries))
-    ≡ turn_lines sections (map told_entry log.entries) ++ caller_lines sections
-unfolding run_text
-text_is sections n log printed one_thread =
+-- the text of turns whose commands a whole journal has
+pub text_is : (sections : List Placed) (turns : List Turn) (log : Log) → IsPrinted sections log → IsOneThread log.entries
+    → callers_in turns ≡ callers log.entries
+    → turns_text sections turns ≡ turn_lines sections (map told_pair (zip turns log.entries)) ++ caller_lines sections
+unfolding turns_text
+text_is sections turns log printed one_thread same =
     let entries = log.entries in
-    let cs = callers entries in
-    let given : commands_behind sections [] (map (λ (hold : Hold). hold.caller) (holds_of cs)) ≡ Some (commands entries) =
-    ap (commands_behind sections []) (holds_callers cs) ∙ commands_from sections log [] entries printed refl in
-    ap (text_of sections (turns_behind (one_lock n) [] (holds_of cs))) given
-    ∙ ap (λ (turns : List Turn). text_of sections turns (Some (commands entries))) (flat_turns n [] cs)
-    ∙ ap (λ (all : List (List ℕ)). turn_lines sections (told (map flat_turn cs) (commands entries) all) ++ caller_lines sections) (sym one_thread)
-    ∙ ap (λ (all : List Told). turn_lines sections all ++ caller_lines sections) (told_all entries)
+    let given : commands_behind sections [] (callers_in turns) ≡ Some (commands entries) =
+    ap (commands_behind sections []) same ∙ commands_from sections log [] entries printed refl in
+    ap (text_of sections turns) given
+    ∙ ap (λ (all : List (List ℕ)). turn_lines sections (told turns (commands entries) all) ++ caller_lines sections) (sym one_thread)
+    ∙ ap (λ (all : List Told). turn_lines sections all ++ caller_lines sections) (told_all turns entries)
+
+-- a turn and its entry stand at one place
+pub pair_at : (turns : List Turn) (entries : List Logged) (place : ℕ) (turn : Turn) (entry : Logged) → slice_get turns place ≡ Some turn
+    → slice_get entries place ≡ Some entry → slice_get (zip turns entries) place ≡ Some (turn, entry)
+pair_at [] entries place turn entry is there = cc
+pair_at (first ∷ turns) [] place turn entry is there = cc
+pair_at (first ∷ turns) (other ∷ entries) zero turn entry is there =
+    let one : first ≡ turn = cc in
+    let two : other ≡ entry = cc in
+    λ i. Some (one i, two i)
+pair_at (first ∷ turns) (other ∷ entries) (suc place) turn entry is there = pair_at turns entries place turn entry is there
+
+pub pairs_within : (turns : List Turn) (entries : List Logged) → length (zip turns entries) ≤ length entries
+pairs_within [] entries = omega arith
+pairs_within (turn ∷ turns) [] = omega arith
+pairs_within (turn ∷ turns) (entry ∷ entries) = omega (arith, pairs_within turns entries)
+
+-- the bytes of sections
+pub bytes_of : (sections : List Section) → map (λ section. section.bytes.now) sections ≡ map (λ (p : Placed). p.bytes) (map section_view sections)
+bytes_of [] = refl
+bytes_of (section ∷ sections) = ap (λ rest. section.bytes.now ∷ rest) (bytes_of sections)

@@ -1,7 +1,6 @@
 pub mod Heads
 pub mod Places
 pub mod Sections
-pub mod Running
 pub mod Text
 pub mod Entries
 pub mod Printed

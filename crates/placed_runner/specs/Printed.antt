@@ -1,15 +1,25 @@
--- What a run prints, in terms of its history.
-use Rattle.std.specs.Prelude.{◌≡◌, ℕ, List, length, map}
-use Rattle.kv_history.specs.Log.{Log, IsOneThread, EachHasSection, EachOwnWhole, calls}
+-- What a run prints.
+use Rattle.std.specs.Prelude.{◌≡◌, ℕ, ◌<◌, List, [], length, slice_get, IfSome, Some, ◌==◌}
+use Rattle.std.specs.List.{All, count_by}
+use Rattle.mc_text.specs.Reading.{commands_of}
+use Rattle.keep_local.specs.declared.shape.Shape.{Shape}
+use Rattle.keep_local.specs.Shapes.{top_of}
+use Rattle.keep_local.specs.Turns.{IsLawful, last_turn}
 use Rattle.placed_runner.specs.Sections.{Placed}
-use Rattle.placed_runner.specs.Text.{run_text, one_lock, holds_of}
+use Rattle.placed_runner.specs.Text.{Hold, run_text, turns_behind}
 
--- what is printed is the text of a history of these sections: its replies are those of one thread that gives the commands in the order of
--- the history, and in it each caller gives all commands of its section, each once and in the section's order
-pub record IsRun (sections : List Placed) (printed : List ℕ) : Type 0 where
-  pub log : Log
-  pub sections_are : log.sections ≡ map (λ section. section.bytes) sections
-  pub callers : EachHasSection log
-  pub each_own : EachOwnWhole log
-  pub one_thread : IsOneThread log.entries
-  pub printed_is : printed ≡ run_text sections (one_lock (length sections)) (holds_of (calls log))
+-- Each caller with a section holds the lock as often as its section has commands
+abbrev pub EachHoldsAll : List Placed → List Hold → Type 0
+EachHoldsAll sections holds =
+    (caller : ℕ) (section : Placed) → slice_get sections caller ≡ Some section
+    → count_by (λ hold. hold.caller == caller) holds ≡ length (commands_of section.bytes)
+
+-- What is printed is the text of a run of these sections under a lock of this shape: of holds by callers with sections, each of which gives
+-- all commands of its section. The turns of these holds are lawful, and the last one leaves the lock free, at the top
+pub record IsRun (sections : List Placed) (shape : Shape) (printed : List ℕ) : Type 0 where
+  pub holds : List Hold
+  pub callers : All (λ hold. hold.caller < length sections) holds
+  pub each_own : EachHoldsAll sections holds
+  pub printed_is : printed ≡ run_text sections shape holds
+  pub lawful : IsLawful shape (turns_behind shape [] holds)
+  pub ends : IfSome (last_turn (turns_behind shape [] holds)) (λ t. t.left ≡ top_of shape)

@@ -7,6 +7,7 @@ use Rattle.byte_text.specs.Numerals.{lower_hex_digit}
 use Rattle.keep_local.specs.declared.shape.Shape.{Shape}
 use Rattle.keep_local.specs.declared.turn.Turn.{Turn}
 use Rattle.keep_local.specs.Laws.{turn_after}
+use Rattle.keep_local.specs.States.{callers_in}
 use Rattle.mc_text.specs.Request.{WholeCommand}
 use Rattle.mc_text.specs.Reading.{commands_of, rest_of}
 use Rattle.kv_history.specs.Answer.{replies_of}
@@ -115,6 +116,10 @@ abbrev pub text_of : List Placed → List Turn → Option (List WholeCommand) �
 text_of sections turns None = []
 text_of sections turns (Some commands) = turn_lines sections (told turns commands (replies_of commands)) ++ caller_lines sections
 
+-- the text of turns: the m-th turn of a caller stands for the m-th command of its section
+unfoldable pub turns_text : List Placed → List Turn → List ℕ
+turns_text sections turns = text_of sections turns (commands_behind sections [] (callers_in turns))
+
 -- the text of a run: the m-th hold of a caller stands for the m-th command of its section
 unfoldable pub run_text : List Placed → Shape → List Hold → List ℕ
 run_text sections shape holds =
@@ -123,7 +128,3 @@ run_text sections shape holds =
 -- callers under one lock, without levels below it
 abbrev pub one_lock : ℕ → Shape
 one_lock callers = record { paths = replicate callers (0 ∷ []); keeps = [] }
-
--- the holds of entries that no level below the lock asked about
-abbrev pub holds_of : List ℕ → List Hold
-holds_of callers = map (λ caller. record { caller = caller; tests = 0 }) callers

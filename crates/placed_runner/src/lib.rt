@@ -1,19 +1,19 @@
-//! Sections of the input, each with the commands of one caller, their run, and the printed text of a run.
+//! Sections of the input, each with the commands of one caller, what a run of them is, and the printed text of a run.
 #![tactic(auto)]
 
 mod escape;
 mod fault;
+mod gate;
 mod heads;
 mod laws;
 mod lines;
 mod place;
 mod printing;
-mod running;
 mod sections;
 mod size;
 
 pub use fault::SectionFault;
+pub use gate::{Gate, OpenGate};
 pub use laws::{one_answer, one_history};
 pub use printing::text;
-pub use running::run_in_order;
 pub use sections::{Section, read_sections};

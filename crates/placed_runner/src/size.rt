@@ -3,20 +3,23 @@
 ghost use Rattle.std.specs.Prelude.{◌≡◌, ◌<◌, length, map};
 
 use crate::sections::Section;
+use keep_local::Turn;
 use kv_history::Journal;
 
-// The bytes of a turn's line beside its number, its caller's and its PU's digits and its texts: its six names, a digit for each
-// of the three levels, a space and quotes for each text, and its end.
-const TURN_BYTES: usize = 47;
+// The bytes of a turn's line beside the digits of its numbers and its texts: its six names, a space and quotes for each text, and
+// its end.
+const TURN_BYTES: usize = 44;
 
 // Those of a caller's line: its four names and its end.
 const CALLER_BYTES: usize = 28;
 
-/// How many bytes the text of a run of these sections has.
-pub(crate) fn text_size(sections: &[Section<'_>], journal: &Journal<'_>) -> usize
+/// How many bytes the text of these turns has.
+pub(crate) fn text_size(sections: &[Section<'_>], turns: &[Turn], journal: &Journal<'_>) -> usize
     requires { journal.now.sections ≡ map (λ section. section.bytes.now) sections.now }
 {
-    let mut size = counting_size(journal.entries()).wrapping_add(escaped_size(journal.replies()));
+    let mut size = counting_size(journal.entries())
+        .wrapping_add(levels_size(turns))
+        .wrapping_add(escaped_size(journal.replies()));
     for (caller, section) in sections.iter().enumerate() {
         size = size.wrapping_add(caller_size(caller, section, journal));
     }
@@ -45,7 +48,19 @@ const POWERS: [usize; 9] = [
     1_000_000_000,
 ];
 
-// How many bytes the line of a caller has, and those of its turns, but for their numbers and replies.
+// How many digits the numbers of turns have that tell how they found and left the lock.
+fn levels_size(turns: &[Turn]) -> usize {
+    let mut size: usize = 0;
+    for turn in turns {
+        size = size
+            .wrapping_add(digits(u64::from(turn.climb)))
+            .wrapping_add(digits(u64::from(turn.tests)))
+            .wrapping_add(digits(u64::from(turn.left)));
+    }
+    size
+}
+
+// How many bytes the line of a caller has, and those of its turns, but for their replies and the numbers of their own.
 fn caller_size(caller: usize, section: &Section<'_>, journal: &Journal<'_>) -> usize
     requires { caller < length journal.now.sections }
 {
@@ -61,8 +76,11 @@ fn caller_size(caller: usize, section: &Section<'_>, journal: &Journal<'_>) -> u
         .wrapping_add(escaped_size(&section.bytes[..spelled]))
 }
 
-// How many digits a number has.
+// How many digits a number has. Most have one.
 fn digits(number: u64) -> usize {
+    if number < 10 {
+        return 1;
+    }
     match number.checked_ilog10() {
         Some(power) => power as usize + 1,
         None => 1,

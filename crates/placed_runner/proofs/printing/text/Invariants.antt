@@ -1,18 +1,20 @@
 use Rattle.std.proofs.Common.{◌≡◌, ◌++◌, length, map, take}
+use Rattle.std.specs.List.{zip}
 use Rattle.placed_runner.specs.Text.{turn_lines, caller_lines}
-use Rattle.placed_runner.specs.Entries.{told_entry}
 use Rattle.placed_runner.specs.Views.{section_view}
+use Rattle.placed_runner.proofs.Texts.{told_pair}
 use Rattle.placed_runner.proofs.printing.text.Given as goal
 
--- the lines of the entries so far have been appended
+-- the lines of the turns so far have been appended
 abbrev pub invariant-loop-number : goal.invariant-loop-number
 invariant-loop-number l = record {
   within : l.number-end ≡ length l.journal.entries;
-  lines : l.out.items ≡ turn_lines (map section_view l.sections) (map told_entry (take l.number l.journal.entries));
+  lines : l.out.items ≡ turn_lines (map section_view l.sections) (map told_pair (take l.number (zip l.turns l.journal.entries)));
 }
 
 -- and then those of the callers so far
 abbrev pub invariant-loop-caller : goal.invariant-loop-caller
 invariant-loop-caller l =
     l.out.items
-    ≡ turn_lines (map section_view l.sections) (map told_entry l.journal.entries) ++ caller_lines (map section_view (take l.caller l.sections))
+    ≡ turn_lines (map section_view l.sections) (map told_pair (zip l.turns l.journal.entries))
+    ++ caller_lines (map section_view (take l.caller l.sections))
