@@ -1,2 +1,4 @@
 pub mod Commands
+pub mod Dealt
+pub mod Items
 pub mod Turns

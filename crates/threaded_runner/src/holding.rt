@@ -6,13 +6,13 @@ ghost use Rattle.kv_history.specs.Log.{IsNext, calls};
 ghost use Rattle.mc_text.specs.Request.{view};
 ghost use Rattle.threaded_runner.specs.Jobs.{HasServed, IsCommandAt, IsJob};
 
-use crate::gate::Gate;
 use crate::job::Job;
 use crate::waiting::acquire;
 use clof_compose::{Composed, Resting, Root, Standing};
 use keep_local::Share;
 use kv_history::Journal;
 use mc_text::Command;
+use placed_runner::Gate;
 use std::sync::Wait;
 
 /// Holds the lock once for each command that a caller has left, and applies the command to the journal at the root. The caller stops

@@ -5,12 +5,13 @@
 #![tactic(auto)]
 
 mod crew;
-mod gate;
+mod dealing;
+mod flat;
 mod holding;
 mod job;
 mod waiting;
 
 pub use crew::Crew;
-pub use gate::Gate;
+pub use flat::{FlatLock, FlatPass};
 pub use holding::serve;
 pub use job::Job;

@@ -3,11 +3,11 @@ ghost use Rattle.std.specs.Prelude.{◌≡◌, ◌+◌, IsSomeAnd};
 ghost use Rattle.clof_compose.specs.Calls.{HasOpened, MayTurn};
 ghost use Rattle.clof_compose.specs.Courses.{course_of};
 
-use crate::gate::Gate;
 use clof_compose::{Climbing, Composed, Resting, Standing};
 use keep_local::Share;
 use kv_history::Journal;
 use lock_rules::{Pauses, Payload, Step};
+use placed_runner::Gate;
 use std::sync::Wait;
 
 /// Enters the queue, tells the gate that the caller is queued, and waits until it holds.
