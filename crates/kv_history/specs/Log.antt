@@ -130,11 +130,6 @@ EachOwnFirst log =
     (caller : ℕ) (section : List ℕ) → slice_get log.sections caller ≡ Some section
     → (rest : List WholeCommand) × (commands_of section ≡ own log.entries caller ++ rest)
 
--- each caller has given all commands of its section, each once and in the section's order
-abbrev pub EachOwnWhole : Log → Type 0
-EachOwnWhole log =
-    (caller : ℕ) (section : List ℕ) → slice_get log.sections caller ≡ Some section → own log.entries caller ≡ commands_of section
-
 -- the entries are those of their callers' turns, none of them void
 abbrev pub IsHistory : Log → Type 0
 IsHistory log = log.entries ≡ history log.sections (calls log)

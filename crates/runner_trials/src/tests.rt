@@ -1,8 +1,13 @@
 // Sections, places and the printed text, by hand.
-ghost use Rattle.std.specs.Prelude.{◌≡◌, ◌<◌, ◌^◌, length};
+ghost use Rattle.std.specs.Prelude.{◌≡◌, ◌<◌, ◌^◌, ◌++◌, ◌∷◌, [], length, OnOk};
+ghost use Rattle.mc_text.specs.Commands.{commands_left};
+ghost use Rattle.kv_history.specs.Log.{calls};
+ghost use Rattle.runner_trials.specs.Giving.{HasLeft};
 
+use keep_local::Turn;
 use kv_history::Journal;
-use placed_runner::{Section, SectionFault, read_sections, run_in_order, text};
+use mc_text::Commands;
+use placed_runner::{Section, SectionFault, read_sections, text};
 use std::alloc::Global;
 use std::test::Fail;
 use synth_text::read;
@@ -118,8 +123,29 @@ fn takes_256_sections(rt: HostRuntime) -> Result<(), Fail> {
     Ok(())
 }
 
-// The text of a run of two sections, whose callers stand on these PUs.
-fn printed(alloc: Global, pus: (u32, u32), first: &[u8], second: &[u8]) -> Result<Vec<u8>, Fail>
+// Applies the next command of a caller. Where it has none left, or memory is wanting, the journal is of no further use.
+fn give<'a>(journal: &mut Journal<'a>, caller: u32, commands: &mut Commands<'a>) -> Result<(), Fail>
+    requires { HasLeft journal.old.sections (calls journal.old) caller (commands_left commands.old) }
+    ensures sections { journal.new.sections ≡ journal.old.sections }
+    ensures called { OnOk result (calls journal.new ≡ calls journal.old ++ caller ∷ []) }
+    ensures left { OnOk result (HasLeft journal.new.sections (calls journal.new) caller (commands_left commands.new)) }
+{
+    let Some(command) = commands.next() else {
+        return Err("no command is left")?;
+    };
+    journal.apply(caller, command)?;
+    Ok(())
+}
+
+// The text of these turns of two callers, which stand on these PUs and have these sections. Each turn applies the next command of
+// its caller.
+fn printed(
+    alloc: Global,
+    pus: (u32, u32),
+    first: &[u8],
+    second: &[u8],
+    turns: &[Turn],
+) -> Result<Vec<u8>, Fail>
     requires first { length first.now < 2 ^ 20 }
     requires second { length second.now < 2 ^ 20 }
 {
@@ -134,10 +160,29 @@ fn printed(alloc: Global, pus: (u32, u32), first: &[u8], second: &[u8]) -> Resul
         },
     ];
     let mut journal = Journal::reserve(alloc, &[first, second])?;
-    if run_in_order(&sections, &mut journal) {
-        return Err("out of memory")?;
+    let mut firsts = Commands::new(first);
+    let mut seconds = Commands::new(second);
+    for turn in turns {
+        match turn.caller {
+            0 => give(&mut journal, 0, &mut firsts)?,
+            1 => give(&mut journal, 1, &mut seconds)?,
+            _ => return Err("no such caller")?,
+        }
     }
-    Ok(text(alloc, &sections, &journal)?)
+    if !journal.whole() {
+        return Err("a void entry")?;
+    }
+    Ok(text(alloc, &sections, turns, &journal)?)
+}
+
+// A turn of a caller, by the levels at which it found and left the lock.
+fn turn(caller: u32, climb: u32, tests: u32, left: u32) -> Turn {
+    Turn {
+        caller,
+        climb,
+        tests,
+        left,
+    }
 }
 
 #[test]
@@ -147,14 +192,34 @@ fn prints_a_run(rt: HostRuntime) -> Result<(), Fail> {
         (3, 0),
         b"set a 5 0 3\r\n\x01\"\xff\r\nquit\r\nget a\r\n",
         b"get a\r\nge",
+        &[turn(0, 2, 1, 0), turn(1, 0, 2, 1), turn(0, 1, 0, 2)],
     )?;
     let want =
-        b"turn 0 caller 0 pu 3 climb 0 tests 0 left 0 \"set a 5 0 3\\r\\n\\x01\\\"\\xff\\r\\n\" \"STORED\\r\\n\"\n\
-          turn 1 caller 0 pu 3 climb 0 tests 0 left 0 \"quit\\r\\n\" \"\"\n\
-          turn 2 caller 1 pu 0 climb 0 tests 0 left 0 \"get a\\r\\n\" \"VALUE a 5 3\\r\\n\\x01\\\"\\xff\\r\\nEND\\r\\n\"\n\
+        b"turn 0 caller 0 pu 3 climb 2 tests 1 left 0 \"set a 5 0 3\\r\\n\\x01\\\"\\xff\\r\\n\" \"STORED\\r\\n\"\n\
+          turn 1 caller 1 pu 0 climb 0 tests 2 left 1 \"get a\\r\\n\" \"VALUE a 5 3\\r\\n\\x01\\\"\\xff\\r\\nEND\\r\\n\"\n\
+          turn 2 caller 0 pu 3 climb 1 tests 0 left 2 \"quit\\r\\n\" \"\"\n\
           caller 0 pu 3 commands 2 rest 7\n\
           caller 1 pu 0 commands 1 rest 2\n";
     assert_eq!(rt; text.as_slice(), want.as_slice());
+    assert_eq!(rt; text.capacity(), text.len());
+    Ok(())
+}
+
+#[test]
+fn prints_numbers_of_up_to_ten_digits(rt: HostRuntime) -> Result<(), Fail> {
+    let turns = [
+        turn(0, 4_294_967_295, 2_147_483_647, 1_000_000_000),
+        turn(0, 999_999_999, 9, 10),
+        turn(0, 9, 99, 0),
+    ];
+    let text = printed(rt.alloc(), (7, 0), b"quit\r\n", b"", &turns[..1])?;
+    let want =
+        b"turn 0 caller 0 pu 7 climb 4294967295 tests 2147483647 left 1000000000 \"quit\\r\\n\" \"\"\n\
+          caller 0 pu 7 commands 1 rest 0\n\
+          caller 1 pu 0 commands 0 rest 0\n";
+    assert_eq!(rt; text.as_slice(), want.as_slice());
+    assert_eq!(rt; text.capacity(), text.len());
+    let text = printed(rt.alloc(), (7, 0), b"\n\n\n", b"", &turns)?;
     assert_eq!(rt; text.capacity(), text.len());
     Ok(())
 }
@@ -186,14 +251,23 @@ fn tells_each_fault(rt: HostRuntime) -> Result<(), Fail> {
 #[test]
 fn makes_a_text_in_a_buffer_of_its_size(rt: HostRuntime) -> Result<(), Fail> {
     let mut gets = Vec::new(rt.alloc());
-    for _ in 0..1001 {
+    let mut turns = Vec::from_slice(rt.alloc(), &[turn(0, 1, 0, 1)])?;
+    for number in 0..1001 {
         gets.extend_from_slice(b"get ~\r\n")?;
         gets.extend_from_slice(b"get \\\r\n")?;
+        turns.push(turn(1, number, number * 1000, 1))?;
+        turns.push(turn(1, 0, 4_000_000_000, number))?;
     }
     gets.extend_from_slice(b"get 1234567")?;
     for pus in [(0, 9), (10, 4095), (100, 99)] {
         assert!(rt; gets.len() < 1_048_576);
-        let text = printed(rt.alloc(), pus, b"set ~ 0 0 4\r\n\n\x7f\x1f\"\r\n", &gets)?;
+        let text = printed(
+            rt.alloc(),
+            pus,
+            b"set ~ 0 0 4\r\n\n\x7f\x1f\"\r\n",
+            &gets,
+            &turns,
+        )?;
         assert_eq!(rt; text.capacity(), text.len());
     }
     Ok(())
