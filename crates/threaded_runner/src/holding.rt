@@ -1,5 +1,5 @@
 //! What a caller does under the lock.
-ghost use Rattle.std.specs.Prelude.{◌≡◌, ◌+◌, ◌++◌, ◌∷◌, [], false};
+ghost use Rattle.std.specs.Prelude.{◌≡◌, ◌+◌, ◌<◌, ◌++◌, ◌∷◌, [], false};
 ghost use Rattle.clof_compose.specs.Calls.{MayTurn};
 ghost use Rattle.clof_compose.specs.Courses.{course_of};
 ghost use Rattle.kv_history.specs.Log.{IsNext, calls};
@@ -28,32 +28,46 @@ pub fn serve<'a, C: Composed<Journal<'a>>, G: Gate, R: Wait>(
     requires job { IsJob C.Pass.rest (C.has lock.now) (C.level lock.now) (C.tag lock.now) job.share.caller job }
     ensures served { HasServed C.Pass.rest job.entry result }
 {
+    let mut job = job;
+    for _ in job.share.made()..job.share.quota() {
+        job = give_next(rt, lock, gate, job);
+        if job.stopped {
+            return job;
+        }
+    }
+    job
+}
+
+// Holds the lock for the next command of a caller that has one left. The caller stops where it was refused.
+fn give_next<'a, C: Composed<Journal<'a>>, G: Gate, R: Wait>(
+    rt: &R,
+    lock: &C,
+    gate: &G,
+    job: Job<'a, C::Pass>,
+) -> Job<'a, C::Pass>
+    requires sound { C.sound lock.now }
+    requires lowest { C.level lock.now ≡ 0 }
+    requires job { IsJob C.Pass.rest (C.has lock.now) (C.level lock.now) (C.tag lock.now) job.share.caller job }
+    requires some { job.share.made < job.share.quota }
+    ensures job { IsJob C.Pass.rest (C.has lock.now) (C.level lock.now) (C.tag lock.now) job.entry.share.caller result }
+    ensures pass { (C.Pass.rest result.pass).context ≡ (C.Pass.rest job.entry.pass).context }
+    ensures share { result.share ≡ record job.entry.share { made = job.entry.share.made + 1 } }
+{
     let Job {
-        mut pass,
+        pass,
         mut share,
         mut commands,
         ..
     } = job;
-    for _ in share.made()..share.quota() {
-        let Some(command) = commands.next() else {
-            unreachable!()
-        };
-        let (back, refused) = hold(rt, lock, gate, pass, &mut share, command);
-        pass = back;
-        if refused {
-            return Job {
-                pass,
-                share,
-                commands,
-                stopped: true,
-            };
-        }
-    }
+    let Some(command) = commands.next() else {
+        unreachable!()
+    };
+    let (pass, stopped) = hold(rt, lock, gate, pass, &mut share, command);
     Job {
         pass,
         share,
         commands,
-        stopped: false,
+        stopped,
     }
 }
 

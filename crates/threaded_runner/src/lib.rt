@@ -9,6 +9,7 @@ mod dealing;
 mod flat;
 mod holding;
 mod job;
+mod shift;
 mod waiting;
 
 pub use crew::Crew;

@@ -1,13 +1,12 @@
-use Rattle.std.proofs.Common.{◌≡◌}
-use Rattle.clof_compose.specs.Courses.{course_of}
-use Rattle.mc_text.specs.Commands.{commands_left}
-use Rattle.threaded_runner.specs.Jobs.{HasLeft}
+use Rattle.std.proofs.Common.{◌≡◌, false}
+use Rattle.threaded_runner.specs.Jobs.{IsJob}
 use Rattle.threaded_runner.proofs.holding.serve.Given as goal
 
--- the pass is that of the same context, the share has made the turns so far, and what is left of the section is known
+-- the job is that of the caller, with the same pass and share but for the turns made so far
 abbrev pub invariant-loop : goal.invariant-loop
 invariant-loop g l = record {
-  pass : (g.C.Pass.Resting.rest l.pass).context ≡ (g.C.Pass.Resting.rest l.fn.job.pass).context;
-  share : l.share ≡ record l.fn.job.share { made = l.counter };
-  left : HasLeft (course_of (g.C.Composed.tag l.lock)).payload l.share (commands_left l.commands);
+  job : IsJob g.C.Pass.Resting.rest (g.C.Composed.has l.lock) (g.C.Composed.level l.lock) (g.C.Composed.tag l.lock)
+      l.fn.job.share.caller l.job;
+  pass : (g.C.Pass.Resting.rest l.job.pass).context ≡ (g.C.Pass.Resting.rest l.fn.job.pass).context;
+  share : l.job.share ≡ record l.fn.job.share { made = l.counter };
 }
