@@ -13,7 +13,8 @@ use Rattle.kv_history.specs.declared.kept.Kept.{Kept}
 use Rattle.kv_history.specs.Contents.{empty_store}
 use Rattle.kv_history.specs.Answer.{reply_of, store_after}
 use Rattle.kv_history.specs.Callers.{section_of, IsTallied}
-use Rattle.kv_history.specs.Log.{Logged, Log, IsNext, IsSound, all_replies, applied_entry, calls, command_count, entries_from, store_now, void_entry}
+use Rattle.kv_history.specs.Log.{Logged, Log, IsNext, IsSound, all_replies, applied_entry, calls, command_count, entries_from}
+use Rattle.kv_history.specs.Log.{store_now, void_entry}
 use Rattle.kv_history.specs.Records.{ArePlaced, IsNoted, turn_of}
 use Rattle.kv_history.specs.Journal.{IsKept, log_of, sections_of, turns_of}
 use Rattle.kv_history.proofs.Logs.{entries-below, sound-applied, sound-empty, sound-void, store_now-applied, store_now-void}

@@ -1,5 +1,6 @@
 -- The printed text of a run tells who held the lock, and what they saw.
-use Rattle.std.proofs.Common.{◌≡◌, ℕ, ◌+◌, ◌^◌, ◌<◌, ◌≤◌, ◌%◌, List, [], ◌∷◌, ◌++◌, map, codes, Option, Some, None, inl, inr, refl, sym, ap, ◌∙◌, subst, append_assoc, arith}
+use Rattle.std.proofs.Common.{◌≡◌, ℕ, ◌+◌, ◌^◌, ◌<◌, ◌≤◌, ◌%◌, List, [], ◌∷◌, ◌++◌, map, codes, Option, Some, None, inl, inr}
+use Rattle.std.proofs.Common.{refl, sym, ap, ◌∙◌, subst, append_assoc, arith}
 use Rattle.std.specs.Prelude.{decimal, option_map, slice_index_or}
 use Rattle.std.specs.List.{Contains, AllByRecursion, flat_map, enumerate_from}
 use Rattle.std.proofs.lemmas.Fmt.{decimal_by_steps, decimal_injective}
@@ -113,7 +114,8 @@ line_parts sections n one more =
     (codes " left ") (decimal one.turn.left) (end ++ more)
 
 -- lines of one number, in front of others, are of one caller with the same tests, where it climbed as far
-same_hold : (sections : List Placed) (n : ℕ) (one other : Told) (more behind : List ℕ) → one.turn.caller < 2 ^ 64 → other.turn.caller < 2 ^ 64
+same_hold : (sections : List Placed) (n : ℕ) (one other : Told) (more behind : List ℕ)
+    → one.turn.caller < 2 ^ 64 → other.turn.caller < 2 ^ 64
     → one.turn.tests < 2 ^ 64 → other.turn.tests < 2 ^ 64 → one.turn.climb ≡ other.turn.climb
     → turn_line sections n one ++ more ≡ turn_line sections n other ++ behind
     → (one.turn.caller ≡ other.turn.caller) × (one.turn.tests ≡ other.turn.tests)
@@ -124,7 +126,8 @@ same_hold sections n one other more behind small few low less climb same =
     let caller = same_number one.turn.caller other.turn.caller _ _ small few called in
     let placed = append_cancel_left (codes "pu ") _ _ caller.1 in
     let pu = ap (λ (w : ℕ). decimal (pu_of sections w)) caller.0 in
-    let climbed = append_cancel_left (decimal (pu_of sections one.turn.caller)) _ _ (placed ∙ ap (λ (d : List ℕ). d ++ behind_pu other behind) (sym pu)) in
+    let climbed = append_cancel_left (decimal (pu_of sections one.turn.caller)) _ _
+    (placed ∙ ap (λ (d : List ℕ). d ++ behind_pu other behind) (sym pu)) in
     let tested = append_cancel_left (decimal one.turn.climb) _ _
     (append_cancel_left (codes " climb ") _ _ climbed ∙ ap (λ (d : ℕ). decimal d ++ behind_climb other behind) (sym climb)) in
     let tests = same_number one.turn.tests other.turn.tests (at_left one more) (at_left other behind) low less
@@ -136,7 +139,8 @@ same_hold sections n one other more behind small few low less climb same =
 -- the lines of some holds, numbered from n, and of all callers
 abbrev lines_from : List Placed → Shape → ℕ → List Turn → Contents → List Hold → List WholeCommand → List ℕ
 lines_from sections shape n before store holds commands =
-    flat_map (λ at. turn_line sections at.0 at.1) (enumerate_from n (told (turns_behind shape before holds) commands (replies_from store commands)))
+    flat_map (λ at. turn_line sections at.0 at.1)
+    (enumerate_from n (told (turns_behind shape before holds) commands (replies_from store commands)))
     ++ caller_lines sections
 
 -- the callers of holds
@@ -287,7 +291,8 @@ tells sections shape n before earlier store (hold ∷ holds) (other ∷ others) 
     let is = first_hold sections shape n before earlier store hold other holds others commands also small.0 few.0 given gave same in
     let gave_too = subst (λ (o : Hold). commands_behind sections earlier (callers_of (o ∷ others)) ≡ Some also) (sym is) gave in
     let same_too = subst
-    (λ (o : Hold). lines_from sections shape n before store (hold ∷ holds) commands ≡ lines_from sections shape n before store (o ∷ others) also)
+    (λ (o : Hold). lines_from sections shape n before store (hold ∷ holds) commands
+    ≡ lines_from sections shape n before store (o ∷ others) also)
     (sym is) same in
     let rest = behind sections shape n before earlier store hold holds others commands also given gave_too same_too in
     let later = tells sections shape (n + 1) (before ++ turn_after shape before hold.caller hold.tests ∷ []) (earlier ++ hold.caller ∷ [])

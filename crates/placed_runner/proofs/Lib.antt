@@ -4,5 +4,6 @@ pub mod Histories
 pub mod Numbered
 pub mod Printed
 pub mod Texts
+pub mod Readings
 pub mod Uniqueness
 pub mod Walks

@@ -1,5 +1,6 @@
 -- What is printed is the text of a run.
-use Rattle.std.proofs.Common.{◌≡◌, ℕ, zero, suc, ◌+◌, ◌-◌, ◌*◌, ◌/◌, ◌%◌, ◌^◌, ◌<◌, ◌≤◌, inl, inr, cond, List, [], ◌∷◌, ◌++◌, length, map, Some, refl, sym, ap, ◌∙◌, subst, append_assoc, arith}
+use Rattle.std.proofs.Common.{◌≡◌, ℕ, zero, suc, ◌+◌, ◌-◌, ◌*◌, ◌/◌, ◌%◌, ◌^◌, ◌<◌, ◌≤◌, inl, inr, cond, List, [], ◌∷◌, ◌++◌}
+use Rattle.std.proofs.Common.{length, map, Some, refl, sym, ap, ◌∙◌, subst, append_assoc, arith}
 use Rattle.std.specs.Prelude.{slice_get, IfSome, ◌==◌}
 use Rattle.std.specs.Int.{bit_at}
 use Rattle.std.specs.List.{All, AllByRecursion, count_by}
@@ -50,7 +51,8 @@ unfolding turns_text run_text
 text_of_run sections shape turns lawful =
     λ i. text_of sections (sym (turns_are shape [] turns lawful) i) (commands_behind sections [] (sym (callers_held turns) i))
 
-count-held : (caller : ℕ) (turns : List Turn) → count_by (λ (hold : Hold). hold.caller == caller) (map hold_of turns) ≡ turns_of caller turns
+count-held : (caller : ℕ) (turns : List Turn)
+    → count_by (λ (hold : Hold). hold.caller == caller) (map hold_of turns) ≡ turns_of caller turns
 count-held caller [] = refl
 count-held caller (turn ∷ turns) =
     sum_by-cons (λ (hold : Hold). cond (hold.caller == caller) 1 0) (hold_of turn) (map hold_of turns)
@@ -64,10 +66,11 @@ All-unmap P f (x ∷ xs) all =
 
 -- Lawful turns of a journal's callers, the last of which leaves at the top, are a run where each caller has as many turns as its section
 -- has commands
-pub is_run : (sections : List Placed) (shape : Shape) (turns : List Turn) (log : Log) → log.sections ≡ map (λ section. section.bytes) sections
-    → EachHasSection log → callers_in turns ≡ calls log → IsLawful shape turns
+pub is_run : (sections : List Placed) (shape : Shape) (turns : List Turn) (log : Log)
+    → log.sections ≡ map (λ section. section.bytes) sections → EachHasSection log → callers_in turns ≡ calls log → IsLawful shape turns
     → IfSome (last_turn turns) (λ t. t.left ≡ top_of shape)
-    → ((caller : ℕ) (section : Placed) → slice_get sections caller ≡ Some section → turns_of caller turns ≡ length (commands_of section.bytes))
+    → ((caller : ℕ) (section : Placed) → slice_get sections caller ≡ Some section
+    → turns_of caller turns ≡ length (commands_of section.bytes))
     → IsRun sections shape (turns_text sections turns)
 is_run sections shape turns log same callers called lawful ends each =
     let n = length sections in
@@ -155,7 +158,8 @@ small_holds shape before (hold ∷ holds) callers few low within follow = (
 )
 
 count-callers : (caller : ℕ) (holds : List Hold)
-    → count_by (λ other. other == caller) (map (λ (hold : Hold). hold.caller) holds) ≡ count_by (λ (hold : Hold). hold.caller == caller) holds
+    → count_by (λ other. other == caller) (map (λ (hold : Hold). hold.caller) holds)
+    ≡ count_by (λ (hold : Hold). hold.caller == caller) holds
 count-callers caller [] = refl
 count-callers caller (hold ∷ holds) =
     sum_by-cons (λ (other : ℕ). cond (other == caller) 1 0) hold.caller (map (λ (hold : Hold). hold.caller) holds)

@@ -52,7 +52,8 @@ own_count caller entries =
     ∙ own_length caller entries ∙ length-filter (λ other. other == caller) (callers entries)
 
 -- the section of a caller
-pub there : (sections : List Placed) (caller : ℕ) → caller < length sections → (section : Placed) × (slice_get sections caller ≡ Some section)
+pub there : (sections : List Placed) (caller : ℕ) → caller < length sections
+    → (section : Placed) × (slice_get sections caller ≡ Some section)
 there [] caller within = absurd (omega arith)
 there (section ∷ sections) zero within = (section, refl)
 there (section ∷ sections) (suc caller) within = there sections caller (omega arith)
@@ -146,6 +147,7 @@ pairs_within (turn ∷ turns) [] = omega arith
 pairs_within (turn ∷ turns) (entry ∷ entries) = omega (arith, pairs_within turns entries)
 
 -- the bytes of sections
-pub bytes_of : (sections : List Section) → map (λ section. section.bytes.now) sections ≡ map (λ (p : Placed). p.bytes) (map section_view sections)
+pub bytes_of : (sections : List Section)
+    → map (λ section. section.bytes.now) sections ≡ map (λ (p : Placed). p.bytes) (map section_view sections)
 bytes_of [] = refl
 bytes_of (section ∷ sections) = ap (λ rest. section.bytes.now ∷ rest) (bytes_of sections)

@@ -1,5 +1,5 @@
 -- What holds of every input, and of every printed text.
-use Rattle.std.specs.Prelude.{◌≡◌, ◌≤◌, ◌^◌, ℕ, List, length}
+use Rattle.std.specs.Prelude.{◌≡◌, ◌⊎◌, ◌≤◌, ◌^◌, ℕ, List, length}
 use Rattle.synth_text.specs.declared.description.Description.{Description}
 use Rattle.placed_runner.specs.declared.fault.SectionFault.{SectionFault}
 use Rattle.keep_local.specs.declared.shape.Shape.{Shape}
@@ -24,6 +24,12 @@ abbrev pub NotBoth : Type 0
 NotBoth =
     (described : Description) (input : List ℕ) (sections : List Placed) (fault : SectionFault) → Sections described input sections
     → IsRefused described input fault → ⊥
+
+-- one of the two applies to every input
+abbrev pub OneApplies : Type 0
+OneApplies =
+    (described : Description) (input : List ℕ)
+    → ((sections : List Placed) × Sections described input sections) ⊎ ((fault : SectionFault) × IsRefused described input fault)
 
 -- A printed text is that of one list of holds: it tells who held the lock, in order, and at which levels others waited. Callers and tests
 -- have 32 bits

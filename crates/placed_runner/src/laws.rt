@@ -1,11 +1,12 @@
 // Laws of the definitions: each function has an empty body, and its contract is the law.
-ghost use Rattle.placed_runner.specs.Laws.{OneHistory, OneReading, OneRefusal, NotBoth};
+ghost use Rattle.placed_runner.specs.Laws.{OneApplies, OneHistory, OneReading, OneRefusal, NotBoth};
 
-/// At most one list of sections fits an input, or at most one refusal, and not both.
+/// To each input applies exactly one of the two: it is some sections, of which one list fits, or it is refused, in one way.
 pub fn one_answer()
     ensures sections { OneReading }
     ensures refusal { OneRefusal }
     ensures either { NotBoth }
+    ensures some { OneApplies }
 {}
 
 /// The printed text of a run tells who held the lock, in order, and at which levels others waited.

@@ -15,7 +15,8 @@ use Rattle.placed_runner.proofs.Numbered.{joined_more, take_all}
 use Rattle.placed_runner.proofs.printing.text.Goals as goal
 
 -- the section of the caller at a place
-section_at : (sections : List Section) (all : List (List ℕ)) (place : ℕ) (none : Section) → all ≡ map (λ section. section.bytes.now) sections
+section_at : (sections : List Section) (all : List (List ℕ)) (place : ℕ) (none : Section)
+    → all ≡ map (λ section. section.bytes.now) sections
     → place < length sections → slice_get all place ≡ Some (get_or sections place none).bytes.now
 section_at sections all place none same within =
     ap (λ (xs : List (List ℕ)). slice_get xs place) same
@@ -79,7 +80,8 @@ loop-caller-preserved c =
     let callers = caller_lines (map section_view (take caller sections)) in
     c.in_ok-push_caller.ensures ∙ ap (λ front. front ++ line) c.loop-caller.invariant
     ∙ append_assoc turns callers line
-    ∙ ap (λ end. turns ++ end) (sym (joined_more section_view (λ at. caller_line at.0 at.1) sections caller section none (omega arith) refl))
+    ∙ ap (λ end. turns ++ end) (sym
+    (joined_more section_view (λ at. caller_line at.0 at.1) sections caller section none (omega arith) refl))
 
 pub returns : goal.returns
 returns c =

@@ -32,7 +32,8 @@ loop-turn-preserved c =
     } in
     let more : callers_in (take (index + 1) turns) ≡ callers_in (take index turns) ++ turn.caller ∷ [] =
     views_more (λ (t : Turn). t.caller) turns index turn none (omega arith) refl in
-    let done : HavePlayed c.args.first.now c.args.second.now (take (index + 1) turns) c.match-turn.journal (commands_left c.match-turn.firsts)
+    let done : HavePlayed c.args.first.now c.args.second.now (take (index + 1) turns) c.match-turn.journal
+    (commands_left c.match-turn.firsts)
     (commands_left c.match-turn.seconds) = elim c.match-turn.branch [
       | in-0+in_ok-give-in-0 w ↦
           have_played c.args.first.now c.args.second.now (take (index + 1) turns) _ _ w.journal-is w.firsts-is w.seconds-is
