@@ -1,4 +1,5 @@
 pub mod Commands
+pub mod Crews
 pub mod Dealt
 pub mod Items
 pub mod Served

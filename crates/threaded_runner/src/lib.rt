@@ -9,10 +9,11 @@ mod dealing;
 mod flat;
 mod holding;
 mod job;
+mod running;
 mod shift;
 mod waiting;
 
 pub use crew::Crew;
-pub use flat::{FlatLock, FlatPass};
+pub use flat::{FlatLock, FlatPass, run_threads};
 pub use holding::serve;
 pub use job::Job;
