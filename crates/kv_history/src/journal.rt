@@ -6,7 +6,7 @@ ghost use Rattle.std.specs.List.{All, list_all};
 ghost use Rattle.mc_text.specs.Request.{request_of, view};
 ghost use Rattle.mc_text.specs.Reading.{commands_of, rest_of};
 ghost use Rattle.kv_history.specs.Answer.{store_after};
-ghost use Rattle.kv_history.specs.Log.{IsNext, IsOneThread, NoneVoid, VoidIsSilent, EachHasSection, EachOwnFirst, IsHistory};
+ghost use Rattle.kv_history.specs.Log.{command_count, IsNext, IsOneThread, NoneVoid, VoidIsSilent, EachHasSection, EachOwnFirst, IsHistory};
 ghost use Rattle.kv_history.specs.Log.{all_replies, applied, applied_entry, calls, void_entry, store_now};
 ghost use Rattle.kv_history.specs.Callers.{section_of, IsTallied};
 
@@ -120,6 +120,9 @@ impl<'a> Journal<'a> {
         // Without void entries these are all, and the callers, in their order, and the sections make them.
         ensures one_thread { NoneVoid self.now.entries → IsOneThread self.now.entries }
         ensures history { NoneVoid self.now.entries → IsHistory self.now }
+
+        // The sections together have fewer commands than 2 ^ 32.
+        ensures small { command_count self.now.sections < 2 ^ 32 }
     {
         let _ = &self.kept;
     }

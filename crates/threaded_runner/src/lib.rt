@@ -9,6 +9,7 @@ mod dealing;
 mod flat;
 mod holding;
 mod job;
+mod making;
 mod running;
 mod shift;
 mod waiting;
