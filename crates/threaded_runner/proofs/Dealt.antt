@@ -12,7 +12,7 @@ use Rattle.placed_runner.specs.declared.sections.Section.{Section}
 use Rattle.threaded_runner.specs.Jobs.{HasLeft}
 
 -- how many commands each section has, by its bytes
-counts : (sections : List Section) → map (λ (one : Section). length (commands_of one.bytes.now)) sections
+pub counts : (sections : List Section) → map (λ (one : Section). length (commands_of one.bytes.now)) sections
     ≡ map (λ (one : List ℕ). length (commands_of one)) (map (λ (one : Section). one.bytes.now) sections)
 counts [] = refl
 counts (section ∷ sections) = ap (λ rest. length (commands_of section.bytes.now) ∷ rest) (counts sections)

@@ -2,6 +2,7 @@ pub mod Commands
 pub mod Crews
 pub mod Dealt
 pub mod OneLevel
+pub mod Done
 pub mod Items
 pub mod Served
 pub mod Sums

@@ -1,3 +1,4 @@
 pub mod Jobs
 pub mod Crews
 pub mod Ready
+pub mod Done

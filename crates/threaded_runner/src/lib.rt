@@ -13,8 +13,10 @@ mod making;
 mod running;
 mod shift;
 mod waiting;
+mod whole;
 
 pub use crew::Crew;
 pub use flat::{FlatLock, FlatPass, run_threads};
 pub use holding::serve;
 pub use job::Job;
+pub use whole::run;
