@@ -25,3 +25,6 @@ pub use laws::{
 };
 pub use trace::read_trace;
 pub use weights::read_weights;
+
+#[cfg(test)]
+mod tests;
