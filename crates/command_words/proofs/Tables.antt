@@ -1,5 +1,5 @@
 -- The commands, by their tables. Each is one of which `clap` tells exactly how it reads words.
-use Rattle.std.proofs.Common.{◌≡◌, List, true, refl, ap, sym, ◌∙◌, codes}
+use Rattle.std.proofs.Common.{◌≡◌, List, true, refl, ap, codes}
 use Rattle.clap.specs.Words.{Rule, is_simple_and_free}
 use Rattle.clap.proofs.OnLiterals.{clap_on_literals}
 use Rattle.command_words.specs.Commands.{command_of}

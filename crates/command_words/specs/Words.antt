@@ -1,5 +1,5 @@
 -- The words of the command line.
-use Rattle.std.specs.Prelude.{◌≡◌, ◌^◌, ◌&&◌, Bool, false, true, nat_lt, List, [], ◌∷◌, length, Option, Some, None, IsTrue, codes, map}
+use Rattle.std.specs.Prelude.{◌≡◌, ◌^◌, ◌&&◌, Bool, false, nat_lt, List, [], ◌∷◌, length, Option, Some, None, IsTrue, codes, map}
 use Rattle.std.specs.Prelude.{string_bytes, if◌then◌else◌}
 use Rattle.std.specs.List.{list_all, list_any}
 use Rattle.std.specs.Str.{bytes_eq}

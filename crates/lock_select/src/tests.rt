@@ -30,25 +30,50 @@ fn check_choice(
     let choice = choose(alloc, &tree, &weights, keep, &trace)?;
     assert_eq!(rt; choice.depths.as_slice(), depths);
     assert_eq!(rt; choice.cost, cost);
-    assert_eq!(rt; crate::cost(&tree, &weights, choice.depths.as_slice(), keep, &trace), cost);
+    assert_eq!(rt;
+        crate::cost(&tree, &weights, choice.depths.as_slice(), keep, &trace),
+        cost
+    );
     Ok(())
 }
 
 const PACKAGES: &[u8] = b"Package:2 PU:2";
+
 const NEIGHBOURS: &[u8] = b"0\n1\n0\n1\n2\n3\n2\n3\n";
 
 #[test]
 fn neighbours_share_a_level(rt: HostRuntime) -> Result<(), Fail> {
     let alloc = rt.alloc();
-    check_choice(&rt, alloc, PACKAGES, (None, b"128", NEIGHBOURS), &[1, 0], 24)?;
+    check_choice(
+        &rt,
+        alloc,
+        PACKAGES,
+        (None, b"128", NEIGHBOURS),
+        &[1, 0],
+        24,
+    )?;
     let turns = b"0\n0\n1\n1\n2\n3\n0\n1\n3\n3\n";
-    check_choice(&rt, alloc, PACKAGES, (Some(b"7,3,2"), b"3", turns), &[1, 0], 58)
+    check_choice(
+        &rt,
+        alloc,
+        PACKAGES,
+        (Some(b"7,3,2"), b"3", turns),
+        &[1, 0],
+        58,
+    )
 }
 
 // Machine alone and Package with Machine both cost 32.
 #[test]
 fn fewer_levels_come_first_among_equals(rt: HostRuntime) -> Result<(), Fail> {
-    check_choice(&rt, rt.alloc(), PACKAGES, (None, b"1", NEIGHBOURS), &[0], 32)
+    check_choice(
+        &rt,
+        rt.alloc(),
+        PACKAGES,
+        (None, b"1", NEIGHBOURS),
+        &[0],
+        32,
+    )
 }
 
 // The lists of two levels that end a run of turns on one PU cost the same; the one with the lesser depth is first.
@@ -56,8 +81,22 @@ fn fewer_levels_come_first_among_equals(rt: HostRuntime) -> Result<(), Fail> {
 fn the_least_list_comes_first_among_equals(rt: HostRuntime) -> Result<(), Fail> {
     let alloc = rt.alloc();
     let text = b"Package:1 Core:1 PU:2";
-    check_choice(&rt, alloc, text, (Some(b"3,1,1,1"), b"128", b"0\n0\n0\n0\n"), &[1, 0], 7)?;
-    check_choice(&rt, alloc, PACKAGES, (Some(b"1,1,1"), b"128", NEIGHBOURS), &[0], 8)
+    check_choice(
+        &rt,
+        alloc,
+        text,
+        (Some(b"3,1,1,1"), b"128", b"0\n0\n0\n0\n"),
+        &[1, 0],
+        7,
+    )?;
+    check_choice(
+        &rt,
+        alloc,
+        PACKAGES,
+        (Some(b"1,1,1"), b"128", NEIGHBOURS),
+        &[0],
+        8,
+    )
 }
 
 #[test]
@@ -65,7 +104,14 @@ fn short_traces(rt: HostRuntime) -> Result<(), Fail> {
     let alloc = rt.alloc();
     check_choice(&rt, alloc, PACKAGES, (None, b"128", b""), &[0], 0)?;
     check_choice(&rt, alloc, PACKAGES, (None, b"128", b"3\n"), &[0], 4)?;
-    check_choice(&rt, alloc, PACKAGES, (None, b"128", b"3\n3\n3\n3\n3\n3\n"), &[2, 0], 10)
+    check_choice(
+        &rt,
+        alloc,
+        PACKAGES,
+        (None, b"128", b"3\n3\n3\n3\n3\n3\n"),
+        &[2, 0],
+        10,
+    )
 }
 
 // Two PUs in turn: with a keep of 0 nothing is handed on below the top.
@@ -98,7 +144,14 @@ fn weights_of_sixteen_depths(rt: HostRuntime) -> Result<(), Fail> {
         32768, 16384, 8192, 4096, 2048, 1024, 512, 256, 128, 64, 32, 16, 8, 4, 2, 1,
     ];
     assert_eq!(rt; weights.as_slice(), wanted.as_slice());
-    check_choice(&rt, alloc, text, (None, b"128", b"0\n1\n0\n1\n0\n1\n"), &[14, 0], 32780)
+    check_choice(
+        &rt,
+        alloc,
+        text,
+        (None, b"128", b"0\n1\n0\n1\n0\n1\n"),
+        &[14, 0],
+        32780,
+    )
 }
 
 fn check_weights(rt: &impl Abort, alloc: Global, tree: &Tree, text: &[u8], good: bool) {
@@ -116,8 +169,20 @@ fn weights_that_are_refused(rt: HostRuntime) -> Result<(), Fail> {
         check_weights(&rt, alloc, &tree, text.as_bytes(), true);
     }
     for text in [
-        "", "4", "4,2", "4,2,1,1", "4,2,1,", ",2,1", "4,,1", "0,2,1", "4,2,0", "1000001,1,1", "4,2,x", "4 2 1",
-        "4,-2,1", "18446744073709551617,1,1",
+        "",
+        "4",
+        "4,2",
+        "4,2,1,1",
+        "4,2,1,",
+        ",2,1",
+        "4,,1",
+        "0,2,1",
+        "4,2,0",
+        "1000001,1,1",
+        "4,2,x",
+        "4 2 1",
+        "4,-2,1",
+        "18446744073709551617,1,1",
     ] {
         check_weights(&rt, alloc, &tree, text.as_bytes(), false);
     }
@@ -126,7 +191,12 @@ fn weights_that_are_refused(rt: HostRuntime) -> Result<(), Fail> {
 
 #[test]
 fn keeps(rt: HostRuntime) {
-    for (text, keep) in [("0", 0), ("128", 128), ("65535", 65535), ("000065535", 65535)] {
+    for (text, keep) in [
+        ("0", 0),
+        ("128", 128),
+        ("65535", 65535),
+        ("000065535", 65535),
+    ] {
         assert_eq!(rt; read_keep(text.as_bytes()), Ok(keep));
     }
     for text in ["", "65536", "-1", "1x", " 1", "99999999999999999999"] {
@@ -161,7 +231,13 @@ fn lines_that_are_refused(rt: HostRuntime) -> Result<(), Fail> {
         ("-1\n9\n", 0),
         ("1\nx\n9\n", 2),
     ] {
-        check_refusal(&rt, alloc, &tree, bytes.as_bytes(), SelectFault::Line { at });
+        check_refusal(
+            &rt,
+            alloc,
+            &tree,
+            bytes.as_bytes(),
+            SelectFault::Line { at },
+        );
     }
     for (bytes, at) in [
         ("4\n", 0),
@@ -170,7 +246,13 @@ fn lines_that_are_refused(rt: HostRuntime) -> Result<(), Fail> {
         ("0\n1\n2\n3\n4\nx\n", 8),
         ("1\n9\nx\n", 2),
     ] {
-        check_refusal(&rt, alloc, &tree, bytes.as_bytes(), SelectFault::Place { at });
+        check_refusal(
+            &rt,
+            alloc,
+            &tree,
+            bytes.as_bytes(),
+            SelectFault::Place { at },
+        );
     }
     Ok(())
 }
@@ -185,7 +267,14 @@ fn longest_traces(rt: HostRuntime) -> Result<(), Fail> {
     }
     let trace = read_trace(alloc, &tree, &bytes)?;
     assert_eq!(rt; trace.len(), 16384);
-    check_choice(&rt, alloc, b"PU:1", (None, b"65535", &bytes), &[1, 0], 16386)?;
+    check_choice(
+        &rt,
+        alloc,
+        b"PU:1",
+        (None, b"65535", &bytes),
+        &[1, 0],
+        16386,
+    )?;
     // Bytes behind the last line come before what is wrong with them.
     for more in ["0\n", "x\n", "7"] {
         bytes.truncate(32768);
