@@ -1,5 +1,5 @@
 -- How a description is read and built: by what its text describes, or by the first rule that the text or its numbers break.
-use Rattle.std.proofs.Common.{◌≡◌, ◌⊎◌, ℕ, List, Some, None, Ok, Err, inl, inr, sym, ap, subst, ◌∙◌}
+use Rattle.std.proofs.Common.{◌≡◌, ◌⊎◌, ℕ, List, Option, Some, None, Ok, Err, inl, inr, sym, ap, subst, ◌∙◌}
 use Rattle.std.specs.Prelude.{Result}
 use Rattle.out_of_memory.specs.Memory.{UnlessMemory}
 use Rattle.synth_text.specs.declared.description.Description.{Description}

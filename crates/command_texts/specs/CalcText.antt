@@ -1,5 +1,5 @@
 -- What `calc` prints, and why it is refused.
-use Rattle.std.specs.Prelude.{ℕ, Bool, false, true, List, [], ◌∷◌, ◌++◌, Option, Some, None, option_map, Result, Ok, Err}
+use Rattle.std.specs.Prelude.{◌≡◌, ℕ, Bool, false, true, List, [], ◌∷◌, ◌++◌, Option, Some, None, option_map, Result, Ok, Err}
 use Rattle.synth_text.specs.declared.description.Description.{Description}
 use Rattle.topo_tree.specs.Naming.{layer_named}
 use Rattle.calc_query.specs.declared.fault.CalcFault.{CalcFault}

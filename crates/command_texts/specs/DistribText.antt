@@ -1,5 +1,5 @@
 -- What `distrib` prints, and why it is refused.
-use Rattle.std.specs.Prelude.{◌-◌, ℕ, Bool, List, [], ◌∷◌, ◌++◌, Option, Some, None, Result, Ok, Err}
+use Rattle.std.specs.Prelude.{◌≡◌, ◌⊎◌, ◌-◌, ℕ, Bool, false, true, List, [], ◌∷◌, ◌++◌, Option, Some, None, Result, Ok, Err}
 use Rattle.std.specs.List.{flat_map}
 use Rattle.calc_text.specs.Texts.{set_text}
 use Rattle.synth_text.specs.declared.description.Description.{Description}

@@ -1,4 +1,4 @@
-use Rattle.std.proofs.Common.{Err, inl, inr, ap, ◌≡◌}
+use Rattle.std.proofs.Common.{Err, inl, inr, ap, sym, ◌≡◌, ◌∙◌}
 use Rattle.command_words.specs.Plain.{plain_distribution}
 use Rattle.command_texts.specs.DistribText.{answer_on}
 use Rattle.command_texts.proofs.OnTopologies.{refused_early, refused_on}

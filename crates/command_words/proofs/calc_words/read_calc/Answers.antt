@@ -1,5 +1,5 @@
-use Rattle.std.proofs.Common.{◌∙◌, ap, sym, map, string_bytes, inl, inr, option_map}
-use Rattle.clap.specs.Words.{is_simple_and_free}
+use Rattle.std.proofs.Common.{◌≡◌, ◌∙◌, ap, sym, map, codes, true, string_bytes, inl, inr, option_map}
+use Rattle.clap.specs.Words.{App, is_simple_and_free}
 use Rattle.command_words.specs.Commands.{rule_of}
 use Rattle.command_words.specs.Asked.{Calc}
 use Rattle.command_words.specs.CalcWords.{calc_of}

@@ -1,5 +1,5 @@
 use Rattle.std.proofs.Common.{◌≡◌, ◌∙◌, ap, sym, map, string_bytes, true, inl, inr}
-use Rattle.clap.specs.Words.{App, app_of, is_simple, is_simple_and_free}
+use Rattle.clap.specs.Words.{App, app_of, fault_of, is_simple, is_simple_and_free}
 use Rattle.clap.specs.Faults.{is_free_app}
 use Rattle.clap.specs.Simple.{built}
 use Rattle.clap.proofs.WalkLemmas.{both}

@@ -1,4 +1,4 @@
-use Rattle.std.proofs.Common.{[], ap, ◌∙◌, map}
+use Rattle.std.proofs.Common.{◌≡◌, [], ap, ◌∙◌, map}
 use Rattle.std.proofs.lemmas.Result.{IfOk-weaker}
 use Rattle.std.specs.Option.{unwrap_or}
 use Rattle.clap.specs.Words.{found_of}

@@ -1,5 +1,5 @@
-use Rattle.std.proofs.Common.{◌∙◌, ap, map, string_bytes, inr, refl, option_map}
-use Rattle.clap.specs.Words.{is_simple_and_free}
+use Rattle.std.proofs.Common.{◌≡◌, ◌∙◌, ap, sym, map, codes, true, string_bytes, inr, refl, option_map}
+use Rattle.clap.specs.Words.{App, is_simple_and_free}
 use Rattle.command_words.specs.Commands.{rule_of}
 use Rattle.command_words.specs.Asked.{Distrib}
 use Rattle.command_words.specs.DistribWords.{distrib_of}

@@ -1,4 +1,4 @@
-use Rattle.std.proofs.Common.{◌≡◌, ◌^◌, length, map, drop, nat_lt}
+use Rattle.std.proofs.Common.{◌≡◌, ◌^◌, ℕ, Bool, length, map, drop, nat_lt, true}
 use Rattle.std.specs.Prelude.{string_bytes}
 use Rattle.std.specs.List.{list_all}
 use Rattle.command_words.proofs.words.are_short.Given as goal
