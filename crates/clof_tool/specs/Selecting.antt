@@ -11,7 +11,8 @@ use Rattle.clof_tool.specs.Run.{input_limit, OnDescribed}
 
 -- the words are refused: the description, or on what it describes the weights or the keep
 abbrev pub SelectRefuses : Selection → Status → Type 0
-SelectRefuses asked status = TopoRefuses asked.description status ⊎ OnDescribed asked.description (λ described. RefusesTerms described asked status)
+SelectRefuses asked status =
+    TopoRefuses asked.description status ⊎ OnDescribed asked.description (λ described. RefusesTerms described asked status)
 
 -- on a topology bytes are refused: they are too many, or no trace
 abbrev pub RefusesBytes : Description → List ℕ → Status → Type 0

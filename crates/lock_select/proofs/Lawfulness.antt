@@ -1,5 +1,6 @@
 -- Ideal turns are lawful.
-use Rattle.std.proofs.Common.{◌≡◌, ℕ, zero, suc, ◌+◌, ◌-◌, ◌*◌, ◌^◌, ◌<◌, ◌≤◌, Bool, true, false, cond, ◌&&◌, List, [], ◌∷◌, ◌++◌, get_or, map}
+use Rattle.std.proofs.Common.{◌≡◌, ℕ, zero, suc, ◌+◌, ◌-◌, ◌*◌, ◌^◌, ◌<◌, ◌≤◌, Bool, true, false, cond, ◌&&◌, List, [], ◌∷◌, ◌++◌, get_or}
+use Rattle.std.proofs.Common.{map}
 use Rattle.std.proofs.Common.{nat_lt, min, refl, ap, sym, subst, ◌∙◌, arith, inl, inr, Option, Some, None, lit<, not}
 use Rattle.std.specs.Prelude.{All, IfSome, sum, slice_get, slice_index, ◌==◌}
 use Rattle.std.specs.Int.{bit_at}
@@ -186,7 +187,8 @@ left_near shape before caller next formed known next_known =
 abbrev MayBegin : Shape → List Turn → Option ℕ → Type 0
 MayBegin shape before None = Unit {0}
 MayBegin shape before (Some caller) =
-    IfSome (last_turn before) (λ last. node_of shape caller (climb_after shape before) ≡ node_of shape last.caller (climb_after shape before))
+    IfSome (last_turn before)
+    (λ last. node_of shape caller (climb_after shape before) ≡ node_of shape last.caller (climb_after shape before))
 
 may_begin : (shape : Shape) (before : List Turn) (caller next : ℕ) → IsWellFormed shape → caller < callers_of shape
     → next < callers_of shape

@@ -2,7 +2,8 @@
 use Rattle.std.proofs.Common.{◌≡◌, ℕ, zero, suc, ◌+◌, ◌-◌, ◌*◌, ◌/◌, ◌<◌, ◌≤◌, List, [], ◌∷◌, length, drop, refl, ap, sym, ◌∙◌}
 use Rattle.std.proofs.Common.{subst, arith, length-append}
 use Rattle.std.specs.Prelude.{slice_index, slice_index_or}
-use Rattle.std.proofs.Math.Nat.{mul_comm, mul-le-mul_right, div-one, div-eq_of_lt, div-mul-le_self, lt-div-mul-add, div-div-eq-div-mul, div-eq_of_eq-mul_left}
+use Rattle.std.proofs.Math.Nat.{mul_comm, mul-le-mul_right, div-one, div-eq_of_lt, div-mul-le_self, lt-div-mul-add, div-div-eq-div-mul}
+use Rattle.std.proofs.Math.Nat.{div-eq_of_eq-mul_left}
 use Rattle.std.proofs.Math.Seq.{drop-cons}
 use Rattle.std.proofs.lemmas.List.{length-map, get_or-map, length-replicate, get_or-replicate, get_or-append_right}
 use Rattle.std.proofs.lemmas.List.Elements.{All-get_or}
@@ -36,7 +37,8 @@ width_up described depth sound within =
     let long : depth < length (arities described.levels) = omega (arith, length-map described.levels (λ (level : Level). level.arity)) in
     width_is described depth sound
     ∙ ap product (drop-cons (arities described.levels) depth 0 long)
-    ∙ ap (λ (n : ℕ). arity_at described depth * product (drop n (arities described.levels))) (let e : suc depth ≡ depth + 1 = omega arith in e)
+    ∙ ap (λ (n : ℕ). arity_at described depth * product (drop n (arities described.levels)))
+    (let e : suc depth ≡ depth + 1 = omega arith in e)
     ∙ ap (λ (w : ℕ). arity_at described depth * w) (sym (width_is described (depth + 1) sound))
 
 -- the object above

@@ -1,5 +1,6 @@
 -- The search through all lists of levels finds the cheapest.
-use Rattle.std.proofs.Common.{◌≡◌, ℕ, zero, suc, ◌+◌, ◌<◌, ◌≤◌, ◌⊎◌, List, [], ◌∷◌, ◌++◌, length, take, get_or, refl, ap, sym, ◌∙◌, subst, arith}
+use Rattle.std.proofs.Common.{◌≡◌, ℕ, zero, suc, ◌+◌, ◌<◌, ◌≤◌, ◌⊎◌, List, [], ◌∷◌, ◌++◌, length, take, get_or, refl, ap, sym, ◌∙◌, subst}
+use Rattle.std.proofs.Common.{arith}
 use Rattle.std.proofs.Common.{inl, inr, length-append, append_assoc}
 use Rattle.std.specs.Prelude.{All}
 use Rattle.std.specs.List.{AllPairs}
@@ -79,7 +80,10 @@ module _ (cost : List ℕ → ℕ) where
     ]
 
     least_either : (others : List ℕ) → A others ⊎ B others → new.cost ≤ cost others
-    least_either others (inl is) = let no_more = behind.improves.no_more in let least = front.least others is in omega (arith, no_more, least)
+    least_either others (inl is) =
+        let no_more = behind.improves.no_more in
+        let least = front.least others is in
+        omega (arith, no_more, least)
     least_either others (inr is) = behind.least others is
 
     first_of_front : (others : List ℕ) → A others → cost others ≡ new.cost → new.cost < old.cost
@@ -287,8 +291,8 @@ ending_is (suc more) below (d ∷ ds) some is =
       ends = ap (λ (xs : List ℕ). d ∷ xs) rest.ends;
     }
 
-pub goes_on_levels : (described : Description) (more : ℕ) (depths : List ℕ) → more + 1 ≤ level_limit → GoesOn [] more (depth_count described)
-    depths → AreLevels described depths
+pub goes_on_levels : (described : Description) (more : ℕ) (depths : List ℕ) → more + 1 ≤ level_limit
+    → GoesOn [] more (depth_count described) depths → AreLevels described depths
 goes_on_levels described more depths few is =
     let ending = ending_is more (depth_count described) is.0 (omega arith) is.2 in
     let size = ending.long in
@@ -361,7 +365,8 @@ module _ (described : Description) (weights : List ℕ) (keep : ℕ) (trace : Li
     pub levels : AreLevels described choice.depths
     pub cost : choice.cost ≡ cost_of described weights choice.depths keep trace
     pub short : length choice.depths ≤ most
-    pub least : (others : List ℕ) → AreLevels described others → length others ≤ most → choice.cost ≤ cost_of described weights others keep trace
+    pub least : (others : List ℕ) → AreLevels described others → length others ≤ most
+        → choice.cost ≤ cost_of described weights others keep trace
     pub first : (others : List ℕ) → AreLevels described others → length others ≤ most → cost_of described weights others keep trace
         ≡ choice.cost → (others ≡ choice.depths) ⊎ ComesBefore choice.depths others
 

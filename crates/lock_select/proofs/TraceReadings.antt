@@ -1,5 +1,6 @@
 -- The lines of a trace have one reading, or one refusal.
-use Rattle.std.proofs.Common.{◌≡◌, ℕ, zero, suc, ◌-◌, ◌<◌, ◌≤◌, List, [], ◌∷◌, ◌++◌, length, Option, Some, None, ◌⊎◌, inl, inr, refl, sym, ap}
+use Rattle.std.proofs.Common.{◌≡◌, ℕ, zero, suc, ◌-◌, ◌<◌, ◌≤◌, List, [], ◌∷◌, ◌++◌, length, Option, Some, None, ◌⊎◌, inl, inr, refl, sym}
+use Rattle.std.proofs.Common.{ap}
 use Rattle.std.proofs.Common.{◌∙◌, subst, arith}
 use Rattle.std.specs.List.{Contains}
 use Rattle.std.proofs.lemmas.List.{length-append}
@@ -71,8 +72,9 @@ ends_less pus limit turns rest (inl all) = inl (omega (arith, all))
 ends_less pus limit turns rest (inr stops) = inr stops
 
 -- two readings that end are one
-reads_same : (pus limit : ℕ) (trace others : List ℕ) (text rest after : List ℕ) → ReadsTo pus text trace rest → ReadsTo pus text others after
-    → length trace ≤ limit → length others ≤ limit → EndsAt pus limit (length trace) rest → EndsAt pus limit (length others) after
+reads_same : (pus limit : ℕ) (trace others : List ℕ) (text rest after : List ℕ) → ReadsTo pus text trace rest
+    → ReadsTo pus text others after → length trace ≤ limit → length others ≤ limit → EndsAt pus limit (length trace) rest
+    → EndsAt pus limit (length others) after
     → (trace ≡ others) × (rest ≡ after)
 reads_same pus limit [] [] text rest after reads also few small ends stops = (refl, sym reads ∙ also)
 reads_same pus limit [] (other ∷ others) text rest after reads also few small (inl all) stops = absurd (omega (arith, all, small))

@@ -48,8 +48,8 @@ pub record Improves (cost : List ℕ → ℕ) (Tried : List ℕ → Type 0) (old
   pub stays : (new.cost ≡ old.cost) → new.depths ≡ old.depths
   pub tried : new.cost < old.cost → Tried new.depths × (new.cost ≡ cost new.depths)
 
--- behind the search through some lists no one of them costs less than the choice, and each that costs the same as a new choice is this or comes
--- behind it
+-- behind the search through some lists no one of them costs less than the choice, and each that costs the same as a new choice is this or
+-- comes behind it
 pub record IsBestOf (cost : List ℕ → ℕ) (Tried : List ℕ → Type 0) (old new : Choice) : Type 0 where
   pub improves : Improves cost Tried old new
   pub least : (others : List ℕ) → Tried others → new.cost ≤ cost others

@@ -21,7 +21,8 @@ pub fn read_trace<T: AsTree>(
 ) -> Result<Vec<u32>, SelectFault>
     ensures trace { IfOk result (λ trace. IsTrace (T.described topology.now) bytes.now trace.items) }
     ensures usable { IfOk result (λ trace. Visits (T.described topology.now) trace.items) }
-    ensures refused { IfErr result (λ fault. UnlessMemory SelectFault.OutOfMemory fault (IsRefused (T.described topology.now) bytes.now fault)) }
+    ensures refused { IfErr result (λ fault. UnlessMemory SelectFault.OutOfMemory fault
+        (IsRefused (T.described topology.now) bytes.now fault)) }
 {
     let tree = topology.as_tree();
     let pus = tree.count(Layer::Depth(tree.depths() - 1));

@@ -15,7 +15,8 @@ pub nonzero_div-result-2 : goal.nonzero_div-result-2
 nonzero_div-result-2 c =
     let described = c.args.tree.now in
     let last : c.depths.result - 1 ≡ length described.levels = let count = c.depths.ensures.count in omega (arith, count) in
-    let pus : c.count-pus.result ≡ pu_count described = c.count-pus.ensures.count ∙ ap (count_at described) last ∙ last_count described.levels in
+    let pus : c.count-pus.result ≡ pu_count described =
+    c.count-pus.ensures.count ∙ ap (count_at described) last ∙ last_count described.levels in
     let whole = ap (λ (n : ℕ). n / c.count.result) pus ∙ ap (λ (n : ℕ). pu_count described / n) c.count.ensures.count in
     let positive = width_positive described c.args.depth c.depths.ensures.built.sound in
     subst (λ (n : ℕ). 0 < n) (sym whole) positive
@@ -24,5 +25,6 @@ pub returns : goal.returns
 returns c =
     let described = c.args.tree.now in
     let last : c.depths.result - 1 ≡ length described.levels = let count = c.depths.ensures.count in omega (arith, count) in
-    let pus : c.count-pus.result ≡ pu_count described = c.count-pus.ensures.count ∙ ap (count_at described) last ∙ last_count described.levels in
+    let pus : c.count-pus.result ≡ pu_count described =
+    c.count-pus.ensures.count ∙ ap (count_at described) last ∙ last_count described.levels in
     ap (λ (n : ℕ). c.args.pu / (n / c.count.result)) pus ∙ ap (λ (n : ℕ). c.args.pu / (pu_count described / n)) c.count.ensures.count

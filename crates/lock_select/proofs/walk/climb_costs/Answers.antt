@@ -50,7 +50,10 @@ loop-level-preserved c =
             ap (λ (n : ℕ). get_or (set costs level next) n 0) here in
             omega (arith, a, same, bound, light, levels, within)
         | inr other ↦
-            let apart : k ≢ level = λ here. elim other [ inl lower ↦ omega (arith, here, lower) | inr higher ↦ omega (arith, here, higher) ] in
+            let apart : k ≢ level = λ here. elim other [
+              | inl lower ↦ omega (arith, here, lower)
+              | inr higher ↦ omega (arith, here, higher)
+            ] in
             let a = get_or-set_other costs level k next 0 apart in
             let b = c.loop-level.invariant.few k in
             omega (arith, a, b)
