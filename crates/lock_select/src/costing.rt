@@ -6,7 +6,7 @@ ghost use Rattle.lock_select.specs.Nodes.{AreLevels};
 ghost use Rattle.lock_select.specs.Costs.{cost_of};
 
 use crate::nodes::common_depth;
-use crate::walk::{LEVEL_LIMIT, climb_costs, hand_on};
+use crate::walk::{LEVEL_LIMIT, climb_costs, first_cost, hand_on};
 use topo_tree::AsTree;
 
 /// The weighted number of lock takings that the ideal turns of a trace make under a list of levels: for each turn the weights of the depths
@@ -30,7 +30,7 @@ pub fn cost<T: AsTree>(
     let tree = topology.as_tree();
     let costs = climb_costs(weights, depths);
     let mut runs = [0; LEVEL_LIMIT];
-    let mut cost = costs[depths.len() - 1];
+    let mut cost = first_cost(&costs, depths);
     for turn in 1..trace.len() {
         let common = common_depth(tree, trace[turn - 1], trace[turn]);
         cost += costs[hand_on(&mut runs, depths, keep, common)];

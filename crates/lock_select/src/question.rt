@@ -4,7 +4,7 @@ ghost use Rattle.lock_select.specs.Nodes.{AreLevels};
 ghost use Rattle.lock_select.specs.Costs.{cost_of};
 ghost use Rattle.lock_select.specs.Search.{IsAsked};
 
-use crate::walk::{LEVEL_LIMIT, climb_costs, hand_on};
+use crate::walk::{LEVEL_LIMIT, climb_costs, first_cost, hand_on};
 use topo_tree::Tree;
 
 /// A trace on a topology, with weights and a keep, and the common depths of each turn's PU and the next one's, which do not depend on the
@@ -30,7 +30,7 @@ impl Question<'_> {
         }
         let costs = climb_costs(self.weights, depths);
         let mut runs = [0; LEVEL_LIMIT];
-        let mut cost = costs[depths.len() - 1];
+        let mut cost = first_cost(&costs, depths);
         for common in self.commons {
             cost += costs[hand_on(&mut runs, depths, self.keep, u32::from(*common))];
         }

@@ -1,5 +1,5 @@
 // The walk over the turns of a trace, for a list of levels.
-ghost use Rattle.std.specs.Prelude.{◌≡◌, ◌<◌, ◌≤◌, ℕ, All, length, slice_index};
+ghost use Rattle.std.specs.Prelude.{◌≡◌, ◌-◌, ◌<◌, ◌≤◌, ℕ, All, length, slice_index};
 ghost use Rattle.lock_select.specs.Texts.{keep_limit, weight_limit};
 ghost use Rattle.lock_select.specs.Costs.{climb_cost};
 ghost use Rattle.lock_select.specs.Nodes.{level_limit};
@@ -23,6 +23,15 @@ pub(crate) fn climb_costs(weights: &[u64], depths: &[u32]) -> [u64; LEVEL_LIMIT]
         costs[level] = cost;
     }
     costs
+}
+
+/// What the first turn costs, which climbs to the top.
+pub(crate) fn first_cost(costs: &[u64; LEVEL_LIMIT], depths: &[u32]) -> u64
+    requires some { 0 < length depths.now }
+    requires levels { length depths.now ≤ level_limit }
+    ensures { result ≡ slice_index costs.now (length depths.now - 1) }
+{
+    costs[depths.len() - 1]
 }
 
 /// Hands a turn on to a next one whose PU is under one object with its own down to a common depth: at the lowest level at such a depth

@@ -20,9 +20,9 @@ loop-common-init c =
     let turns = eqb-false (length c.args.self.now.trace.now) 0 (sym c.is_empty.ensures ∙ c.if-is_empty.false) in
     record {
       walked = starts c.args.self.now.tree.now c.args.self.now.weights.now depths c.args.self.now.keep c.args.self.now.trace.now
-          (0 ∷ 0 ∷ 0 ∷ 0 ∷ 0 ∷ []) (slice_index costs (length depths - 1)) (omega (arith, turns)) no_runs
-          (c.climb_costs-costs.ensures.costs (length depths - 1) top);
-      bound = c.climb_costs-costs.ensures.few (length depths - 1);
+          (0 ∷ 0 ∷ 0 ∷ 0 ∷ 0 ∷ []) c.first_cost-cost.result (omega (arith, turns)) no_runs
+          (c.first_cost-cost.ensures ∙ c.climb_costs-costs.ensures.costs (length depths - 1) top);
+      bound = let few = c.climb_costs-costs.ensures.few (length depths - 1) in omega (arith, c.first_cost-cost.ensures, few);
     }
 
 pub loop-common-preserved : goal.loop-common-preserved
