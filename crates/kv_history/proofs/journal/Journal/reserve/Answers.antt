@@ -41,7 +41,7 @@ invariant_of-result c =
           (sound-empty sections);
       placed = subst (λ (records : List Record). ArePlaced 0 records (entries_from sections [] (map turn_of records))) (sym empty) tt;
       replies = c.new.ensures.items ∙ ap all_replies (sym none);
-      store = c.new-2.ensures ∙ ap store_now (sym none);
+      store = c.new-2.ensures.empty ∙ ap store_now (sym none);
       small = omega (
         arith,
         few callers c.args.sections.now c.in_ok-callers.ensures.tallied c.in_ok-callers.ensures.sections,
