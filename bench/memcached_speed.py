@@ -4,7 +4,8 @@
 Run from anywhere, with a built program (./clof):   bench/memcached_speed.py [ROW ..]
 clof is timed as a whole process whose text goes to /dev/null, and memcached with one thread from the first byte that is sent
 on one connection to the last reply, which the script drops too. Each row is the best of five, taken in turn. Rows: set, get,
-incr (as many commands as fit 16 MiB), lines (16 MiB of `get a`), keys (20,000 keys), growth (1 to 16 MiB).
+incr, expiring (`set` with expiry times; each as many commands as fit 16 MiB), moments (100,000 items that expire one after the other,
+of which each `moment` removes one, which is stored again), lines (16 MiB of `get a`), keys (20,000 keys), growth (1 to 16 MiB).
 """
 import os
 import pathlib
@@ -28,6 +29,18 @@ def sets(count):
     return [b"set %s 0 0 32\r\n%s\r\n" % (key(number), b"v" * 32) for number in range(count)]
 
 
+def expiring(count):
+    """As `sets`, with an expiry time of its own for each key."""
+    return [b"set %s 0 %d 32\r\n%s\r\n" % (key(number), number % KEYS + 1, b"v" * 32) for number in range(count)]
+
+
+def steps(keys, count):
+    """The moment goes on by one, at which one of so many items expires, and that is stored again behind the others."""
+    for number in range(count):
+        yield b"moment %d\r\n" % (number + 1)
+        yield b"set %s 0 %d 32\r\n%s\r\n" % (key(number % keys), keys, b"v" * 32)
+
+
 def fill(commands, more, limit):
     """The commands, and as many of the others, from the first on and again, as fit an input of this length."""
     room = limit - len("worker * 16777216\n\n") - sum(map(len, commands))
@@ -47,6 +60,11 @@ def commands_of(row, limit=LIMIT):
         return fill(sets(min(KEYS, limit // 160)), [b"get %s\r\n" % key(number) for number in range(KEYS)], limit)
     if row == "incr":
         return fill([b"set n 0 0 1\r\n0\r\n"], [b"incr n 1\r\n"], limit)
+    if row == "expiring":
+        return fill([], expiring(KEYS), limit)
+    if row == "moments":
+        keys = min(KEYS, limit // 160)
+        return fill(expiring(keys), list(steps(keys, limit // 64)), limit)
     return fill([], [b"get a\r\n"], limit)
 
 
@@ -89,18 +107,18 @@ def alone(row, commands):
 
 
 def growth():
-    for row in ("set", "get", "incr", "lines"):
+    for row in ("set", "get", "incr", "expiring", "moments", "lines"):
         per_byte = []
         for size in (1, 2, 4, 8, 16):
             text = b"".join(commands_of(row, size * 1024 * 1024))
             seconds = min(run(text)[0] for _ in range(RUNS))
             per_byte.append(seconds / len(text) * 1e9)
-        print(f"growth   {row:6} 1, 2, 4, 8, 16 MiB  " + "  ".join(f"{ns:5.1f}" for ns in per_byte) + "  ns a byte")
+        print(f"growth   {row:8} 1, 2, 4, 8, 16 MiB  " + "  ".join(f"{ns:5.1f}" for ns in per_byte) + "  ns a byte")
 
 
 def main(rows):
     for row in rows:
-        if row == "lines":
+        if row in ("moments", "lines"):
             alone(row, commands_of(row))
         elif row == "keys":
             alone(row, sets(20_000))
@@ -110,4 +128,4 @@ def main(rows):
             beside(row)
 
 
-main(sys.argv[1:] or ["set", "get", "incr", "lines", "keys", "growth"])
+main(sys.argv[1:] or ["set", "get", "incr", "expiring", "moments", "lines", "keys", "growth"])

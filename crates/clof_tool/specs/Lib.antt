@@ -2,4 +2,5 @@ pub mod Outcome
 pub mod Answered
 pub mod Process
 pub mod Run
+pub mod Selecting
 pub mod Laws

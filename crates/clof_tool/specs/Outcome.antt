@@ -5,12 +5,14 @@ use Rattle.edge_io.specs.Counts.{RisesBy}
 use Rattle.command_texts.specs.declared.status.Fault.TheVariants.{Set as SetOf, Input}
 use Rattle.command_texts.specs.declared.status.Status.{Status}
 use Rattle.command_texts.specs.declared.status.Status.TheVariants as statuses
-use Rattle.command_words.specs.Asked.{Asked, Run, Set, Topo, Calc, Distrib}
+use Rattle.command_words.specs.Asked.{Asked, Run, Set, Topo, Calc, Distrib, Select, Selection}
 use Rattle.cpu_set.specs.declared.fault.SetFault.{SetFault}
 use Rattle.clof_tool.specs.Run.{input_limit, PrintsSections, RefusesSections, Refuses, OnDescribed}
 use Rattle.command_texts.specs.SetText.{PrintsSet, IsRefused}
 use Rattle.command_texts.specs.CalcText.{PrintsCalc, CalcRefuses}
 use Rattle.command_texts.specs.DistribText.{PrintsDistrib, DistribRefuses}
+use Rattle.command_texts.specs.SelectText.{HasTerms, RefusesTrace, PrintsSelection}
+use Rattle.clof_tool.specs.Selecting.{SelectRefuses, RefusesInput}
 use Rattle.synth_text.specs.declared.description.Description.{Description}
 use Rattle.command_texts.specs.TopoText.{PrintsTopo, TopoRefuses}
 
@@ -21,6 +23,7 @@ ReadsInput (Set list text) = ⊥
 ReadsInput (Topo export text) = ⊥
 ReadsInput (Calc asked) = ⊥
 ReadsInput (Distrib asked) = ⊥
+ReadsInput (Select asked) = Unit {0}
 
 -- the input of what is asked for: all that the source had left, or any text where it doesn't depend on one
 abbrev pub IsInput : Asked → Option (List ℕ) → List ℕ → Type 0
@@ -29,6 +32,7 @@ IsInput (Set list text) left input = Unit {0}
 IsInput (Topo export text) left input = Unit {0}
 IsInput (Calc asked) left input = Unit {0}
 IsInput (Distrib asked) left input = Unit {0}
+IsInput (Select asked) left input = left ≡ Some input
 
 -- a source gave this input and came to its end: as many bytes as its count of given ones rose by, which are what it had
 -- left, where it tells that
@@ -43,6 +47,7 @@ HasRead (Set list text) left given given_now input = Unit {0}
 HasRead (Topo export text) left given given_now input = Unit {0}
 HasRead (Calc asked) left given given_now input = Unit {0}
 HasRead (Distrib asked) left given given_now input = Unit {0}
+HasRead (Select asked) left given given_now input = WasRead left given given_now input
 
 -- the text that is printed
 abbrev pub IsAnswer : Asked → List ℕ → List ℕ → Type 0
@@ -52,6 +57,8 @@ IsAnswer (Set list text) input printed = PrintsSet list text printed
 IsAnswer (Topo export text) input printed = PrintsTopo export text printed
 IsAnswer (Calc asked) input printed = PrintsCalc asked printed
 IsAnswer (Distrib asked) input printed = PrintsDistrib asked printed
+IsAnswer (Select asked) input printed =
+    (length input ≤ input_limit) × OnDescribed asked.description (λ described. PrintsSelection described asked input printed)
 
 -- why `set` refuses its text: by the leftmost rule that it breaks
 abbrev pub SetRefuses : Bool → List ℕ → Status → Type 0
@@ -70,6 +77,7 @@ WordsRefused (Set list text) status = SetRefuses list text status
 WordsRefused (Topo export text) status = TopoRefuses text status
 WordsRefused (Calc asked) status = CalcRefuses asked status
 WordsRefused (Distrib asked) status = DistribRefuses asked status
+WordsRefused (Select asked) status = SelectRefuses asked status
 
 -- the status with which what is asked for is refused by its input
 abbrev pub InputRefused : Asked → List ℕ → Status → Type 0
@@ -78,6 +86,7 @@ InputRefused (Set list text) input status = ⊥
 InputRefused (Topo export text) input status = ⊥
 InputRefused (Calc asked) input status = ⊥
 InputRefused (Distrib asked) input status = ⊥
+InputRefused (Select asked) input status = OnDescribed asked.description (RefusesInput asked input status)
 
 -- the source had more left than an input may have, where it tells that, and one byte more than that was read
 pub record WasTooLong (left : Option (List ℕ)) (given given_now : ℕ) : Type 0 where
@@ -90,6 +99,16 @@ Found left given given_now status described =
     ((status ≡ statuses.Limit Input) × WasTooLong left given given_now)
     ⊎ ((input : List ℕ) × WasRead left given given_now input × (length input ≤ input_limit) × RefusesSections described input status)
 
+-- what was read tells that `select` refuses it with this status: too much of it, or no trace
+abbrev pub FoundNoTrace : Option (List ℕ) → ℕ → ℕ → Status → Description → Type 0
+FoundNoTrace left given given_now status described =
+    ((status ≡ statuses.Limit Input) × WasTooLong left given given_now)
+    ⊎ ((input : List ℕ) × WasRead left given given_now input × (length input ≤ input_limit) × RefusesTrace described input status)
+
+-- the weights and the keep are good, and what was read tells so
+abbrev pub FoundRefused : Selection → Option (List ℕ) → ℕ → ℕ → Status → Description → Type 0
+FoundRefused asked left given given_now status described = HasTerms described asked × FoundNoTrace left given given_now status described
+
 -- what was read tells that what is asked for is refused with this status
 abbrev pub WasFound : Asked → Option (List ℕ) → ℕ → ℕ → Status → Type 0
 WasFound (Run text) left given given_now status = OnDescribed text (Found left given given_now status)
@@ -97,6 +116,7 @@ WasFound (Set list text) left given given_now status = ⊥
 WasFound (Topo export text) left given given_now status = ⊥
 WasFound (Calc asked) left given given_now status = ⊥
 WasFound (Distrib asked) left given given_now status = ⊥
+WasFound (Select asked) left given given_now status = OnDescribed asked.description (FoundRefused asked left given given_now status)
 
 -- the cause of a refusal: the words, or what was read
 abbrev pub HasCause : Asked → Option (List ℕ) → ℕ → ℕ → Status → Type 0

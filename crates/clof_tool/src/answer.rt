@@ -14,6 +14,7 @@ ghost use Rattle.clof_tool.specs.Outcome.{ReadsInput, WasRead, WasTooLong, Words
 ghost use Rattle.clof_tool.specs.Answered.{Answered};
 
 use crate::running::run_text;
+use crate::selecting::select_on;
 use crate::{Fault, Status};
 use command_texts::topology::tree;
 use command_texts::{calc_text, distrib_text, set_text, topo_text};
@@ -42,6 +43,7 @@ pub(crate) fn answer<S: Source>(
         Asked::Topo { export, text } => topo_text(alloc, export, text),
         Asked::Calc(asked) => calc_text(alloc, &asked),
         Asked::Distrib(asked) => distrib_text(alloc, &asked),
+        Asked::Select(asked) => select_on(alloc, &asked, source),
     }
 }
 
@@ -84,8 +86,8 @@ fn served<S: Source>(alloc: Global, tree: &Tree, source: &mut S) -> Result<Vec<u
     }
 }
 
-// All that the source has left, at most the limit of an input.
-fn read_input<S: Source>(alloc: Global, source: &mut S) -> Result<Vec<u8>, Status>
+/// All that the source has left, at most the limit of an input.
+pub(crate) fn read_input<S: Source>(alloc: Global, source: &mut S) -> Result<Vec<u8>, Status>
     ensures read { IfOk result (λ input. WasRead (S.left source.old) (S.given source.old) (S.given source.new) input.items) }
     ensures within { IfOk result (λ input. length input.items ≤ input_limit) }
     ensures at_end { OnOk result (IsDrained (S.left source.old) (S.left source.new)) }

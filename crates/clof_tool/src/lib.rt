@@ -6,6 +6,7 @@ mod laws;
 mod process;
 mod report;
 mod running;
+mod selecting;
 mod top_call;
 
 pub use command_texts::{Fault, OptionName, Status};
@@ -13,5 +14,7 @@ pub use laws::one_run;
 pub use process::Process;
 pub use top_call::top;
 
+#[cfg(test)]
+mod select_tests;
 #[cfg(test)]
 mod tests;

@@ -6,6 +6,8 @@ use Rattle.cpu_set.specs.declared.fault.SetFault.{SetFault}
 use Rattle.cpu_set.specs.declared.fault.SetFault.TheVariants as set
 use Rattle.distrib_rules.specs.declared.fault.DistribFault.{DistribFault}
 use Rattle.distrib_rules.specs.declared.fault.DistribFault.TheVariants as distrib
+use Rattle.lock_select.specs.declared.fault.SelectFault.{SelectFault}
+use Rattle.lock_select.specs.declared.fault.SelectFault.TheVariants as select
 use Rattle.placed_runner.specs.declared.fault.SectionFault.{SectionFault}
 use Rattle.placed_runner.specs.declared.fault.SectionFault.TheVariants as section
 use Rattle.synth_text.specs.declared.fault.SynthFault.{SynthFault}
@@ -73,6 +75,14 @@ section_message (section.Short at) = with_number (codes "section Short") at
 section_message section.TooManyCallers = codes "section TooManyCallers"
 section_message section.OutOfMemory = codes "out of memory"
 
+abbrev pub select_message : SelectFault → List ℕ
+select_message select.Weights = codes "select Weights"
+select_message select.Keep = codes "select Keep"
+select_message (select.Line at) = with_number (codes "select Line") at
+select_message (select.Place at) = with_number (codes "select Place") at
+select_message select.TooManyTurns = codes "select TooManyTurns"
+select_message select.OutOfMemory = codes "out of memory"
+
 -- the area, the name of the fault and its numbers
 abbrev pub fault_message : Fault → List ℕ
 fault_message (faults.Set fault) = set_message fault
@@ -82,6 +92,7 @@ fault_message (faults.Calc fault) = calc_message fault
 fault_message (faults.TypeOf option) = type_message option
 fault_message (faults.Distrib fault) = distrib_message fault
 fault_message (faults.Section fault) = section_message fault
+fault_message (faults.Select fault) = select_message fault
 fault_message faults.Input = codes "input"
 
 -- what the line says; of Ok there is no line

@@ -3,7 +3,7 @@ ghost use Rattle.std.specs.Prelude.{◌≡◌, ◌≤◌, ◌+◌, ◌++◌, cod
 ghost use Rattle.arrayvec.specs.ArrayString.{array_string_len};
 ghost use Rattle.command_texts.specs.Line.{with_number, set_message, synth_message, build_message, calc_message, type_message};
 ghost use Rattle.command_texts.specs.Line.{distrib_message};
-ghost use Rattle.command_texts.specs.Line.{section_message};
+ghost use Rattle.command_texts.specs.Line.{section_message, select_message};
 ghost use Rattle.command_texts.specs.Line.{fault_message, line_with, line_of};
 
 use crate::{Fault, OptionName, Status};
@@ -12,6 +12,7 @@ use calc_query::CalcFault;
 use cpu_set::SetFault;
 use distrib_rules::DistribFault;
 use itoa::Buffer;
+use lock_select::SelectFault;
 use placed_runner::SectionFault;
 use synth_text::SynthFault;
 use topo_tree::BuildFault;
@@ -49,6 +50,7 @@ fn fault_line(fault: &Fault) -> Line
         Fault::TypeOf(option) => type_line(option),
         Fault::Distrib(fault) => distrib_line(fault),
         Fault::Section(fault) => section_line(fault),
+        Fault::Select(fault) => select_line(fault),
         Fault::Input => saying("input"),
     }
 }
@@ -72,6 +74,19 @@ fn section_line(fault: &SectionFault) -> Line
         SectionFault::Short { at } => saying_number("section Short", *at as u64),
         SectionFault::TooManyCallers => saying("section TooManyCallers"),
         SectionFault::OutOfMemory => saying("out of memory"),
+    }
+}
+
+fn select_line(fault: &SelectFault) -> Line
+    ensures { result.bytes ≡ line_with (select_message fault.now) }
+{
+    match fault {
+        SelectFault::Weights => saying("select Weights"),
+        SelectFault::Keep => saying("select Keep"),
+        SelectFault::Line { at } => saying_number("select Line", *at as u64),
+        SelectFault::Place { at } => saying_number("select Place", *at as u64),
+        SelectFault::TooManyTurns => saying("select TooManyTurns"),
+        SelectFault::OutOfMemory => saying("out of memory"),
     }
 }
 

@@ -4,6 +4,7 @@ ghost use Rattle.std.specs.Prelude.{◌≡◌};
 use calc_query::CalcFault;
 use cpu_set::SetFault;
 use distrib_rules::DistribFault;
+use lock_select::SelectFault;
 use placed_runner::SectionFault;
 use synth_text::SynthFault;
 use thiserror::Error;
@@ -50,7 +51,10 @@ pub enum Fault {
     /// The sections of the input.
     #[error("the sections: {0}")]
     Section(SectionFault),
-    /// The input of `run` is longer than 16,777,216 bytes.
+    /// The weights, the keep or the trace of a choice.
+    #[error("the choice: {0}")]
+    Select(SelectFault),
+    /// The input is longer than 16,777,216 bytes.
     #[error("the input is too long")]
     Input,
 }

@@ -12,6 +12,7 @@ use command_texts::{
 use command_words::{Asked, WordsFault, read_words};
 use cpu_set::SetFault;
 use distrib_rules::DistribFault;
+use lock_select::SelectFault;
 use out_of_memory::OutOfMemory;
 use placed_runner::SectionFault;
 use std::alloc::Global;
@@ -27,7 +28,7 @@ fn answered(alloc: Global, words: &[&str]) -> Result<Result<Vec<u8>, Status>, Fa
         owned.push(String::from_str(alloc, word)?)?;
     }
     Ok(match read_words(alloc, &owned) {
-        Ok(Asked::Run { .. }) => Err(Status::Usage),
+        Ok(Asked::Run { .. } | Asked::Select(_)) => Err(Status::Usage),
         Ok(Asked::Set { list, text }) => set_text(alloc, list, text),
         Ok(Asked::Topo { export, text }) => topo_text(alloc, export, text),
         Ok(Asked::Calc(asked)) => calc_text(alloc, &asked),
@@ -93,6 +94,7 @@ fn tells_each_fault(rt: HostRuntime) -> Result<(), Fail> {
             Fault::Section(SectionFault::TooManyCallers),
             "the sections: more than 256 sections",
         ),
+        (Fault::Select(SelectFault::Keep), "the choice: the keep"),
         (Fault::Input, "the input is too long"),
     ];
     for (fault, wanted) in rows {

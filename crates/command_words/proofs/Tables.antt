@@ -1,11 +1,12 @@
 -- The commands, by their tables. Each is one of which `clap` tells exactly how it reads words.
-use Rattle.std.proofs.Common.{◌≡◌, List, true, refl, ap, sym, ◌∙◌, codes}
+use Rattle.std.proofs.Common.{◌≡◌, List, true, refl, ap, codes}
 use Rattle.clap.specs.Words.{Rule, is_simple_and_free}
 use Rattle.clap.proofs.OnLiterals.{clap_on_literals}
 use Rattle.command_words.specs.Commands.{command_of}
 use Rattle.command_words.specs.CalcWords.{calc_rules, calc_command}
 use Rattle.command_words.specs.DistribWords.{distrib_rules, distrib_command}
 use Rattle.command_words.specs.RunWords.{run_rules, run_command}
+use Rattle.command_words.specs.SelectWords.{select_rules, select_command}
 use Rattle.command_words.specs.SetWords.{set_rules, set_command}
 use Rattle.command_words.specs.TopoWords.{topo_rules, topo_command}
 
@@ -48,3 +49,11 @@ run_made rules is = ap (command_of (codes "run")) is
 pub run_simple : is_simple_and_free run_command ≡ true
 unfolding run_command clap_on_literals
 run_simple = refl
+
+pub select_made : (rules : List Rule) → rules ≡ select_rules → command_of (codes "select") rules ≡ select_command
+unfolding select_command
+select_made rules is = ap (command_of (codes "select")) is
+
+pub select_simple : is_simple_and_free select_command ≡ true
+unfolding select_command clap_on_literals
+select_simple = refl

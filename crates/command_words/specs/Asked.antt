@@ -37,9 +37,16 @@ pub record Distribution : Type 0 where
   pub taskset : Bool
   pub description : Text
 
+-- a choice of the levels of a lock for a trace
+pub record Selection : Type 0 where
+  pub weights : Option Text
+  pub keep : Text
+  pub description : Text
+
 pub data Asked : Type 0 where
   Run : (description : Text) → Asked
   Set : (list : Bool) (text : Text) → Asked
   Topo : (export : Bool) (text : Text) → Asked
   Calc : (asked : Calculation) → Asked
   Distrib : (asked : Distribution) → Asked
+  Select : (asked : Selection) → Asked

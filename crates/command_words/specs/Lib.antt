@@ -4,6 +4,7 @@ pub mod Commands
 pub mod DistribWords
 pub mod Plain
 pub mod RunWords
+pub mod SelectWords
 pub mod SetWords
 pub mod TopoWords
 pub mod Words

@@ -9,6 +9,7 @@ use Rattle.command_words.specs.declared.asked.Calculation.{Calculation}
 use Rattle.command_words.specs.declared.asked.Depths.{Depths}
 use Rattle.command_words.specs.declared.asked.Depths.TheVariants as depths
 use Rattle.command_words.specs.declared.asked.Distribution.{Distribution}
+use Rattle.command_words.specs.declared.asked.Selection.{Selection}
 use Rattle.command_words.specs.Asked as words
 
 abbrev pub plain_text : Option (Bor (List ℕ)) → Option (List ℕ)
@@ -46,9 +47,13 @@ plain_distribution given = record {
   description = given.description.now;
 }
 
+abbrev pub plain_selection : Selection → words.Selection
+plain_selection given = record { weights = plain_text given.weights; keep = given.keep.now; description = given.description.now }
+
 abbrev pub plain : Asked → words.Asked
 plain (asked.Run description) = words.Run description.now
 plain (asked.Set list text) = words.Set list text.now
 plain (asked.Topo export text) = words.Topo export text.now
 plain (asked.Calc given) = words.Calc (plain_calculation given)
 plain (asked.Distrib given) = words.Distrib (plain_distribution given)
+plain (asked.Select given) = words.Select (plain_selection given)

@@ -1,5 +1,5 @@
 -- The words of the command line.
-use Rattle.std.specs.Prelude.{◌≡◌, ◌^◌, ◌&&◌, Bool, false, true, nat_lt, List, [], ◌∷◌, length, Option, Some, None, IsTrue, codes, map}
+use Rattle.std.specs.Prelude.{◌≡◌, ◌^◌, ◌&&◌, Bool, false, nat_lt, List, [], ◌∷◌, length, Option, Some, None, IsTrue, codes, map}
 use Rattle.std.specs.Prelude.{string_bytes, if◌then◌else◌}
 use Rattle.std.specs.List.{list_all, list_any}
 use Rattle.std.specs.Str.{bytes_eq}
@@ -10,6 +10,7 @@ use Rattle.command_words.specs.Asked.{Asked}
 use Rattle.command_words.specs.CalcWords.{calc_asked}
 use Rattle.command_words.specs.DistribWords.{distrib_asked}
 use Rattle.command_words.specs.RunWords.{run_asked}
+use Rattle.command_words.specs.SelectWords.{select_asked}
 use Rattle.command_words.specs.SetWords.{set_asked}
 use Rattle.command_words.specs.TopoWords.{topo_asked}
 
@@ -25,7 +26,8 @@ command_asked (name ∷ words) =
     else (if bytes_eq name (codes "set") then set_asked (name ∷ words)
     else (if bytes_eq name (codes "topo") then topo_asked (name ∷ words)
     else (if bytes_eq name (codes "calc") then calc_asked (name ∷ words)
-    else (if bytes_eq name (codes "distrib") then distrib_asked (name ∷ words) else None))))
+    else (if bytes_eq name (codes "distrib") then distrib_asked (name ∷ words)
+    else (if bytes_eq name (codes "select") then select_asked (name ∷ words) else None)))))
 
 -- what words ask for
 unfoldable pub asked_of : List Text → Option Asked
@@ -40,7 +42,7 @@ IsUsage words = asked_of (map string_bytes words) ≡ None
 
 -- the names of the commands whose words `clap` reads
 abbrev pub tabled_names : List Text
-tabled_names = codes "run" ∷ codes "set" ∷ codes "topo" ∷ codes "calc" ∷ codes "distrib" ∷ []
+tabled_names = codes "run" ∷ codes "set" ∷ codes "topo" ∷ codes "calc" ∷ codes "distrib" ∷ codes "select" ∷ []
 
 abbrev pub is_tabled : List Text → Bool
 is_tabled [] = false

@@ -14,6 +14,8 @@ pub enum Asked<'a> {
     Calc(Calculation<'a>),
     /// Print masks, shared out over the objects of a description.
     Distrib(Distribution<'a>),
+    /// Choose the levels of a lock for the trace that the input holds.
+    Select(Selection<'a>),
 }
 
 /// What is asked of a set.
@@ -76,6 +78,17 @@ pub struct Distribution<'a> {
     pub reverse: bool,
     /// Masks are printed in taskset's form.
     pub taskset: bool,
+    /// The description of the topology.
+    pub description: &'a [u8],
+}
+
+/// A choice of the levels of a lock.
+#[derive(Clone, Copy)]
+pub struct Selection<'a> {
+    /// The weights of the depths, where they are given.
+    pub weights: Option<&'a [u8]>,
+    /// How often a level keeps the lock.
+    pub keep: &'a [u8],
     /// The description of the topology.
     pub description: &'a [u8],
 }

@@ -7,11 +7,12 @@ mod command;
 mod distrib_words;
 mod fault;
 mod run_words;
+mod select_words;
 mod set_words;
 mod topo_words;
 mod words;
 
-pub use asked::{Asked, Calculation, Depths, Distribution, Question};
+pub use asked::{Asked, Calculation, Depths, Distribution, Question, Selection};
 pub use fault::WordsFault;
 pub use words::read_words;
 

@@ -48,6 +48,21 @@ fn reads_a_distribution(rt: HostRuntime) -> Result<(), Fail> {
 }
 
 #[test]
+fn reads_a_choice(rt: HostRuntime) -> Result<(), Fail> {
+    let alloc = rt.alloc();
+    let words = strings(alloc, &["select", "PU:2", "--weights=2,1"])?;
+    match read_words(alloc, &words) {
+        Ok(Asked::Select(asked)) => {
+            assert_eq!(rt; asked.weights, Some(b"2,1".as_slice()));
+            assert_eq!(rt; asked.keep, b"128".as_slice());
+            assert_eq!(rt; asked.description, b"PU:2".as_slice());
+        }
+        _ => panic!(rt; "no choice"),
+    }
+    Ok(())
+}
+
+#[test]
 fn reads_sets_topologies_and_runs(rt: HostRuntime) -> Result<(), Fail> {
     let alloc = rt.alloc();
     let words = strings(alloc, &["set", "--list", "--", "-1"])?;
@@ -113,6 +128,10 @@ fn refuses_words(rt: HostRuntime) -> Result<(), Fail> {
         &["calc", "-p", "-l", "PU:1"],
         &["calc", "-N", "pu", "--largest", "PU:1"],
         &["distrib", "+1", "PU:1"],
+        &["select"],
+        &["select", "PU:1", "PU:1"],
+        &["select", "--keep", "1", "--keep", "1", "PU:1"],
+        &["select", "--walk", "PU:1"],
         &["distrib", "--at", "pu", "--to", "pu", "1", "PU:1"],
     ];
     for words in cases {

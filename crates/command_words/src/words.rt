@@ -8,6 +8,7 @@ use crate::calc_words::read_calc;
 use crate::distrib_words::read_distrib;
 use crate::fault::WordsFault;
 use crate::run_words::read_run;
+use crate::select_words::read_select;
 use crate::set_words::read_set;
 use crate::topo_words::read_topo;
 use std::alloc::Global;
@@ -66,6 +67,8 @@ fn read_command<'a>(alloc: Global, words: &'a [String]) -> Result<Asked<'a>, Wor
         read_calc(alloc, words)
     } else if name == b"distrib".as_slice() {
         read_distrib(alloc, words)
+    } else if name == b"select".as_slice() {
+        read_select(alloc, words)
     } else {
         Err(WordsFault::Usage)
     }

@@ -6,11 +6,11 @@ use Rattle.std.proofs.lemmas.Cmp.{nat_list_cmp_total}
 use Rattle.std.specs.Cmp.Lexicographic.{slice_cmp, nat_list_eq_equiv}
 use Rattle.std.specs.Prelude.{map, None, Some, option_map, is_some, Vec}
 use Rattle.std.specs.Option.{option_map_or}
-use Rattle.std.specs.Prelude.{Ok, Err, Result, OnErr}
+use Rattle.std.specs.Prelude.{Ok, Err, Result, OnErr, OnOk, IfSome}
 use Rattle.std.specs.declared.alloc.Global.{Global}
 use Rattle.std.specs.declared.option.Option.{Option}
 use Rattle.std.specs.declared.cmp.Ordering.{Ordering}
-use Rattle.std.specs.Map.{lookup, KeepsOthers}
+use Rattle.std.specs.Map.{lookup, lookup_key, KeepsOthers}
 use Rattle.std.specs.Str.{bytes_eq}
 use Rattle.std.specs.Ordering.{nat_cmp, eq_by_cmp}
 use Rattle.std.specs.FinMap.{find, get, insert, remove, from_entries, get-from_entries, get-insert, get-remove, same_map, slice_cmp-IsAntisymmetric, nat_cmp-IsAntisymmetric, IsAntisymmetric}
@@ -51,6 +51,25 @@ find-keyed key (entry ∷ entries) =
 
 pub get-keyed : (key : List ℕ) (entries : Entries) → get (kept_items entries) key ≡ option_map plain_item (lookup (names key) entries)
 get-keyed key entries = get-from_entries nat_list_cmp_total (map keyed entries) key ∙ find-keyed key entries
+
+-- the key that is found has the bytes
+first_key : (key : List ℕ) (first found : Vec ℕ Global) (others : Option (Vec ℕ Global)) (b : Bool) → bytes_eq key first.items ≡ b
+    → cond b (Some first) others ≡ Some found → (others ≡ Some found → found.items ≡ key) → found.items ≡ key
+first_key key first found others true same is later =
+    let same_bytes = (bytes_eq-Decides key first.items).0 same in
+    let same_vec : found ≡ first = cc in
+    ap (λ (k : Vec ℕ Global). k.items) same_vec ∙ sym same_bytes
+first_key key first found others false differs is later = later is
+
+lookup-key : (key : List ℕ) (entries : Entries) (found : Vec ℕ Global) → lookup_key (names key) entries ≡ Some found → found.items ≡ key
+lookup-key key [] found is = cc
+lookup-key key (entry ∷ entries) found is =
+    first_key key entry.0 found (lookup_key (names key) entries) (bytes_eq key entry.0.items) refl is (lookup-key key entries found)
+
+pub found-key : (key : List ℕ) (entries : Entries) (result : Option (Vec ℕ Global × Item))
+    → option_map (λ entry. entry.0) result ≡ lookup_key (names key) entries → IfSome result (λ entry. entry.0.items ≡ key)
+found-key key entries None is = tt
+found-key key entries (Some entry) is = lookup-key key entries entry.0 (sym is)
 
 -- a key that differs from the changed one has what it had
 other_entries : (key other : List ℕ) (old new : Entries) → KeepsOthers same_key (names key) old new → bytes_eq key other ≡ false
@@ -128,3 +147,7 @@ map_or-none f (Some x) b none = cc
 pub on_err : {T E : Type 0} (r : Result T E) (P : Type 0) → P → OnErr r P
 on_err (Ok x) P h = tt
 on_err (Err e) P h = h
+
+pub on_ok : {T E : Type 0} (r : Result T E) (P Q : Type 0) → OnOk r P → (P → Q) → OnOk r Q
+on_ok (Ok x) P Q h f = f h
+on_ok (Err e) P Q h f = tt

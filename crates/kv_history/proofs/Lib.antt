@@ -1,4 +1,7 @@
 pub mod Keyed
+pub mod Listed
+pub mod Agreement
+pub mod Live
 pub mod Given
 pub mod Next
 pub mod Logs

@@ -6,8 +6,6 @@ use Rattle.std.specs.Prelude.{
   ◌%◌,
   ◌^◌,
   ℤ,
-  pos,
-  int_lt,
   List,
   [],
   ◌∷◌,
@@ -37,7 +35,9 @@ use Rattle.mc_text.specs.declared.command.LineFault.TheVariants.{Unknown, Format
 use Rattle.mc_text.specs.Begins.{value_limit}
 use Rattle.mc_text.specs.Request as asked
 use Rattle.mc_text.specs.Request.{Storing, Request, WholeCommand}
-use Rattle.kv_history.specs.Contents.{Item, Items, Contents, empty_store}
+use Rattle.kv_history.specs.declared.expiry.Expiry.{Expiry}
+use Rattle.kv_history.specs.Expiry.{expiry_of, is_due}
+use Rattle.kv_history.specs.Contents.{Item, Items, Contents, empty_store, left_at}
 
 -- what a client is told, and what the store then holds
 pub record Answer : Type 0 where
@@ -55,24 +55,25 @@ abbrev pub unique_after : ℕ → ℕ
 unique_after unique = (unique + 1) % 2 ^ 64
 
 -- to store an item gives it the next unique, and uses that up
-abbrev pub with_item : Contents → List ℕ → ℕ → List ℕ → Contents
-with_item store key flags block = record {
-  items = map.insert store.items key (record { flags = flags; block = block; unique = store.next_unique });
+abbrev pub with_item : Contents → List ℕ → ℕ → Expiry → List ℕ → Contents
+with_item store key flags expiry block = record store {
+  items = map.insert store.items key (record { flags = flags; expiry = expiry; block = block; unique = store.next_unique });
   next_unique = unique_after store.next_unique;
 }
 
--- a negative expiry time lets the item expire at once: the unique is used up, and the key is absent
+-- an item that expires at once uses the unique up, and the key is absent
 abbrev pub expired : Contents → List ℕ → Contents
-expired store key = record { items = map.remove store.items key; next_unique = unique_after store.next_unique }
+expired store key = record store { items = map.remove store.items key; next_unique = unique_after store.next_unique }
 
+-- an item with the expiry that its expiry time gives
 abbrev pub kept : Contents → Storing → Contents
-kept store storing = if int_lt storing.exptime (pos 0) then expired store storing.key
-    else with_item store storing.key storing.flags storing.block
+kept store storing = let expiry = expiry_of store.moment storing.exptime in
+    if is_due store.moment expiry then expired store storing.key else with_item store storing.key storing.flags expiry storing.block
 
--- a block joined to the one of an item that is present: the flags stay
+-- a block joined to the one of an item that is present: the flags and the expiry stay
 abbrev pub joined : Contents → List ℕ → Item → List ℕ → Answer
 joined store key item block = if nat_lt value_limit (length block) then line (codes "SERVER_ERROR object too large for cache") store
-    else line (codes "STORED") (with_item store key item.flags block)
+    else line (codes "STORED") (with_item store key item.flags item.expiry block)
 
 -- a storage command, by what its key has
 abbrev pub storage : Contents → Storing → How → Option Item → Answer
@@ -93,7 +94,7 @@ storage store storing Cas (Some item) =
 
 -- the store without a key's item
 abbrev pub without : Contents → List ℕ → Contents
-without store key = record { items = map.remove store.items key; next_unique = store.next_unique }
+without store key = record store { items = map.remove store.items key }
 
 abbrev pub deletion : Contents → List ℕ → Option Item → Answer
 deletion store key None = line (codes "NOT_FOUND") store
@@ -108,9 +109,9 @@ abbrev pub counted : Bool → ℕ → ℕ → ℕ
 counted true number delta = (number + delta) % 2 ^ 64
 counted false number delta = number - delta
 
--- an item gets a new number, in decimal: that is the reply too
+-- an item gets a new number, in decimal: that is the reply too; the flags and the expiry stay
 abbrev pub renumbered : Contents → List ℕ → Item → ℕ → Answer
-renumbered store key item number = line (decimal number) (with_item store key item.flags (decimal number))
+renumbered store key item number = line (decimal number) (with_item store key item.flags item.expiry (decimal number))
 
 abbrev pub counting : Contents → Bool → List ℕ → ℕ → Option Item → Answer
 counting store up key delta None = line (codes "NOT_FOUND") store
@@ -118,14 +119,26 @@ counting store up key delta (Some item) =
     option_map_or (λ number. renumbered store key item (counted up number delta)) (number_of item.block)
     (line (codes "CLIENT_ERROR cannot increment or decrement non-numeric value") store)
 
--- a negative expiry time removes the item; its unique stays else
+-- an item that is present, with another expiry: the rest of it stays, its unique too
+abbrev pub with_expiry : Contents → List ℕ → Item → Expiry → Contents
+with_expiry store key item expiry = record store { items = map.insert store.items key (record item { expiry = expiry }) }
+
+-- the item gets the expiry that the expiry time gives, and is removed where it expires at once
+abbrev pub touched : Contents → List ℕ → Item → Expiry → Contents
+touched store key item expiry = if is_due store.moment expiry then without store key else with_expiry store key item expiry
+
 abbrev pub touching : Contents → List ℕ → ℤ → Option Item → Answer
 touching store key exptime None = line (codes "NOT_FOUND") store
-touching store key exptime (Some item) = line (codes "TOUCHED") (if int_lt exptime (pos 0) then without store key else store)
+touching store key exptime (Some item) = line (codes "TOUCHED") (touched store key item (expiry_of store.moment exptime))
 
--- the next unique stays
+-- the next unique and the moment stay
 abbrev pub flushed : Contents → Contents
-flushed store = record { items = map.empty; next_unique = store.next_unique }
+flushed store = record store { items = map.empty }
+
+-- the moment never goes back; the items expire whose time has come
+abbrev pub moved : Contents → ℕ → Answer
+moved store moment = if nat_lt moment store.moment then line (codes "CLIENT_ERROR moment goes back") store
+    else line (codes "OK") (record store { items = left_at moment store.items; moment = moment })
 
 -- ---- giving items
 
@@ -167,6 +180,7 @@ answer store (asked.Touch key exptime quiet) = hushed quiet (touching store key 
 answer store (asked.Flush quiet) = hushed quiet (line (codes "OK") (flushed store))
 answer store asked.Version = line (codes "VERSION clof 1") store
 answer store (asked.Verbosity quiet) = hushed quiet (line (codes "OK") store)
+answer store (asked.Moment moment quiet) = hushed quiet (moved store moment)
 answer store asked.Quit = record { reply = []; store = store }
 answer store (asked.Bad fault) = line (fault_words fault) store
 

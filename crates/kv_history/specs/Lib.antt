@@ -1,6 +1,8 @@
+pub mod Expiry
 pub mod Contents
 pub mod Answer
 pub mod Edits
+pub mod Dues
 pub mod Lines
 pub mod Log
 pub mod Views

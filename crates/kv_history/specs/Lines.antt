@@ -11,6 +11,7 @@ use Rattle.kv_history.specs.declared.reply_line.FixedLine.TheVariants.{
   Deleted,
   Touched,
   Done,
+  Back,
   Version,
   NotNumber,
   TooLarge,
@@ -28,6 +29,7 @@ words_of NotFound = codes "NOT_FOUND"
 words_of Deleted = codes "DELETED"
 words_of Touched = codes "TOUCHED"
 words_of Done = codes "OK"
+words_of Back = codes "CLIENT_ERROR moment goes back"
 words_of Version = codes "VERSION clof 1"
 words_of NotNumber = codes "CLIENT_ERROR cannot increment or decrement non-numeric value"
 words_of TooLarge = codes "SERVER_ERROR object too large for cache"

@@ -7,7 +7,7 @@ use Rattle.kv_history.specs.Contents as contents
 use Rattle.mc_text.specs.Request as asked
 
 abbrev pub plain_item : Item → contents.Item
-plain_item item = record { flags = item.flags; block = item.block.items; unique = item.unique }
+plain_item item = record { flags = item.flags; expiry = item.expiry; block = item.block.items; unique = item.unique }
 
 abbrev pub keyed : Vec ℕ Global × Item → List ℕ × contents.Item
 keyed entry = (entry.0.items, plain_item entry.1)

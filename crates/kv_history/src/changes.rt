@@ -1,7 +1,7 @@
 // What each command makes of the store.
 ghost use Rattle.std.specs.Prelude.{◌≡◌, IfOk, OnErr, OnOk};
 ghost use Rattle.std.specs.FinMap as map;
-ghost use Rattle.kv_history.specs.Answer.{counted, counting, deletion, kept, number_of, storage, touching};
+ghost use Rattle.kv_history.specs.Answer.{counted, counting, deletion, kept, moved, number_of, storage, touching};
 ghost use Rattle.kv_history.specs.Edits.{joining};
 ghost use Rattle.kv_history.specs.Lines.{fixed_line, written_line};
 ghost use Rattle.kv_history.specs.Views.{storing_view};
@@ -9,6 +9,7 @@ ghost use Rattle.kv_history.specs.declared.reply_line.FixedLine.TheVariants.{Sto
 ghost use Rattle.mc_text.specs.declared.command.How.TheVariants.{Cas};
 
 use crate::Store;
+use crate::expiry::expiry_of;
 use crate::item::{Edit, Side};
 use crate::reply_line::{FixedLine, ReplyLine};
 use crate::storing::Storing;
@@ -54,10 +55,13 @@ impl Store {
         ensures store { OnOk result (self.new ≡ kept self.old (storing_view storing.now)) }
         ensures err { OnErr result (self.new ≡ self.old) }
     {
-        if storing.exptime < 0 {
+        let expiry = expiry_of(self.moment, storing.exptime);
+        if expiry.is_due(self.moment) {
             self.items.remove(storing.key);
         } else {
-            self.items.put(storing.key, storing.flags, storing.block, self.next_unique)?;
+            let unique = self.next_unique;
+            self.items
+                .put(storing.key, storing.flags, expiry, storing.block, unique)?;
         }
         self.next_unique = self.next_unique.wrapping_add(1);
         Ok(FixedLine::Stored)
@@ -138,18 +142,36 @@ impl Store {
         Ok(ReplyLine::Number(number))
     }
 
-    /// Lets a key's item expire at once, where the expiry time is negative.
-    pub(crate) fn touch(&mut self, key: &[u8], exptime: i32) -> FixedLine
-        ensures line { fixed_line result ≡ (touching self.old key.now exptime (map.get self.old.items key.now)).reply }
-        ensures store { self.new ≡ (touching self.old key.now exptime (map.get self.old.items key.now)).store }
+    /// Lets a key's item expire at another time, which may be at once. Without memory the store stays.
+    pub(crate) fn touch(&mut self, key: &[u8], exptime: i32) -> Result<FixedLine, OutOfMemory>
+        ensures line { IfOk result (λ line. fixed_line line
+            ≡ (touching self.old key.now exptime (map.get self.old.items key.now)).reply) }
+        ensures store { OnOk result (self.new ≡ (touching self.old key.now exptime (map.get self.old.items key.now)).store) }
+        ensures err { OnErr result (self.new ≡ self.old) }
     {
         if self.items.get(key).is_none() {
-            return FixedLine::NotFound;
+            return Ok(FixedLine::NotFound);
         }
-        if exptime < 0 {
+        let expiry = expiry_of(self.moment, exptime);
+        if expiry.is_due(self.moment) {
             self.items.remove(key);
+        } else {
+            self.items.touch(key, expiry)?;
         }
-        FixedLine::Touched
+        Ok(FixedLine::Touched)
+    }
+
+    /// Moves the moment on and removes the items that have expired by then, unless it would go back.
+    pub(crate) fn move_on(&mut self, moment: u32) -> FixedLine
+        ensures line { fixed_line result ≡ (moved self.old moment).reply }
+        ensures store { self.new ≡ (moved self.old moment).store }
+    {
+        if moment < self.moment {
+            return FixedLine::Back;
+        }
+        self.items.expire(moment);
+        self.moment = moment;
+        FixedLine::Done
     }
 }
 

@@ -1,17 +1,19 @@
 // What the store keeps of an item.
 ghost use Rattle.std.specs.Prelude.{◌≡◌, ◌++◌, IfOk, OnErr, OnOk};
 
+use crate::expiry::Expiry;
 use std::alloc::{AllocError, Global};
 
 /// An item.
 #[derive(Drop)]
 pub(crate) struct Item {
     pub flags: u32,
+    pub expiry: Expiry,
     pub unique: u64,
     pub block: Vec<u8>,
 }
 
-/// A change of an item.
+/// A change of an item, which expires when it did.
 #[derive(Clone, Copy)]
 pub(crate) enum Edit<'a> {
     /// Other flags and another block.
@@ -33,11 +35,19 @@ impl Item {
     ghost use Rattle.kv_history.specs.Views.{plain_item};
     ghost use Rattle.kv_history.specs.Edits.{edited};
 
-    pub fn new(alloc: Global, flags: u32, block: &[u8], unique: u64) -> Result<Item, AllocError>
-        ensures { IfOk result (λ item. plain_item item ≡ record { flags = flags; block = block.now; unique = unique }) }
+    pub fn new(
+        alloc: Global,
+        flags: u32,
+        expiry: Expiry,
+        block: &[u8],
+        unique: u64,
+    ) -> Result<Item, AllocError>
+        ensures { IfOk result (λ item. plain_item item
+            ≡ record { flags = flags; expiry = expiry; block = block.now; unique = unique }) }
     {
         Ok(Item {
             flags,
+            expiry,
             unique,
             block: block.to_vec(alloc)?,
         })

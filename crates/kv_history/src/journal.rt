@@ -6,6 +6,7 @@ ghost use Rattle.std.specs.List.{All, list_all};
 ghost use Rattle.mc_text.specs.Request.{request_of, view};
 ghost use Rattle.mc_text.specs.Reading.{commands_of, rest_of};
 ghost use Rattle.kv_history.specs.Answer.{store_after};
+ghost use Rattle.kv_history.specs.Contents.{NoneExpired};
 ghost use Rattle.kv_history.specs.Log.{command_count, IsNext, IsOneThread, NoneVoid, VoidIsSilent, EachHasSection, EachOwnFirst, IsHistory};
 ghost use Rattle.kv_history.specs.Log.{all_replies, applied, applied_entry, calls, void_entry, store_now};
 ghost use Rattle.kv_history.specs.Callers.{section_of, IsTallied};
@@ -180,9 +181,11 @@ impl<'a> Journal<'a> {
         }
     }
 
-    /// The store. It holds what the commands of the entries that aren't void leave, in their order, on the empty store.
+    /// The store. It holds what the commands of the entries that aren't void leave, in their order, on the empty store, and
+    /// no item that has expired.
     pub fn store(&self) -> &Store
-        ensures { result.now ≡ store_now self.now.entries }
+        ensures value { result.now ≡ store_now self.now.entries }
+        ensures none_expired { NoneExpired result.now }
     {
         &self.kept.store
     }

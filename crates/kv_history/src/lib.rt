@@ -3,6 +3,8 @@
 
 mod caller;
 mod changes;
+mod dues;
+mod expiry;
 mod item;
 mod items;
 mod journal;
@@ -13,6 +15,7 @@ mod replies;
 mod reply_line;
 mod store;
 mod storing;
+mod table;
 
 pub use journal::{Entry, Journal, Receipt};
 pub use store::Store;

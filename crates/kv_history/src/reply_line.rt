@@ -25,6 +25,8 @@ pub(crate) enum FixedLine {
     Deleted,
     Touched,
     Done,
+    /// The moment that is asked for is before the store's.
+    Back,
     Version,
     /// The item holds no number.
     NotNumber,
@@ -79,6 +81,7 @@ fn bytes_of(line: FixedLine) -> &'static [u8]
         FixedLine::Deleted => b"DELETED\r\n",
         FixedLine::Touched => b"TOUCHED\r\n",
         FixedLine::Done => b"OK\r\n",
+        FixedLine::Back => b"CLIENT_ERROR moment goes back\r\n",
         FixedLine::Version => b"VERSION clof 1\r\n",
         FixedLine::NotNumber => {
             b"CLIENT_ERROR cannot increment or decrement non-numeric value\r\n"

@@ -4,7 +4,7 @@ ghost use Rattle.std.specs.FinMap as map;
 ghost use Rattle.std.specs.List.{flat_map};
 ghost use Rattle.mc_text.specs.Keys.{keys_left};
 ghost use Rattle.mc_text.specs.Request.{request_of};
-ghost use Rattle.kv_history.specs.Contents.{empty_store};
+ghost use Rattle.kv_history.specs.Contents.{NoneExpired, empty_store};
 ghost use Rattle.kv_history.specs.Lines.{HasLine};
 ghost use Rattle.kv_history.specs.Answer.{reply_of, store_after, written_key};
 
@@ -17,11 +17,12 @@ use out_of_memory::OutOfMemory;
 use std::alloc::Global;
 use std::marker::Model;
 
-/// Items by their keys, and the unique that the next item to be stored gets.
+/// Items by their keys, the unique that the next item to be stored gets, and the moment, by which items expire.
 #[derive(Drop)]
 pub struct Store {
     pub(crate) items: Items,
     pub(crate) next_unique: u64,
+    pub(crate) moment: u32,
 }
 
 impl Model for Store {
@@ -31,17 +32,19 @@ impl Model for Store {
 
     ghost coded = { contents_code };
 
-    ghost view = { λ store. record { items = store.items; next_unique = store.next_unique } };
+    ghost view = { λ store. record { items = store.items; next_unique = store.next_unique; moment = store.moment } };
 }
 
 impl Store {
-    /// The store without items. It takes no memory, and keeps the allocator for its items.
+    /// The store without items, at the moment 0. It takes no memory, and keeps the allocator for its items.
     pub fn new(alloc: Global) -> Store
-        ensures { result ≡ empty_store }
+        ensures empty { result ≡ empty_store }
+        ensures none_expired { NoneExpired result }
     {
         Store {
             items: Items::new(alloc),
             next_unique: 1,
+            moment: 0,
         }
     }
 
@@ -51,6 +54,7 @@ impl Store {
         ensures store { OnOk result (self.new ≡ store_after self.old (request_of command.now)) }
         ensures reply_stays { OnErr result (reply.new.items ≡ reply.old.items) }
         ensures store_stays { OnErr result (self.new ≡ self.old) }
+        ensures none_expired { NoneExpired self.old → NoneExpired self.new }
     {
         // With this room, nothing fails once the store is changed.
         reply.reserve(LINE_ROOM)?;
@@ -126,7 +130,7 @@ impl Store {
                 quiet,
                 ..
             } => {
-                let line = self.touch(key, exptime);
+                let line = self.touch(key, exptime)?;
                 tell(reply, quiet, ReplyLine::Fixed(line))
             }
             Command::Flush { quiet, .. } => {
@@ -136,6 +140,10 @@ impl Store {
             Command::Version { .. } => tell(reply, false, ReplyLine::Fixed(FixedLine::Version)),
             Command::Verbosity { quiet, .. } => {
                 tell(reply, quiet, ReplyLine::Fixed(FixedLine::Done))
+            }
+            Command::Moment { moment, quiet, .. } => {
+                let line = self.move_on(moment);
+                tell(reply, quiet, ReplyLine::Fixed(line))
             }
             Command::Quit { .. } => Ok(()),
             Command::Bad { fault, .. } => {

@@ -11,6 +11,8 @@ use std::alloc::Global;
 use std::test::Fail;
 use std::thread::join;
 
+mod moments;
+
 // A journal of one caller that has applied all commands of its section.
 fn applied<'a>(alloc: Global, section: &'a [u8]) -> Result<Journal<'a>, OutOfMemory>
     requires { length section.now < 2 ^ 32 }
@@ -27,8 +29,12 @@ fn applied<'a>(alloc: Global, section: &'a [u8]) -> Result<Journal<'a>, OutOfMem
     Ok(journal)
 }
 
-// Whether a journal of one caller has these replies, once it has applied all commands of its section.
-fn is_answered(alloc: Global, section: &[u8], wanted: &[u8]) -> Result<bool, OutOfMemory> {
+/// Whether a journal of one caller has these replies, once it has applied all commands of its section.
+pub(crate) fn is_answered(
+    alloc: Global,
+    section: &[u8],
+    wanted: &[u8],
+) -> Result<bool, OutOfMemory> {
     if section.len() >= 4_000_000_000 {
         return Ok(false);
     }

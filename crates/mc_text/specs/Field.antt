@@ -58,7 +58,7 @@ expiry_in (byte ∷ more) =
 unfoldable pub key_of : List ℕ → Said (List ℕ)
 key_of word = if is_key word then Ok word else Err Format
 
--- flags, and the number of bytes of a block
+-- flags, the number of bytes of a block, and a moment
 unfoldable pub number32_of : List ℕ → Said ℕ
 number32_of word = ok_or (number_below (2 ^ 32) word) Format
 

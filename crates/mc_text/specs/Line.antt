@@ -29,7 +29,7 @@ use Rattle.mc_text.specs.declared.command.How.TheVariants.{Set, Add, Replace, Ap
 use Rattle.mc_text.specs.declared.command.LineFault.TheVariants.{Unknown, Format}
 use Rattle.mc_text.specs.declared.row.Row.{Row}
 use Rattle.mc_text.specs.declared.row.Row.TheVariants as rows
-use Rattle.mc_text.specs.Request.{Request, Get, Delete, Count, Touch, Flush, Version, Verbosity, Quit, Bad}
+use Rattle.mc_text.specs.Request.{Request, Get, Delete, Count, Touch, Flush, Version, Verbosity, Moment, Quit, Bad}
 use Rattle.mc_text.specs.Field.{
   Said,
   ◌>>=◌,
@@ -89,6 +89,7 @@ row_of name =
     else if bytes_eq name (codes "flush_all") then Some rows.Flush
     else if bytes_eq name (codes "version") then Some rows.Version
     else if bytes_eq name (codes "verbosity") then Some rows.Verbosity
+    else if bytes_eq name (codes "moment") then Some rows.Moment
     else if bytes_eq name (codes "quit") then Some rows.Quit
     else None
 
@@ -185,6 +186,14 @@ verbosity_of (level ∷ more) = do
   Ok (Whole (Verbosity quiet))
 verbosity_of [] = Err Unknown
 
+-- moment [noreply]
+unfoldable pub moment_of : List (List ℕ) → Said Line
+moment_of (moment ∷ more) = do
+  quiet ← quiet_of more
+  number ← number32_of moment
+  Ok (Whole (Moment number quiet))
+moment_of [] = Err Unknown
+
 -- nothing behind the name
 unfoldable pub lone_of : Request → List (List ℕ) → Said Line
 lone_of request [] = Ok (Whole request)
@@ -201,6 +210,7 @@ said_in rows.Touch words = touch_of words
 said_in rows.Flush words = flush_of words
 said_in rows.Version words = lone_of Version words
 said_in rows.Verbosity words = verbosity_of words
+said_in rows.Moment words = moment_of words
 said_in rows.Quit words = lone_of Quit words
 
 -- what the words of a line say

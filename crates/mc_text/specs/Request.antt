@@ -18,7 +18,7 @@ pub record Storing : Type 0 where
 
 -- what a command asks for: to store an item; to give the items of some keys, with their uniques or without; to remove an item;
 -- to count an item's number up or down; to set when an item expires; to remove all items; the version; to log more or less;
--- to end the section; and nothing, for a fault
+-- to set the moment by which items expire; to end the section; and nothing, for a fault
 pub data Request : Type 0 where
   Store : (storing : Storing) → Request
   Get : (uniques : Bool) (keys : List (List ℕ)) → Request
@@ -28,6 +28,7 @@ pub data Request : Type 0 where
   Flush : (quiet : Bool) → Request
   Version : Request
   Verbosity : (quiet : Bool) → Request
+  Moment : (moment : ℕ) (quiet : Bool) → Request
   Quit : Request
   Bad : (fault : LineFault) → Request
 
@@ -59,6 +60,7 @@ request_of (commands.Touch key exptime quiet spelling) = Touch key.now exptime q
 request_of (commands.Flush quiet spelling) = Flush quiet
 request_of (commands.Version spelling) = Version
 request_of (commands.Verbosity quiet spelling) = Verbosity quiet
+request_of (commands.Moment moment quiet spelling) = Moment moment quiet
 request_of (commands.Quit spelling) = Quit
 request_of (commands.Bad fault spelling) = Bad fault
 
@@ -71,6 +73,7 @@ spelling_of (commands.Touch key exptime quiet spelling) = spelling.now
 spelling_of (commands.Flush quiet spelling) = spelling.now
 spelling_of (commands.Version spelling) = spelling.now
 spelling_of (commands.Verbosity quiet spelling) = spelling.now
+spelling_of (commands.Moment moment quiet spelling) = spelling.now
 spelling_of (commands.Quit spelling) = spelling.now
 spelling_of (commands.Bad fault spelling) = spelling.now
 

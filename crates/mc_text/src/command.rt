@@ -47,7 +47,7 @@ pub enum Command<'a> {
         key: &'a [u8],
         /// A number that is kept with it.
         flags: u32,
-        /// When it expires: at once, where it is negative.
+        /// When it expires: never, where it is 0.
         exptime: i32,
         /// The unique number that the present item must have, and 0 for a command that names none.
         unique: u64,
@@ -93,7 +93,7 @@ pub enum Command<'a> {
     Touch {
         /// Its key.
         key: &'a [u8],
-        /// When it expires: at once, where it is negative.
+        /// When it expires: never, where it is 0.
         exptime: i32,
         /// Whether the reply is left out.
         quiet: bool,
@@ -114,6 +114,15 @@ pub enum Command<'a> {
     },
     /// Sets how much is logged, which changes nothing here.
     Verbosity {
+        /// Whether the reply is left out.
+        quiet: bool,
+        /// The bytes of the command.
+        spelling: &'a [u8],
+    },
+    /// Sets the moment, by which items expire.
+    Moment {
+        /// The moment from now on.
+        moment: u32,
         /// Whether the reply is left out.
         quiet: bool,
         /// The bytes of the command.
@@ -149,6 +158,7 @@ impl<'a> Command<'a> {
             | Command::Flush { spelling, .. }
             | Command::Version { spelling }
             | Command::Verbosity { spelling, .. }
+            | Command::Moment { spelling, .. }
             | Command::Quit { spelling }
             | Command::Bad { spelling, .. } => spelling,
         }

@@ -31,6 +31,8 @@ pub enum Row {
     Version,
     /// `level [noreply]`
     Verbosity,
+    /// `moment [noreply]`
+    Moment,
     /// Nothing.
     Quit,
 }
@@ -70,6 +72,8 @@ pub(crate) fn row_of(name: &[u8]) -> Option<Row>
         Some(Row::Version)
     } else if name == b"verbosity".as_slice() {
         Some(Row::Verbosity)
+    } else if name == b"moment".as_slice() {
+        Some(Row::Moment)
     } else if name == b"quit".as_slice() {
         Some(Row::Quit)
     } else {

@@ -15,6 +15,7 @@ ghost use Rattle.mc_text.specs.Line.{
   delayed_of,
   flush_of,
   verbosity_of,
+  moment_of,
   lone_of,
   said_in,
 };
@@ -49,6 +50,7 @@ pub(crate) fn read_row<'a>(
         Row::Flush => read_flush(words, spelling),
         Row::Version => read_lone(Command::Version { spelling }, words),
         Row::Verbosity => read_verbosity(words, spelling),
+        Row::Moment => read_moment(words, spelling),
         Row::Quit => read_lone(Command::Quit { spelling }, words),
     }
 }
@@ -245,6 +247,22 @@ fn read_verbosity<'a>(mut words: Words<'a>, spelling: &'a [u8]) -> Result<Line<'
     let quiet = read_quiet(words)?;
     read_level(level)?;
     Ok(Line::Whole(Command::Verbosity { quiet, spelling }))
+}
+
+// moment [noreply]
+#[tactic(auto, unfolding(crate::specs::Line::moment_of))]
+fn read_moment<'a>(mut words: Words<'a>, spelling: &'a [u8]) -> Result<Line<'a>, LineFault>
+    ensures said { Answers line_view (moment_of (words_left words.entry)) result }
+    ensures spelled { IfOk result (IsSpelled spelling.now) }
+{
+    let moment = next_word(&mut words)?;
+    let quiet = read_quiet(words)?;
+    let moment = read_number32(moment)?;
+    Ok(Line::Whole(Command::Moment {
+        moment,
+        quiet,
+        spelling,
+    }))
 }
 
 // Nothing behind the name.

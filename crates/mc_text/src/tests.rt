@@ -123,7 +123,7 @@ fn check_get(rt: &impl Abort, command: Option<Command>) -> Result<(), Fail> {
 #[test]
 fn gives_the_parts_of_commands(rt: HostRuntime) -> Result<(), Fail> {
     let mut commands = Commands::new(
-        b"cas k 007 -0 8 9 noreply\r\n\r\n\0\"\\\xff\r\n\r\ngets a b a\r\nincr n 5\r\nset",
+        b"cas k 007 -0 8 9 noreply\r\n\r\n\0\"\\\xff\r\n\r\ngets a b a\r\nincr n 5\r\nmoment 4294967295 noreply\r\nset",
     );
     check_store(&rt, commands.next())?;
     check_get(&rt, commands.next())?;
@@ -133,6 +133,16 @@ fn gives_the_parts_of_commands(rt: HostRuntime) -> Result<(), Fail> {
             Some(Command::Count {
                 up: true,
                 delta: 5,
+                ..
+            })
+        )
+    );
+    assert!(rt;
+        matches!(
+            commands.next(),
+            Some(Command::Moment {
+                moment: 4_294_967_295,
+                quiet: true,
                 ..
             })
         )

@@ -224,6 +224,45 @@ fn prints_numbers_of_up_to_ten_digits(rt: HostRuntime) -> Result<(), Fail> {
     Ok(())
 }
 
+// The moment is the store's, and so every caller's.
+#[test]
+fn runs_callers_by_one_moment(rt: HostRuntime) -> Result<(), Fail> {
+    let topology = topology(rt.alloc(), b"PU:1")?;
+    let input = b"worker * 78\nmoment 100\r\nset a 0 50 1\r\nx\r\nmoment 149\r\nget a\r\n\
+          moment 150\r\nget a\r\nmoment 10\r\n\n";
+    let sections = read_sections(rt.alloc(), &topology, input)?;
+    let [section] = sections.as_slice() else {
+        return Err("one section")?;
+    };
+    assert!(rt; section.bytes.len() == 78);
+    let callers = [0, 0, 0, 0, 0, 0, 0, 1, 1, 1, 1, 1];
+    let turns = callers.map(|caller| turn(caller, 0, 0, 0));
+    let text = printed(
+        rt.alloc(),
+        (0, 0),
+        section.bytes,
+        b"moment 149\r\nset a 0 1 1\r\ny\r\ngets a\r\nmoment 151\r\ngets a\r\n",
+        &turns,
+    )?;
+    let want =
+        b"turn 0 caller 0 pu 0 climb 0 tests 0 left 0 \"moment 100\\r\\n\" \"OK\\r\\n\"\n\
+          turn 1 caller 0 pu 0 climb 0 tests 0 left 0 \"set a 0 50 1\\r\\nx\\r\\n\" \"STORED\\r\\n\"\n\
+          turn 2 caller 0 pu 0 climb 0 tests 0 left 0 \"moment 149\\r\\n\" \"OK\\r\\n\"\n\
+          turn 3 caller 0 pu 0 climb 0 tests 0 left 0 \"get a\\r\\n\" \"VALUE a 0 1\\r\\nx\\r\\nEND\\r\\n\"\n\
+          turn 4 caller 0 pu 0 climb 0 tests 0 left 0 \"moment 150\\r\\n\" \"OK\\r\\n\"\n\
+          turn 5 caller 0 pu 0 climb 0 tests 0 left 0 \"get a\\r\\n\" \"END\\r\\n\"\n\
+          turn 6 caller 0 pu 0 climb 0 tests 0 left 0 \"moment 10\\r\\n\" \"CLIENT_ERROR moment goes back\\r\\n\"\n\
+          turn 7 caller 1 pu 0 climb 0 tests 0 left 0 \"moment 149\\r\\n\" \"CLIENT_ERROR moment goes back\\r\\n\"\n\
+          turn 8 caller 1 pu 0 climb 0 tests 0 left 0 \"set a 0 1 1\\r\\ny\\r\\n\" \"STORED\\r\\n\"\n\
+          turn 9 caller 1 pu 0 climb 0 tests 0 left 0 \"gets a\\r\\n\" \"VALUE a 0 1 2\\r\\ny\\r\\nEND\\r\\n\"\n\
+          turn 10 caller 1 pu 0 climb 0 tests 0 left 0 \"moment 151\\r\\n\" \"OK\\r\\n\"\n\
+          turn 11 caller 1 pu 0 climb 0 tests 0 left 0 \"gets a\\r\\n\" \"END\\r\\n\"\n\
+          caller 0 pu 0 commands 7 rest 0\n\
+          caller 1 pu 0 commands 5 rest 0\n";
+    assert_eq!(rt; text.as_slice(), want.as_slice());
+    Ok(())
+}
+
 // Each fault has its words.
 #[test]
 fn tells_each_fault(rt: HostRuntime) -> Result<(), Fail> {

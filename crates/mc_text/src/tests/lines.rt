@@ -185,7 +185,7 @@ const ONE_KEY: [(&[u8], First); 43] = [
 ];
 
 // Lines without a key, and lines that no row of the table names.
-const OTHER: [(&[u8], First); 36] = [
+const OTHER: [(&[u8], First); 35] = [
     (b"flush_all\r\n", Good),
     (b"flush_all 0\r\n", Good),
     (b"flush_all noreply\r\n", Good),
@@ -220,8 +220,35 @@ const OTHER: [(&[u8], First); 36] = [
     (b"sets k 0 0 1\r\n", Bad(Unknown)),
     (b"se k 0 0 1\r\n", Bad(Unknown)),
     (b"frob\r\n", Bad(Unknown)),
-    (b"moment 5\r\n", Bad(Unknown)),
     (b"set\x09 k 0 0 1\r\n", Bad(Unknown)),
+];
+
+// Lines of `moment`, which memcached doesn't know.
+const MOMENT: [(&[u8], First); 24] = [
+    (b"moment 0\r\n", Good),
+    (b"moment 5\n", Good),
+    (b"moment 5 noreply\r\n", Good),
+    (b"  moment  5  noreply \r\n", Good),
+    (b"moment 0005\r\n", Good),
+    (b"moment 4294967295\r\n", Good),
+    (b"moment 00004294967295 noreply\r\n", Good),
+    (b"moment 4294967296\r\n", Bad(Format)),
+    (b"moment 18446744073709551621\r\n", Bad(Format)),
+    (b"moment -1\r\n", Bad(Format)),
+    (b"moment +1\r\n", Bad(Format)),
+    (b"moment x\r\n", Bad(Format)),
+    (b"moment 1x noreply\r\n", Bad(Format)),
+    (b"moment noreply\r\n", Bad(Format)),
+    (b"moment noreply noreply\r\n", Bad(Format)),
+    (b"moment\r\n", Bad(Unknown)),
+    (b"moment 5 quiet\r\n", Bad(Unknown)),
+    (b"moment x quiet\r\n", Bad(Unknown)),
+    (b"moment 5 6\r\n", Bad(Unknown)),
+    (b"moment 5 noreply noreply\r\n", Bad(Unknown)),
+    (b"MOMENT 5\r\n", Bad(Unknown)),
+    (b"moments 5\r\n", Bad(Unknown)),
+    (b"momen 5\r\n", Bad(Unknown)),
+    (b"moment\x095\r\n", Bad(Unknown)),
 ];
 
 // Line ends, gaps between words, blocks and what follows them.
@@ -268,6 +295,11 @@ fn lines_of_one_key(rt: HostRuntime) {
 #[test]
 fn other_lines(rt: HostRuntime) {
     agree(&rt, &OTHER);
+}
+
+#[test]
+fn lines_of_moment(rt: HostRuntime) {
+    agree(&rt, &MOMENT);
 }
 
 #[test]

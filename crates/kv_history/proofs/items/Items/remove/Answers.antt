@@ -1,22 +1,16 @@
-use Rattle.std.proofs.Common.{◌∙◌, ap, sym}
-use Rattle.std.specs.FinMap.{get, remove}
-use Rattle.std.specs.Prelude.{is_some}
-use Rattle.std.specs.Map.{lookup}
-use Rattle.kv_history.specs.Views.{plain_item}
-use Rattle.kv_history.proofs.Keyed.{get-keyed, is_some-map, names, removed-keyed}
+use Rattle.std.proofs.Common.{sym, subst}
+use Rattle.std.specs.Prelude.{List, ℕ}
+use Rattle.kv_history.specs.declared.expiry.Expiry.TheVariants.{Never}
+use Rattle.kv_history.specs.Dues.{Agrees, Relists}
+use Rattle.kv_history.proofs.Agreement.{agrees-remove}
 use Rattle.kv_history.proofs.items.Items.remove.Goals as goal
 
-pub returns-clause-removed : goal.returns-clause-removed
-returns-clause-removed c =
-    let updates = c.swap_remove.ensures.updates in
-    removed-keyed c.args.key.now c.self.inside.table.entries c.swap_remove.new.self.entries updates.1 updates.3
-    ∙ ap (λ items. remove items c.args.key.now) c.self.view_is
+pub invariant_of-self : goal.invariant_of-self
+invariant_of-self c = subst (Agrees c.self.inside.dues) (sym c.in_default.ensures.stays) c.self.invariant
 
-pub returns-clause-found : goal.returns-clause-found
-returns-clause-found c =
-    let key = c.args.key.now in
-    let entries = c.self.inside.table.entries in
-    c.is_some.ensures
-    ∙ ap is_some c.swap_remove.ensures.value
-    ∙ sym (ap is_some (get-keyed key entries) ∙ is_some-map plain_item (lookup (names key) entries))
-    ∙ ap (λ items. is_some (get items key)) c.self.view_is
+pub invariant_of-self-2 : goal.invariant_of-self-2
+invariant_of-self-2 c =
+    subst (Agrees c.strike_expiry.new.self) (sym c.take.ensures.removed)
+    (agrees-remove c.args.key.now c.self.inside.table c.self.inside.dues c.strike_expiry.new.self
+    (subst (λ (key : List ℕ). Relists key Never c.self.inside.dues c.strike_expiry.new.self) c.in-Some.ensures.key c.strike_expiry.ensures)
+    c.self.invariant)

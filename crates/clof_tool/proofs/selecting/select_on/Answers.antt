@@ -1,0 +1,89 @@
+use Rattle.std.proofs.Common.{◌≡◌, ◌⊎◌, ℕ, List, Option, inl, inr, refl, subst}
+use Rattle.std.proofs.lemmas.Result.{IfOk-weaker, IfErr-weaker, on_ok_weaker}
+use Rattle.synth_text.specs.declared.description.Description.{Description}
+use Rattle.command_words.specs.Asked.{Select, Selection}
+use Rattle.command_words.specs.Plain.{plain_selection}
+use Rattle.command_texts.specs.declared.status.Status.{Status}
+use Rattle.command_texts.specs.declared.status.Status.TheVariants as statuses
+use Rattle.command_texts.specs.Ends.{IsRefusal, EndsEarly}
+use Rattle.command_texts.specs.SelectText.{RefusesTerms, PrintsSelection}
+use Rattle.command_texts.specs.TopoText.{IsBuilt}
+use Rattle.command_texts.proofs.OnTopologies.{early_silent, err_again, not_refused}
+use Rattle.clof_tool.specs.Run.{OnDescribed}
+use Rattle.clof_tool.specs.Selecting.{RefusesInput}
+use Rattle.clof_tool.specs.Outcome.{FoundRefused, HasCause}
+use Rattle.clof_tool.proofs.Stops.{memory_again}
+use Rattle.clof_tool.proofs.selecting.select_on.Goals as goal
+
+-- the cause of a refusal on what is described
+cause_on : (asked : Selection) (described : Description) (left : Option (List ℕ)) (given given_now : ℕ) (status : Status)
+    → IsBuilt asked.description described
+    → RefusesTerms described asked status ⊎ FoundRefused asked left given given_now status described
+    → HasCause (Select asked) left given given_now status
+cause_on asked described left given given_now status built (inl refuses) =
+    inl (inr (record { described = described; built = built; holds = refuses }))
+cause_on asked described left given given_now status built (inr found) =
+    inr (record { described = described; built = built; holds = found })
+
+pub returns-in-Ok-clause-answered : goal.returns-in-Ok-clause-answered
+returns-in-Ok-clause-answered g c =
+    let asked = plain_selection c.args.asked.now in
+    let found = c.select_in.ensures in
+    let built = c.in-Ok.ensures in
+    record {
+      answer = IfOk-weaker c.select_in.result _ _ (λ printed is.
+          (is.0, is.1, (is.2, record { described = c.in-Ok.tree; built = built.ok; holds = is.3 }))) found.answer;
+      at_end = on_ok_weaker c.select_in.result (λ drained _. drained) found.at_end;
+      cause = IfErr-weaker c.select_in.result _ _ (λ status is refusal.
+          cause_on asked c.in-Ok.tree _ _ _ status built.ok (is refusal)) found.cause;
+      silent = found.silent;
+      not_usage = found.not_usage;
+      read_fault = λ is. (tt, found.read_fault is);
+      read_in_part = found.read_in_part;
+      read_calm = found.read_calm;
+      words_refused = λ status refuses. elim refuses [
+        | inl topo ↦ absurd (not_refused _ status (built.refused status topo))
+        | inr on ↦ found.terms_refused status
+            (subst (λ described. RefusesTerms described asked status) (built.only on.described on.built.describes) on.holds)
+      ];
+      input_refused = λ input status left refuses calm. found.input_refused input status left
+          (subst (RefusesInput asked input status) (built.only refuses.described refuses.built.describes) refuses.holds) calm;
+      complete = λ input printed left answers calm. found.complete input printed left answers.0
+          (subst (λ described. PrintsSelection described asked input printed)
+          (built.only answers.1.described answers.1.built.describes) answers.1.holds)
+          (λ rose. calm tt rose);
+    }
+
+pub returns-in-Ok-clause-words_unread : goal.returns-in-Ok-clause-words_unread
+returns-in-Ok-clause-words_unread g c status refuses = elim refuses [
+  | inl topo ↦ absurd (not_refused _ status (c.in-Ok.ensures.refused status topo))
+  | inr on ↦ c.select_in.ensures.terms_unread status
+      (subst (λ described. RefusesTerms described (plain_selection c.args.asked.now) status)
+      (c.in-Ok.ensures.only on.described on.built.describes) on.holds)
+]
+
+pub returns-in-Err-clause-answered : goal.returns-in-Err-clause-answered
+returns-in-Err-clause-answered g c =
+    let status = c.in-Err.status in
+    let early = c.in-Err.ensures.early in
+    record {
+      answer = tt;
+      at_end = tt;
+      cause = λ refusal. elim c.in-Err.ensures.err [
+        | inl memory ↦ absurd (subst IsRefusal memory refusal)
+        | inr refuses ↦ inl (inl refuses)
+      ];
+      silent = λ written. early_silent status early written;
+      not_usage = λ is. let same : status ≡ statuses.Usage = cc in subst EndsEarly same early;
+      read_fault = λ is. let same : status ≡ statuses.ReadFault = cc in absurd (subst EndsEarly same early);
+      read_in_part = λ is. let same : status ≡ statuses.ReadFault = cc in absurd (subst EndsEarly same early);
+      read_calm = λ other. refl;
+      words_refused = λ found refuses. elim refuses [
+        | inl topo ↦ err_again status found (c.in-Err.ensures.refused found topo)
+        | inr on ↦ inr (memory_again status (c.in-Err.ensures.complete on.described on.built))
+      ];
+      input_refused = λ input found left refuses calm.
+          inr (memory_again status (c.in-Err.ensures.complete refuses.described refuses.built));
+      complete = λ input printed left answers calm.
+          inr (memory_again status (c.in-Err.ensures.complete answers.1.described answers.1.built));
+    }
