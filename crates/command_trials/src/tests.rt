@@ -28,7 +28,8 @@ fn answered(alloc: Global, words: &[&str]) -> Result<Result<Vec<u8>, Status>, Fa
         owned.push(String::from_str(alloc, word)?)?;
     }
     Ok(match read_words(alloc, &owned) {
-        Ok(Asked::Run { .. } | Asked::Select(_)) => Err(Status::Usage),
+        Ok(Asked::Run { .. }) => Err(Status::Usage),
+        Ok(Asked::Select(_)) => Err(Status::Usage),
         Ok(Asked::Set { list, text }) => set_text(alloc, list, text),
         Ok(Asked::Topo { export, text }) => topo_text(alloc, export, text),
         Ok(Asked::Calc(asked)) => calc_text(alloc, &asked),

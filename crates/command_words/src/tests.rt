@@ -107,7 +107,7 @@ fn reads_sets_topologies_and_runs(rt: HostRuntime) -> Result<(), Fail> {
 #[test]
 fn refuses_words(rt: HostRuntime) -> Result<(), Fail> {
     let alloc = rt.alloc();
-    let cases: [&[&str]; 21] = [
+    let cases: [&[&str]; 25] = [
         &[],
         &[""],
         &["Set", "0x1"],
