@@ -12,7 +12,8 @@ use Rattle.mc_text.specs.Begins.{value_limit}
 use Rattle.mc_text.specs.Request as asked
 use Rattle.mc_text.specs.Request.{Request, Storing, WholeCommand}
 use Rattle.kv_history.specs.declared.expiry.Expiry.{Expiry}
-use Rattle.kv_history.specs.Answer.{counted, counting, deletion, expired, joined, kept, line, moved, number_of, renumbered, storage, store_after, store_from, store_of, touching, with_expiry, with_item, without}
+use Rattle.kv_history.specs.Answer.{counted, counting, deletion, expired, joined, kept, line, moved, number_of}
+use Rattle.kv_history.specs.Answer.{renumbered, storage, store_after, store_from, store_of, touching, with_expiry, with_item, without}
 use Rattle.kv_history.specs.Contents.{Contents, Item, Items, NoneDue, NoneExpired, empty_store, is_live, left_at}
 use Rattle.kv_history.specs.Dues.{is_same_key}
 use Rattle.kv_history.specs.Expiry.{expiry_of, is_due}
@@ -55,7 +56,8 @@ due-left moment items = λ key found is. chosen (get items key) found (sym (get-
     chosen (Some item) found is = within item found (is_due moment item.expiry) refl is
 
 live-kept : (store : Contents) (storing : Storing) → NoneExpired store → NoneExpired (kept store storing)
-live-kept store storing none = chosen (expiry_of store.moment storing.exptime) (is_due store.moment (expiry_of store.moment storing.exptime)) refl
+live-kept store storing none =
+    chosen (expiry_of store.moment storing.exptime) (is_due store.moment (expiry_of store.moment storing.exptime)) refl
   where
     chosen : (expiry : Expiry) (b : Bool) → is_due store.moment expiry ≡ b
         → NoneExpired (if b then expired store storing.key else with_item store storing.key storing.flags expiry storing.block)

@@ -53,7 +53,8 @@ ListsToo key expiry old new =
 -- a key is listed at a time too or no more, as `listed` says
 abbrev pub Lists : List ℕ → ℕ → Bool → Dues → Dues → Type 0
 Lists key time listed old new =
-    (at : ℕ) (other : List ℕ) → is_listed new at other ≡ cond (is_time at (At time) && is_same_key other key) listed (is_listed old at other)
+    (at : ℕ) (other : List ℕ)
+    → is_listed new at other ≡ cond (is_time at (At time) && is_same_key other key) listed (is_listed old at other)
 
 -- whether an item expires at a time
 abbrev pub expires_at : ℕ → Option Item → Bool

@@ -1,4 +1,5 @@
--- When an item expires, by the moment at which it is stored or touched. By memcached's protocol.txt, with a moment in the place of its clock.
+-- When an item expires, by the moment at which it is stored or touched.
+-- By memcached's protocol.txt, with a moment in the place of its clock.
 use Rattle.std.specs.Prelude.{ℕ, ◌+◌, ℤ, pos, int_lt, unsigned_abs, Bool, true, false, nat_le, ◌==◌, if◌then◌else◌}
 use Rattle.kv_history.specs.declared.expiry.Expiry.{Expiry}
 use Rattle.kv_history.specs.declared.expiry.Expiry.TheVariants.{Never, At}

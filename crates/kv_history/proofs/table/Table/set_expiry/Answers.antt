@@ -30,8 +30,10 @@ returns c =
     let item : Item = record c.in-Some.item.now { expiry = c.args.expiry } in
     let there : lookup (names key) entries ≡ Some c.in-Some.item.now = sym c.in-Some.ensures.value in
     let updates = (c.get_mut.follows.holds item).3 (search rules) in
-    let change = λ (items : contents.Items). option_map_or (λ old. insert items key (record old { expiry = c.args.expiry })) (get items key) items in
+    let change = λ (items : contents.Items).
+    option_map_or (λ old. insert items key (record old { expiry = c.args.expiry })) (get items key) items in
     put-keyed key entries (c.get_mut.follows.lender item).entries item updates.1 updates.3
-    ∙ sym (ap (λ found. option_map_or (λ old. insert (kept_items entries) key (record old { expiry = c.args.expiry })) found (kept_items entries))
+    ∙ sym (ap
+    (λ found. option_map_or (λ old. insert (kept_items entries) key (record old { expiry = c.args.expiry })) found (kept_items entries))
     (get-keyed key entries ∙ ap (option_map plain_item) there))
     ∙ ap change c.self.view_is
