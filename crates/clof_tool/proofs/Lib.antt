@@ -1,3 +1,4 @@
 pub mod Codes
 pub mod SectionRuns
 pub mod Stops
+pub mod Words

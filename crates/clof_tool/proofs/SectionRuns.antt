@@ -1,6 +1,10 @@
 -- A run of sections: what is printed, or the first rule that the input breaks.
 use Rattle.std.proofs.Common.{◌≡◌, ◌≤◌, ◌⊎◌, ℕ, List, length, Ok, inl, inr, refl, sym, ap, subst, ◌∙◌, arith}
+use Rattle.std.proofs.lemmas.Bool.{cases_lt}
+use Rattle.std.proofs.lemmas.List.{length-map}
+use Rattle.std.proofs.lemmas.List.FromFn.{length-enumerate_from}
 use Rattle.std.specs.Prelude.{Result}
+use Rattle.std.specs.List.{enumerate_from}
 use Rattle.out_of_memory.specs.Memory.{UnlessMemory}
 use Rattle.synth_text.specs.declared.description.Description.{Description}
 use Rattle.synth_text.specs.declared.fault.SynthRule.{SynthRule}
@@ -8,12 +12,17 @@ use Rattle.synth_text.specs.Descriptions.{Describes, meaning}
 use Rattle.synth_text.proofs.ItemLaws.{same_items}
 use Rattle.placed_runner.specs.declared.fault.SectionFault.{SectionFault}
 use Rattle.placed_runner.specs.declared.fault.SectionFault.TheVariants as section
-use Rattle.placed_runner.specs.Sections.{IsRefused, Placed, Sections, placed}
+use Rattle.placed_runner.specs.Sections.{caller_limit, IsRefused, Placed, Sections, placed, placed_at}
+use Rattle.placed_runner.specs.Printed.{IsRun}
+use Rattle.placed_runner.specs.Text.{one_lock}
+use Rattle.placed_runner.proofs.Printed.{one_history_lem}
+use Rattle.placed_runner.proofs.Readings.{one_applies}
 use Rattle.placed_runner.proofs.Uniqueness.{refusal_once, sections_once, not_both}
+use Rattle.command_texts.specs.declared.status.Fault.TheVariants.{Input}
 use Rattle.command_texts.specs.declared.status.Status.{Status}
 use Rattle.command_texts.specs.declared.status.Status.TheVariants as statuses
-use Rattle.clof_tool.specs.Run.{input_limit, section_status, text_in_order, PrintsSections, Refuses, RefusesSections}
-use Rattle.clof_tool.specs.Laws.{NotBoth, OneRefusal, OneText}
+use Rattle.clof_tool.specs.Run.{input_limit, section_status, PrintsSections, Refuses, RefusesSections}
+use Rattle.clof_tool.specs.Laws.{NotBoth, OneApplies, OneHistory, OneRefusal}
 
 -- the status of a refusal is its own
 pub status_found : (described : Description) (input : List ℕ) (fault : SectionFault)
@@ -36,15 +45,17 @@ pub sections_not : (described : Description) (input : List ℕ) (sections : List
 sections_not described input sections status are refuses =
     not_both described input are.written refuses.fault are.are refuses.refused
 
--- where something is printed, only memory can be wanting
-pub printed_memory : (described : Description) (input printed : List ℕ) (fault : SectionFault)
-    → UnlessMemory section.OutOfMemory fault (IsRefused described input fault) → PrintsSections described input printed
-    → section_status fault ≡ statuses.OutOfMemory
-printed_memory described input printed fault (inl refused) prints =
-    absurd (not_both described input prints.are.written fault prints.are.are refused)
-printed_memory described input printed fault (inr memory) prints = ap section_status memory
+-- where no status refuses, only memory can be wanting
+pub only_memory : (described : Description) (input : List ℕ) (fault : SectionFault)
+    → UnlessMemory section.OutOfMemory fault (IsRefused described input fault)
+    → ((status : Status) → RefusesSections described input status → ⊥) → section_status fault ≡ statuses.OutOfMemory
+only_memory described input fault found none =
+    elim (status_found described input fault found) [
+      | inl memory ↦ memory
+      | inr refuses ↦ absurd (none (section_status fault) refuses)
+    ]
 
--- ---- one text, or one refusal
+-- ---- one history, or one refusal
 
 -- a text describes one topology
 described_once : (text : List ℕ) (one other : Description) → Describes text one → Describes text other → one ≡ other
@@ -53,14 +64,32 @@ described_once text one other first second =
     let both : ◌≡◌ {A = Result Description SynthRule} (Ok one) (Ok other) = sym first.said ∙ ap (meaning text) items ∙ second.said in
     cc
 
-printed_once : (described : Description) (input printed other : List ℕ) → PrintsSections described input printed
-    → PrintsSections described input other → printed ≡ other
-printed_once described input printed other first second =
-    let a = first.are in
-    let b = second.are in
-    first.in_order
-    ∙ ap text_in_order (a.placed_are ∙ ap (placed described) (sections_once described input a.written b.written a.are b.are) ∙ sym b.placed_are)
-    ∙ sym second.in_order
+-- an input is one list of sections
+sections_same : (described : Description) (input : List ℕ) (one other : List Placed) → Sections described input one
+    → Sections described input other → one ≡ other
+sections_same described input one other first second =
+    first.placed_are
+    ∙ ap (placed described) (sections_once described input first.written second.written first.are second.are)
+    ∙ sym second.placed_are
+
+-- sections are as many as are written
+few_sections : (described : Description) (input : List ℕ) (sections : List Placed) → Sections described input sections
+    → length sections ≤ caller_limit
+unfolding placed
+few_sections described input sections are =
+    let count : length sections ≡ length are.written =
+    ap length are.placed_are
+    ∙ length-map (enumerate_from 0 are.written) (placed_at described (length are.written))
+    ∙ length-enumerate_from 0 are.written in
+    omega (arith, count, are.are.few)
+
+-- a text tells one list of holds of the same sections
+same_holds : (printed : List ℕ) (one other : List Placed) → one ≡ other → length one ≤ caller_limit
+    → (first : IsRun one (one_lock (length one)) printed) (second : IsRun other (one_lock (length other)) printed)
+    → first.holds ≡ second.holds
+same_holds printed one other same few first =
+    subst (λ (sections : List Placed). (second : IsRun sections (one_lock (length sections)) printed) → first.holds ≡ second.holds) same
+    (λ second. one_history_lem one (one_lock (length one)) printed (omega (arith, few)) (omega arith) first second)
 
 refused_once : (described : Description) (input : List ℕ) (status other : Status) → Refuses described input status
     → Refuses described input other → status ≡ other
@@ -78,11 +107,28 @@ not_refused described input printed status short prints (inl long) = omega (arit
 not_refused described input printed status short prints (inr broken) =
     sections_not described input prints.sections status prints.are broken.1
 
-pub one_text : OneText
-one_text text input printed other first second =
-    let same = described_once text first.1.described second.1.described first.1.built.describes second.1.built.describes in
-    printed_once first.1.described input printed other first.1.holds
-    (subst (λ d. PrintsSections d input other) (sym same) second.1.holds)
+pub one_history : OneHistory
+one_history text input printed one other =
+    let first = one.1.holds in
+    let second = other.1.holds in
+    let same = described_once text one.1.described other.1.described one.1.built.describes other.1.built.describes in
+    let sections = sections_same one.1.described input first.sections second.sections first.are
+    (subst (λ d. Sections d input second.sections) (sym same) second.are) in
+    same_holds printed first.sections second.sections sections (few_sections one.1.described input first.sections first.are)
+    first.run second.run
+
+pub some_applies : OneApplies
+some_applies described input =
+    elim (cases_lt input_limit (length input)) [
+      | inl long ↦ inr (statuses.Limit Input, inl (long, refl))
+      | inr short ↦ elim (one_applies described input) [
+        | inl sections ↦ inl (omega (arith, short), sections)
+        | inr refused ↦ inr (
+          section_status refused.0,
+          inr (omega (arith, short), record { fault = refused.0; refused = refused.1; status_is = refl }),
+        )
+      ]
+    ]
 
 pub one_refusal : OneRefusal
 one_refusal text input status other first second =

@@ -1,5 +1,5 @@
 -- What was made before the first write.
-use Rattle.std.proofs.Common.{◌≡◌, ◌⊎◌, ℕ, Ok, Err, sym, ap, subst, inl, inr}
+use Rattle.std.proofs.Common.{◌≡◌, ◌⊎◌, ℕ, Ok, Err, refl, sym, ap, subst, inl, inr}
 use Rattle.std.specs.Prelude.{IsOk, IfOk, IfErr, Result}
 use Rattle.command_texts.specs.declared.status.Status.{Status}
 use Rattle.command_texts.specs.declared.status.Status.TheVariants as statuses
@@ -18,6 +18,14 @@ stopped_text (Err status) result written P Q is handed silent first second =
 pub from_text : {T : Type 0} (made : Result T Status) (P : Type 0) → IsOk made → IfOk made (λ _. P) → P
 from_text (Ok text) P is holds = holds
 from_text (Err status) P is holds = cc
+
+-- where no status refuses, there is a text, or memory is wanting
+pub complete_of : {T : Type 0} (made : Result T Status) (Refuses : Status → Type 0)
+    → IfErr made (λ status. (status ≡ statuses.OutOfMemory) ⊎ Refuses status) → ((status : Status) → Refuses status → ⊥)
+    → IsOk made ⊎ (made ≡ Err statuses.OutOfMemory)
+complete_of (Ok text) Refuses cause none = inl refl
+complete_of (Err status) Refuses (inl memory) none = inr (ap Err memory)
+complete_of (Err status) Refuses (inr refuses) none = absurd (none status refuses)
 
 module _ {T U : Type 0} where
   -- where nothing is built though something could be, memory is wanting

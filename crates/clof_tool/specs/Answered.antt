@@ -11,7 +11,7 @@ use Rattle.command_texts.specs.declared.status.Status.TheVariants as statuses
 use Rattle.command_texts.specs.Ends.{IsRefusal, HasWritten}
 use Rattle.command_words.specs.Asked.{Asked}
 use Rattle.clof_tool.specs.Run.{input_limit}
-use Rattle.clof_tool.specs.Outcome.{ReadsInput, IsInput, HasRead, IsAnswer, WordsRefused, InputRefused, HasCause}
+use Rattle.clof_tool.specs.Outcome.{ReadsInput, HasRead, IsAccepted, IsAnswer, WordsRefused, InputRefused, HasCause}
 
 pub record Answered (asked : Asked) (left left_now : Option (List ℕ)) (given given_now faults faults_now : ℕ)
     (result : Result (Vec ℕ Global) Status)
@@ -27,5 +27,9 @@ pub record Answered (asked : Asked) (left left_now : Option (List ℕ)) (given g
   pub words_refused : (status : Status) → WordsRefused asked status → (result ≡ Err status) ⊎ (result ≡ Err statuses.OutOfMemory)
   pub input_refused : (input : List ℕ) (status : Status) → left ≡ Some input → InputRefused asked input status
       → (Rose faults faults_now → ⊥) → (result ≡ Err status) ⊎ (result ≡ Err statuses.OutOfMemory)
-  pub complete : (input text : List ℕ) → IsInput asked left input → IsAnswer asked input text
-      → (ReadsInput asked → Rose faults faults_now → ⊥) → IsOk result ⊎ (result ≡ Err statuses.OutOfMemory)
+
+-- where no status refuses what is asked for, and no read failed, there is a text, or memory is wanting
+abbrev pub AnswersUnrefused : Asked → Option (List ℕ) → ℕ → ℕ → Result (Vec ℕ Global) Status → Type 0
+AnswersUnrefused asked left faults faults_now result =
+    ((status : Status) → WordsRefused asked status → ⊥) → (ReadsInput asked → IsAccepted asked left)
+    → (ReadsInput asked → Rose faults faults_now → ⊥) → IsOk result ⊎ (result ≡ Err statuses.OutOfMemory)

@@ -25,15 +25,6 @@ ReadsInput (Calc asked) = ⊥
 ReadsInput (Distrib asked) = ⊥
 ReadsInput (Select asked) = Unit {0}
 
--- the input of what is asked for: all that the source had left, or any text where it doesn't depend on one
-abbrev pub IsInput : Asked → Option (List ℕ) → List ℕ → Type 0
-IsInput (Run text) left input = left ≡ Some input
-IsInput (Set list text) left input = Unit {0}
-IsInput (Topo export text) left input = Unit {0}
-IsInput (Calc asked) left input = Unit {0}
-IsInput (Distrib asked) left input = Unit {0}
-IsInput (Select asked) left input = left ≡ Some input
-
 -- a source gave this input and came to its end: as many bytes as its count of given ones rose by, which are what it had
 -- left, where it tells that
 pub record WasRead (left : Option (List ℕ)) (given given_now : ℕ) (input : List ℕ) : Type 0 where
@@ -87,6 +78,12 @@ InputRefused (Topo export text) input status = ⊥
 InputRefused (Calc asked) input status = ⊥
 InputRefused (Distrib asked) input status = ⊥
 InputRefused (Select asked) input status = OnDescribed asked.description (RefusesInput asked input status)
+
+-- a source has an input left, where it tells that, and no status refuses it
+pub record IsAccepted (asked : Asked) (left : Option (List ℕ)) : Type 0 where
+  pub input : List ℕ
+  pub is_left : left ≡ Some input
+  pub unrefused : (status : Status) → InputRefused asked input status → ⊥
 
 -- the source had more left than an input may have, where it tells that, and one byte more than that was read
 pub record WasTooLong (left : Option (List ℕ)) (given given_now : ℕ) : Type 0 where

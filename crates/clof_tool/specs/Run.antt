@@ -1,11 +1,10 @@
 -- What `run` prints.
-use Rattle.std.specs.Prelude.{◌≡◌, ◌<◌, ◌≤◌, ◌⊎◌, ℕ, List, length, map}
+use Rattle.std.specs.Prelude.{◌≡◌, ◌<◌, ◌≤◌, ◌⊎◌, ℕ, List, length}
 use Rattle.synth_text.specs.declared.description.Description.{Description}
 use Rattle.placed_runner.specs.declared.fault.SectionFault.{SectionFault}
 use Rattle.placed_runner.specs.declared.fault.SectionFault.TheVariants as section
 use Rattle.placed_runner.specs.Sections.{Placed, Sections, IsRefused}
-use Rattle.placed_runner.specs.Running.{calls_in_order}
-use Rattle.placed_runner.specs.Text.{run_text, one_lock, holds_of}
+use Rattle.placed_runner.specs.Text.{one_lock}
 use Rattle.placed_runner.specs.Printed.{IsRun}
 use Rattle.command_texts.specs.declared.status.Fault.TheVariants.{Section, Input}
 use Rattle.command_texts.specs.declared.status.Status.{Status}
@@ -16,10 +15,6 @@ use Rattle.command_texts.specs.TopoText.{IsBuilt}
 abbrev pub input_limit : ℕ
 input_limit = 16777216
 
--- the text of a run that serves its sections one after another under one lock
-abbrev pub text_in_order : List Placed → List ℕ
-text_in_order sections = run_text sections (one_lock (length sections)) (holds_of (map (λ call. call.caller) (calls_in_order sections)))
-
 -- the status of a fault of the sections: one of them is a limit
 abbrev pub section_status : SectionFault → Status
 section_status (section.BadHead at) = statuses.Malformed (Section (section.BadHead at))
@@ -28,13 +23,12 @@ section_status (section.Short at) = statuses.Malformed (Section (section.Short a
 section_status section.TooManyCallers = statuses.Limit (Section section.TooManyCallers)
 section_status section.OutOfMemory = statuses.OutOfMemory
 
--- the input is some sections on a topology, and what is printed is the text of a run of these, in which each caller gives its commands
--- once and in order; it serves the callers one after another
+-- the input is some sections on a topology, and what is printed is the text of a run of these under one lock: of some holds by their
+-- callers, each of which gives its commands once and in order
 pub record PrintsSections (described : Description) (input printed : List ℕ) : Type 0 where
   pub sections : List Placed
   pub are : Sections described input sections
-  pub run : IsRun sections printed
-  pub in_order : printed ≡ text_in_order sections
+  pub run : IsRun sections (one_lock (length sections)) printed
 
 -- the input is refused as sections on a topology
 pub record RefusesSections (described : Description) (input : List ℕ) (status : Status) : Type 0 where

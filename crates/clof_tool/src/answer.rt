@@ -11,7 +11,7 @@ ghost use Rattle.command_texts.specs.TopoText.{TopoRefuses};
 ghost use Rattle.command_words.specs.Asked.{Run};
 ghost use Rattle.clof_tool.specs.Run.{input_limit, PrintsSections, Refuses};
 ghost use Rattle.clof_tool.specs.Outcome.{ReadsInput, WasRead, WasTooLong, WordsRefused, Found};
-ghost use Rattle.clof_tool.specs.Answered.{Answered};
+ghost use Rattle.clof_tool.specs.Answered.{Answered, AnswersUnrefused};
 
 use crate::running::run_text;
 use crate::selecting::select_on;
@@ -20,25 +20,31 @@ use command_texts::topology::tree;
 use command_texts::{calc_text, distrib_text, set_text, topo_text};
 use command_words::Asked;
 use edge_io::{ReadAllFault, Source, read_all};
+use placed_runner::Gate;
 use std::alloc::Global;
+use std::sync::Wait;
+use std::thread::Threads;
 use topo_tree::Tree;
 
 // The greatest length of an input.
 const INPUT_LIMIT: usize = 16_777_216;
 
 /// The text that is printed, or the status where there is none.
-pub(crate) fn answer<S: Source>(
+pub(crate) fn answer<R: Threads + Wait + Sync, S: Source, G: Gate + Sync>(
+    rt: &R,
     alloc: Global,
     asked: Asked<'_>,
     source: &mut S,
+    gate: &G,
 ) -> Result<Vec<u8>, Status>
     ensures answered { Answered (plain asked.entry) (S.left source.old) (S.left source.new) (S.given source.old) (S.given source.new)
         (S.faults source.old) (S.faults source.new) result }
+    ensures complete { AnswersUnrefused (plain asked.entry) (S.left source.old) (S.faults source.old) (S.faults source.new) result }
     ensures unread { (ReadsInput (plain asked.entry) → ⊥) → source.new ≡ source.old }
     ensures words_unread { (status : AnyStatus) → WordsRefused (plain asked.entry) status → source.new ≡ source.old }
 {
     match asked {
-        Asked::Run { description } => run_on(alloc, description, source),
+        Asked::Run { description } => run_on(rt, alloc, description, source, gate),
         Asked::Set { list, text } => set_text(alloc, list, text),
         Asked::Topo { export, text } => topo_text(alloc, export, text),
         Asked::Calc(asked) => calc_text(alloc, &asked),
@@ -48,19 +54,32 @@ pub(crate) fn answer<S: Source>(
 }
 
 // The text of a run on the topology that a text describes, of all that the source has left.
-fn run_on<S: Source>(alloc: Global, text: &[u8], source: &mut S) -> Result<Vec<u8>, Status>
+fn run_on<R: Threads + Wait + Sync, S: Source, G: Gate + Sync>(
+    rt: &R,
+    alloc: Global,
+    text: &[u8],
+    source: &mut S,
+    gate: &G,
+) -> Result<Vec<u8>, Status>
     ensures answered { Answered (Run text.now) (S.left source.old) (S.left source.new) (S.given source.old) (S.given source.new)
         (S.faults source.old) (S.faults source.new) result }
+    ensures complete { AnswersUnrefused (Run text.now) (S.left source.old) (S.faults source.old) (S.faults source.new) result }
     ensures words_unread { (status : AnyStatus) → TopoRefuses text.now status → source.new ≡ source.old }
 {
     match tree(alloc, text) {
-        Ok(tree) => served(alloc, &tree, source),
+        Ok(tree) => served(rt, alloc, &tree, source, gate),
         Err(status) => Err(status),
     }
 }
 
 // The text of a run on a topology, of all that the source has left.
-fn served<S: Source>(alloc: Global, tree: &Tree, source: &mut S) -> Result<Vec<u8>, Status>
+fn served<R: Threads + Wait + Sync, S: Source, G: Gate + Sync>(
+    rt: &R,
+    alloc: Global,
+    tree: &Tree,
+    source: &mut S,
+    gate: &G,
+) -> Result<Vec<u8>, Status>
     ensures answer { IfOk result (λ printed. (input : List ℕ)
         × WasRead (S.left source.old) (S.given source.old) (S.given source.new) input
         × (length input ≤ input_limit) × PrintsSections tree.now input printed.items) }
@@ -76,12 +95,12 @@ fn served<S: Source>(alloc: Global, tree: &Tree, source: &mut S) -> Result<Vec<u
     ensures input_refused { (input : List ℕ) (status : AnyStatus) →
         S.left source.old ≡ Some input → Refuses tree.now input status →
         (Rose (S.faults source.old) (S.faults source.new) → ⊥) → (result ≡ Err status) ⊎ (result ≡ Err Status.OutOfMemory) }
-    ensures complete { (input printed : List ℕ) →
-        S.left source.old ≡ Some input → length input ≤ input_limit → PrintsSections tree.now input printed →
+    ensures complete { (input : List ℕ) →
+        S.left source.old ≡ Some input → ((status : AnyStatus) → Refuses tree.now input status → ⊥) →
         (Rose (S.faults source.old) (S.faults source.new) → ⊥) → IsOk result ⊎ (result ≡ Err Status.OutOfMemory) }
 {
     match read_input(alloc, source) {
-        Ok(input) => run_text(alloc, tree, &input),
+        Ok(input) => run_text(rt, alloc, tree, &input, gate),
         Err(status) => Err(status),
     }
 }

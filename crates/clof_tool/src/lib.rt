@@ -12,7 +12,7 @@ mod top_call;
 pub use command_texts::{Fault, OptionName, Status};
 pub use laws::one_run;
 pub use process::Process;
-pub use top_call::top;
+pub use top_call::{top, top_with};
 
 #[cfg(test)]
 mod select_tests;

@@ -4,7 +4,6 @@ ghost use Rattle.edge_io.specs.Counts.{Rose};
 ghost use Rattle.edge_io.specs.Contents.{IsDrained};
 ghost use Rattle.edge_io.specs.Reading.{HasGiven};
 ghost use Rattle.lock_select.specs.Texts.{keep_limit, Weighs};
-ghost use Rattle.lock_select.specs.Traces.{IsTrace};
 ghost use Rattle.command_words.specs.Asked.{Select};
 ghost use Rattle.command_words.specs.Plain.{plain_selection};
 ghost use Rattle.command_texts.specs.declared.status.Status.{Status as AnyStatus};
@@ -13,7 +12,7 @@ ghost use Rattle.command_texts.specs.SelectText.{RefusesTerms, PrintsChoice, Pri
 ghost use Rattle.clof_tool.specs.Run.{input_limit};
 ghost use Rattle.clof_tool.specs.Selecting.{SelectRefuses, RefusesBytes, RefusesInput};
 ghost use Rattle.clof_tool.specs.Outcome.{WasRead, FoundNoTrace, FoundRefused};
-ghost use Rattle.clof_tool.specs.Answered.{Answered};
+ghost use Rattle.clof_tool.specs.Answered.{Answered, AnswersUnrefused};
 
 use crate::Status;
 use crate::answer::read_input;
@@ -32,6 +31,8 @@ pub(crate) fn select_on<S: Source>(
 ) -> Result<Vec<u8>, Status>
     ensures answered { Answered (Select (plain_selection asked.now)) (S.left source.old) (S.left source.new)
         (S.given source.old) (S.given source.new) (S.faults source.old) (S.faults source.new) result }
+    ensures complete { AnswersUnrefused (Select (plain_selection asked.now)) (S.left source.old)
+        (S.faults source.old) (S.faults source.new) result }
     ensures words_unread { (status : AnyStatus) → SelectRefuses (plain_selection asked.now) status → source.new ≡ source.old }
 {
     match tree(alloc, asked.description) {
@@ -66,8 +67,9 @@ fn select_in<S: Source>(
     ensures input_refused { (input : List ℕ) (status : AnyStatus) →
         S.left source.old ≡ Some input → RefusesInput (plain_selection asked.now) input status tree.now →
         (Rose (S.faults source.old) (S.faults source.new) → ⊥) → (result ≡ Err status) ⊎ (result ≡ Err Status.OutOfMemory) }
-    ensures complete { (input printed : List ℕ) → S.left source.old ≡ Some input → length input ≤ input_limit →
-        PrintsSelection tree.now (plain_selection asked.now) input printed →
+    ensures complete { (input : List ℕ) → S.left source.old ≡ Some input →
+        ((status : AnyStatus) → RefusesTerms tree.now (plain_selection asked.now) status → ⊥) →
+        ((status : AnyStatus) → RefusesInput (plain_selection asked.now) input status tree.now → ⊥) →
         (Rose (S.faults source.old) (S.faults source.new) → ⊥) → IsOk result ⊎ (result ≡ Err Status.OutOfMemory) }
 {
     match read_terms(alloc, tree, asked) {
@@ -100,8 +102,8 @@ fn selected<S: Source>(
     ensures input_refused { (input : List ℕ) (status : AnyStatus) →
         S.left source.old ≡ Some input → RefusesBytes tree.now input status →
         (Rose (S.faults source.old) (S.faults source.new) → ⊥) → (result ≡ Err status) ⊎ (result ≡ Err Status.OutOfMemory) }
-    ensures complete { (input trace : List ℕ) →
-        S.left source.old ≡ Some input → length input ≤ input_limit → IsTrace tree.now input trace →
+    ensures complete { (input : List ℕ) →
+        S.left source.old ≡ Some input → ((status : AnyStatus) → RefusesBytes tree.now input status → ⊥) →
         (Rose (S.faults source.old) (S.faults source.new) → ⊥) → IsOk result ⊎ (result ≡ Err Status.OutOfMemory) }
 {
     match read_input(alloc, source) {

@@ -1,11 +1,12 @@
 // The top call over sources and sinks in memory.
 use crate::report::report;
-use crate::{Fault, OptionName, Status, top};
+use crate::{Fault, OptionName, Status, top, top_with};
 use edge_io::{Failed, MemSink, MemSource, Source, SureSink, SureSource};
-use placed_runner::SectionFault;
+use placed_runner::{Gate, SectionFault};
 use std::alloc::Global;
 use std::process::Abort;
 use std::sync::Wait;
+use std::sync::atomic::{AtomicBool, AtomicU32, Ordering};
 use std::test::Fail;
 use std::thread::Threads;
 use synth_text::SynthFault;
@@ -138,24 +139,152 @@ fn limits_the_sections(rt: HostRuntime) -> Result<(), Fail> {
     )
 }
 
+// Where a part first stands in a text.
+fn place_of(text: &[u8], part: &[u8]) -> Option<usize> {
+    for (place, _) in text.iter().enumerate() {
+        if text[place..].starts_with(part) {
+            return Some(place);
+        }
+    }
+    None
+}
+
+// How often a part stands in a text.
+fn count_of(text: &[u8], part: &[u8]) -> usize {
+    let mut count: usize = 0;
+    for (place, _) in text.iter().enumerate() {
+        if text[place..].starts_with(part) {
+            count = count.wrapping_add(1);
+        }
+    }
+    count
+}
+
+// The turns of two callers mix as it happens; what each is told of keys of its own doesn't depend on that, nor does the order of
+// its own turns.
 #[test]
-fn serves_sections_one_after_another(rt: HostRuntime) -> Result<(), Fail> {
+fn serves_several_sections(rt: HostRuntime) -> Result<(), Fail> {
     let alloc = rt.alloc();
-    let input = b"worker * 16\nset a 5 0 1\r\nx\r\n\nworker pu:1 7\nget a\r\n\n";
+    let input =
+        b"worker * 23\nset a 5 0 1\r\nx\r\nget a\r\n\nworker pu:1 23\nset b 7 0 1\r\ny\r\nget b\r\n\n";
     let ended = call(&rt, alloc, &["run", "Core:2 PU:2"], input.to_vec(alloc)?)?;
-    let text =
-        b"turn 0 caller 0 pu 0 climb 0 tests 0 left 0 \"set a 5 0 1\\r\\nx\\r\\n\" \"STORED\\r\\n\"\n\
-          turn 1 caller 1 pu 1 climb 0 tests 0 left 0 \"get a\\r\\n\" \"VALUE a 5 1\\r\\nx\\r\\nEND\\r\\n\"\n\
-          caller 0 pu 0 commands 1 rest 0\n\
-          caller 1 pu 1 commands 1 rest 0\n";
     assert_eq!(rt; ended.status, Status::Ok);
-    assert_eq!(rt; ended.out.as_slice(), text.as_slice());
+    let cases: [(&[u8], &[u8]); 2] = [
+        (
+            b" left 0 \"set a 5 0 1\\r\\nx\\r\\n\" \"STORED\\r\\n\"\n",
+            b" left 0 \"get a\\r\\n\" \"VALUE a 5 1\\r\\nx\\r\\nEND\\r\\n\"\n",
+        ),
+        (
+            b" left 0 \"set b 7 0 1\\r\\ny\\r\\n\" \"STORED\\r\\n\"\n",
+            b" left 0 \"get b\\r\\n\" \"VALUE b 7 1\\r\\ny\\r\\nEND\\r\\n\"\n",
+        ),
+    ];
+    for (set, get) in cases {
+        let (stored, found) = (place_of(&ended.out, set), place_of(&ended.out, get));
+        assert!(rt; stored.is_some() && found.is_some() && stored < found);
+    }
+    assert_eq!(rt; count_of(&ended.out, b"turn "), 4);
+    assert_eq!(rt; count_of(&ended.out, b" caller 0 pu 0 climb 0 tests "), 2);
+    assert_eq!(rt; count_of(&ended.out, b" caller 1 pu 1 climb 0 tests "), 2);
+    let end = b"caller 0 pu 0 commands 2 rest 0\ncaller 1 pu 1 commands 2 rest 0\n";
+    assert!(rt; ended.out.ends_with(end));
     let ended = call(&rt, alloc, &["run", "PU:0"], input.to_vec(alloc)?)?;
     assert_eq!(rt; ended.status.code(), 3);
     assert_eq!(rt;
         ended.err.as_slice(),
         b"clof: synth BadArity 0\n".as_slice()
     );
+    Ok(())
+}
+
+// How often a caller told a gate that it was queued, and that it held.
+#[derive(Drop)]
+struct Calls {
+    queued: AtomicU32,
+    inside: AtomicU32,
+}
+
+// Of two callers, whichever holds first waits until the other was queued, for so many turns of a loop at most.
+#[derive(Drop)]
+struct Meeting {
+    first: Calls,
+    second: Calls,
+    holds: AtomicU32,
+    missed: AtomicBool,
+}
+
+const TURNS: u32 = 10_000_000;
+
+impl Meeting {
+    fn new() -> Meeting {
+        Meeting {
+            first: Calls {
+                queued: AtomicU32::new(0),
+                inside: AtomicU32::new(0),
+            },
+            second: Calls {
+                queued: AtomicU32::new(0),
+                inside: AtomicU32::new(0),
+            },
+            holds: AtomicU32::new(0),
+            missed: AtomicBool::new(false),
+        }
+    }
+
+    fn calls(&self, caller: u32) -> &Calls {
+        match caller {
+            0 => &self.first,
+            _ => &self.second,
+        }
+    }
+
+    // Waits until a caller was queued, and notes where it was not.
+    fn await_queued(&self, other: &Calls) {
+        for _ in 0..TURNS {
+            if other.queued.load(Ordering::SeqCst) > 0 {
+                return;
+            }
+        }
+        self.missed.store(true, Ordering::SeqCst);
+    }
+}
+
+impl Gate for Meeting {
+    fn queued(&self, caller: u32) {
+        self.calls(caller).queued.fetch_add(1, Ordering::SeqCst);
+    }
+
+    fn inside(&self, caller: u32) {
+        self.calls(caller).inside.fetch_add(1, Ordering::SeqCst);
+        if self.holds.fetch_add(1, Ordering::SeqCst) == 0 {
+            match caller {
+                0 => self.await_queued(&self.second),
+                _ => self.await_queued(&self.first),
+            }
+        }
+    }
+}
+
+// Both callers are at the lock at once: one holds while the other is queued.
+#[test]
+fn holds_while_another_is_queued(rt: HostRuntime) -> Result<(), Fail> {
+    let alloc = rt.alloc();
+    let words = [String::from_str(alloc, "run")?];
+    let input = b"worker * 7\nget a\r\n\nworker * 7\nget b\r\n\n".to_vec(alloc)?;
+    let mut source = SureSource::new(input);
+    let mut out = SureSink::new(alloc, 1_000)?;
+    let mut err = SureSink::new(alloc, 100)?;
+    let gate = Meeting::new();
+    let status = top_with(&rt, alloc, &words, &mut source, &mut out, &mut err, &gate);
+    assert_eq!(rt; status, Status::Ok);
+    assert!(rt; !gate.missed.load(Ordering::SeqCst));
+    for calls in [&gate.first, &gate.second] {
+        assert_eq!(rt; calls.queued.load(Ordering::SeqCst), 1);
+        assert_eq!(rt; calls.inside.load(Ordering::SeqCst), 1);
+    }
+    assert_eq!(rt; count_of(out.bytes(), b"turn "), 2);
+    assert_eq!(rt; count_of(out.bytes(), b" left 0 \"get a\\r\\n\" \"END\\r\\n\"\n"), 1);
+    assert_eq!(rt; count_of(out.bytes(), b" left 0 \"get b\\r\\n\" \"END\\r\\n\"\n"), 1);
     Ok(())
 }
 

@@ -1,9 +1,9 @@
-use Rattle.std.proofs.Common.{◌≡◌, inl, inr, refl, subst}
+use Rattle.std.proofs.Common.{◌≡◌, Err, inl, inr, refl, ap, subst}
 use Rattle.std.proofs.lemmas.Result.{IfOk-weaker, IfErr-weaker, on_ok_weaker}
 use Rattle.command_texts.specs.declared.status.Status.TheVariants as statuses
 use Rattle.command_texts.specs.Ends.{IsRefusal, EndsEarly}
 use Rattle.command_texts.proofs.OnTopologies.{early_silent, err_again, not_refused}
-use Rattle.clof_tool.specs.Run.{PrintsSections, Refuses}
+use Rattle.clof_tool.specs.Run.{Refuses}
 use Rattle.clof_tool.proofs.Stops.{memory_again}
 use Rattle.clof_tool.proofs.answer.run_on.Goals as goal
 
@@ -25,9 +25,6 @@ returns-in-Ok-clause-answered g c =
       words_refused = λ status refuses. absurd (not_refused _ status (built.refused status refuses));
       input_refused = λ input status left refuses calm. served.input_refused input status left
           (subst (λ described. Refuses described input status) (built.only refuses.described refuses.built.describes) refuses.holds) calm;
-      complete = λ input printed left answers calm. served.complete input printed left answers.0
-          (subst (λ described. PrintsSections described input printed) (built.only answers.1.described answers.1.built.describes)
-          answers.1.holds) (λ rose. calm tt rose);
     }
 
 pub returns-in-Ok-clause-words_unread : goal.returns-in-Ok-clause-words_unread
@@ -52,6 +49,18 @@ returns-in-Err-clause-answered g c =
       words_refused = λ found refuses. err_again status found (c.in-Err.ensures.refused found refuses);
       input_refused = λ input found left refuses calm.
           inr (memory_again status (c.in-Err.ensures.complete refuses.described refuses.built));
-      complete = λ input printed left answers calm.
-          inr (memory_again status (c.in-Err.ensures.complete answers.1.described answers.1.built));
     }
+
+pub returns-in-Ok-clause-complete : goal.returns-in-Ok-clause-complete
+returns-in-Ok-clause-complete g c words accepted calm =
+    let input = accepted tt in
+    let built = c.in-Ok.ensures.ok in
+    c.served.ensures.complete input.input input.is_left
+    (λ status refuses. input.unrefused status (record { described = c.in-Ok.tree; built = built; holds = refuses }))
+    (λ rose. calm tt rose)
+
+pub returns-in-Err-clause-complete : goal.returns-in-Err-clause-complete
+returns-in-Err-clause-complete g c words accepted calm = elim c.in-Err.ensures.err [
+  | inl memory ↦ inr (ap Err memory)
+  | inr refuses ↦ absurd (words c.in-Err.status refuses)
+]

@@ -1,4 +1,4 @@
-use Rattle.std.proofs.Common.{◌≡◌, inl, inr, subst}
+use Rattle.std.proofs.Common.{Err, inl, inr, ap, subst}
 use Rattle.std.proofs.lemmas.Result.{IfOk-weaker, IfErr-weaker}
 use Rattle.command_texts.specs.Ends.{IsRefusal}
 use Rattle.command_texts.proofs.OnTopologies.{err_again, not_refused}
@@ -30,8 +30,10 @@ returns-in-Ok-clause-input_refused g c input status left refuses calm =
     c.selected.ensures.input_refused input status left refuses.1 calm
 
 pub returns-in-Ok-clause-complete : goal.returns-in-Ok-clause-complete
-returns-in-Ok-clause-complete g c input printed left short prints calm =
-    c.selected.ensures.complete input prints.prints.trace left short prints.prints.trace_is calm
+returns-in-Ok-clause-complete g c input left words none calm =
+    let terms = c.in-Ok.terms in
+    c.selected.ensures.complete input left
+    (λ status refuses. none status (record { weights = terms.weights.items; keep = terms.keep; are = c.in-Ok.ensures.ok }, refuses)) calm
 
 pub returns-in-Err-clause-cause : goal.returns-in-Err-clause-cause
 returns-in-Err-clause-cause g c refusal = elim c.in-Err.ensures.err [
@@ -48,6 +50,7 @@ returns-in-Err-clause-input_refused g c input status left refuses calm =
     inr (memory_again c.in-Err.status (c.in-Err.ensures.complete refuses.0))
 
 pub returns-in-Err-clause-complete : goal.returns-in-Err-clause-complete
-returns-in-Err-clause-complete g c input printed left short prints calm =
-    inr (memory_again c.in-Err.status
-    (c.in-Err.ensures.complete (record { weights = prints.weights; keep = prints.keep; are = prints.are })))
+returns-in-Err-clause-complete g c input left words none calm = elim c.in-Err.ensures.err [
+  | inl memory ↦ inr (ap Err memory)
+  | inr refuses ↦ absurd (words c.in-Err.status refuses)
+]

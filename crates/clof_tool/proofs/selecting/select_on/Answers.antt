@@ -1,4 +1,4 @@
-use Rattle.std.proofs.Common.{◌≡◌, ◌⊎◌, ℕ, List, Option, inl, inr, refl, subst}
+use Rattle.std.proofs.Common.{◌≡◌, ◌⊎◌, ℕ, List, Option, Err, inl, inr, refl, ap, subst}
 use Rattle.std.proofs.lemmas.Result.{IfOk-weaker, IfErr-weaker, on_ok_weaker}
 use Rattle.synth_text.specs.declared.description.Description.{Description}
 use Rattle.command_words.specs.Asked.{Select, Selection}
@@ -6,10 +6,9 @@ use Rattle.command_words.specs.Plain.{plain_selection}
 use Rattle.command_texts.specs.declared.status.Status.{Status}
 use Rattle.command_texts.specs.declared.status.Status.TheVariants as statuses
 use Rattle.command_texts.specs.Ends.{IsRefusal, EndsEarly}
-use Rattle.command_texts.specs.SelectText.{RefusesTerms, PrintsSelection}
+use Rattle.command_texts.specs.SelectText.{RefusesTerms}
 use Rattle.command_texts.specs.TopoText.{IsBuilt}
 use Rattle.command_texts.proofs.OnTopologies.{early_silent, err_again, not_refused}
-use Rattle.clof_tool.specs.Run.{OnDescribed}
 use Rattle.clof_tool.specs.Selecting.{RefusesInput}
 use Rattle.clof_tool.specs.Outcome.{FoundRefused, HasCause}
 use Rattle.clof_tool.proofs.Stops.{memory_again}
@@ -48,10 +47,6 @@ returns-in-Ok-clause-answered g c =
       ];
       input_refused = λ input status left refuses calm. found.input_refused input status left
           (subst (RefusesInput asked input status) (built.only refuses.described refuses.built.describes) refuses.holds) calm;
-      complete = λ input printed left answers calm. found.complete input printed left answers.0
-          (subst (λ described. PrintsSelection described asked input printed)
-          (built.only answers.1.described answers.1.built.describes) answers.1.holds)
-          (λ rose. calm tt rose);
     }
 
 pub returns-in-Ok-clause-words_unread : goal.returns-in-Ok-clause-words_unread
@@ -84,6 +79,19 @@ returns-in-Err-clause-answered g c =
       ];
       input_refused = λ input found left refuses calm.
           inr (memory_again status (c.in-Err.ensures.complete refuses.described refuses.built));
-      complete = λ input printed left answers calm.
-          inr (memory_again status (c.in-Err.ensures.complete answers.1.described answers.1.built));
     }
+
+pub returns-in-Ok-clause-complete : goal.returns-in-Ok-clause-complete
+returns-in-Ok-clause-complete g c words accepted calm =
+    let input = accepted tt in
+    let built = c.in-Ok.ensures.ok in
+    c.select_in.ensures.complete input.input input.is_left
+    (λ status refuses. words status (inr (record { described = c.in-Ok.tree; built = built; holds = refuses })))
+    (λ status refuses. input.unrefused status (record { described = c.in-Ok.tree; built = built; holds = refuses }))
+    (λ rose. calm tt rose)
+
+pub returns-in-Err-clause-complete : goal.returns-in-Err-clause-complete
+returns-in-Err-clause-complete g c words accepted calm = elim c.in-Err.ensures.err [
+  | inl memory ↦ inr (ap Err memory)
+  | inr refuses ↦ absurd (words c.in-Err.status (inl refuses))
+]

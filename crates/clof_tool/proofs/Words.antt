@@ -1,0 +1,44 @@
+-- What is answered by words alone: where no status refuses them, there is a text, or memory is wanting.
+use Rattle.std.proofs.Common.{◌≡◌, ◌⊎◌, ℕ, List, Err, refl, sym, subst}
+use Rattle.std.specs.Prelude.{Bool, IfErr, IsOk, Result}
+use Rattle.std.specs.declared.vec.Vec.{Vec}
+use Rattle.std.specs.declared.alloc.Global.{Global}
+use Rattle.cpu_set.specs.declared.fault.SetFault.{SetFault}
+use Rattle.command_words.specs.Asked.{Calculation, Distribution}
+use Rattle.command_texts.specs.declared.status.Fault.TheVariants.{Set as SetOf}
+use Rattle.command_texts.specs.declared.status.Status.{Status}
+use Rattle.command_texts.specs.declared.status.Status.TheVariants as statuses
+use Rattle.command_texts.specs.CalcText.{CalcRefuses}
+use Rattle.command_texts.specs.DistribText.{DistribRefuses}
+use Rattle.command_texts.specs.SetText.{IsRefused}
+use Rattle.command_texts.specs.TopoText.{TopoRefuses}
+use Rattle.clof_tool.specs.Outcome.{SetRefuses}
+use Rattle.clof_tool.proofs.Stops.{complete_of}
+
+-- a refusal of `set`
+set_refuses : (list : Bool) (text : List ℕ) (status : Status)
+    → (fault : SetFault) × (status ≡ statuses.Malformed (SetOf fault)) × IsRefused list text fault → SetRefuses list text status
+set_refuses list text status refuses = subst (SetRefuses list text) (sym refuses.1) (refuses.0, refl, refuses.2)
+
+pub set_complete : (made : Result (Vec ℕ Global) Status) (list : Bool) (text : List ℕ)
+    → IfErr made (λ status. (status ≡ statuses.OutOfMemory)
+    ⊎ ((fault : SetFault) × (status ≡ statuses.Malformed (SetOf fault)) × IsRefused list text fault))
+    → ((status : Status) → SetRefuses list text status → ⊥) → IsOk made ⊎ (made ≡ Err statuses.OutOfMemory)
+set_complete made list text cause none =
+    complete_of made (λ status. (fault : SetFault) × (status ≡ statuses.Malformed (SetOf fault)) × IsRefused list text fault) cause
+    (λ status refuses. none status (set_refuses list text status refuses))
+
+pub topo_complete : (made : Result (Vec ℕ Global) Status) (text : List ℕ)
+    → IfErr made (λ status. (status ≡ statuses.OutOfMemory) ⊎ TopoRefuses text status)
+    → ((status : Status) → TopoRefuses text status → ⊥) → IsOk made ⊎ (made ≡ Err statuses.OutOfMemory)
+topo_complete made text cause none = complete_of made (TopoRefuses text) cause none
+
+pub calc_complete : (made : Result (Vec ℕ Global) Status) (asked : Calculation)
+    → IfErr made (λ status. (status ≡ statuses.OutOfMemory) ⊎ CalcRefuses asked status)
+    → ((status : Status) → CalcRefuses asked status → ⊥) → IsOk made ⊎ (made ≡ Err statuses.OutOfMemory)
+calc_complete made asked cause none = complete_of made (CalcRefuses asked) cause none
+
+pub distrib_complete : (made : Result (Vec ℕ Global) Status) (asked : Distribution)
+    → IfErr made (λ status. (status ≡ statuses.OutOfMemory) ⊎ DistribRefuses asked status)
+    → ((status : Status) → DistribRefuses asked status → ⊥) → IsOk made ⊎ (made ≡ Err statuses.OutOfMemory)
+distrib_complete made asked cause none = complete_of made (DistribRefuses asked) cause none
