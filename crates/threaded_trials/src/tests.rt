@@ -76,7 +76,8 @@ fn two_callers_meet_at_the_lock(rt: HostRuntime) -> Result<(), Fail> {
     let one: &[u8] = b"turn 0 caller 0 pu 0 climb 0 tests 0 left 0 \"get a\\r\\n\" \"END\\r\\n\"\n\
           turn 1 caller 1 pu 1 climb 0 tests 0 left 0 \"get a\\r\\n\" \"END\\r\\n\"\n\
           caller 0 pu 0 commands 1 rest 0\ncaller 1 pu 1 commands 1 rest 0\n";
-    let other: &[u8] = b"turn 0 caller 1 pu 1 climb 0 tests 0 left 0 \"get a\\r\\n\" \"END\\r\\n\"\n\
+    let other: &[u8] =
+        b"turn 0 caller 1 pu 1 climb 0 tests 0 left 0 \"get a\\r\\n\" \"END\\r\\n\"\n\
           turn 1 caller 0 pu 0 climb 0 tests 0 left 0 \"get a\\r\\n\" \"END\\r\\n\"\n\
           caller 0 pu 0 commands 1 rest 0\ncaller 1 pu 1 commands 1 rest 0\n";
     assert!(rt; text.as_slice() == one || text.as_slice() == other);
