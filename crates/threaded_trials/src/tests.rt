@@ -11,6 +11,7 @@ use threaded_runner::run;
 const LOOKS: u64 = 10_000_000;
 
 // A gate at which the first of two callers that holds waits until the other is queued.
+#[derive(Drop)]
 struct Meeting {
     queued: [AtomicU64; 2],
     inside: [AtomicU64; 2],
