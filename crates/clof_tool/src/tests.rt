@@ -283,8 +283,14 @@ fn holds_while_another_is_queued(rt: HostRuntime) -> Result<(), Fail> {
         assert_eq!(rt; calls.inside.load(Ordering::SeqCst), 1);
     }
     assert_eq!(rt; count_of(out.bytes(), b"turn "), 2);
-    assert_eq!(rt; count_of(out.bytes(), b" left 0 \"get a\\r\\n\" \"END\\r\\n\"\n"), 1);
-    assert_eq!(rt; count_of(out.bytes(), b" left 0 \"get b\\r\\n\" \"END\\r\\n\"\n"), 1);
+    assert_eq!(rt;
+        count_of(out.bytes(), b" left 0 \"get a\\r\\n\" \"END\\r\\n\"\n"),
+        1
+    );
+    assert_eq!(rt;
+        count_of(out.bytes(), b" left 0 \"get b\\r\\n\" \"END\\r\\n\"\n"),
+        1
+    );
     Ok(())
 }
 

@@ -59,15 +59,22 @@ pub fn run_threads<'a, R: Threads + Wait + Sync, G: Gate + Sync>(
 ) -> Crew<FlatPass>
     requires sound { ⟦<FlatLock<'a> as Composed<Journal<'a>>>⟧.sound lock.now }
     requires lowest { ⟦<FlatLock<'a> as Composed<Journal<'a>>>⟧.level lock.now ≡ 0 }
-    requires passes { AreAll (λ p. (⟦<FlatPass as Resting>⟧.rest p).context) (⟦<FlatLock<'a> as Composed<Journal<'a>>>⟧.has lock.now) (⟦<FlatLock<'a> as Composed<Journal<'a>>>⟧.level lock.now) (⟦<FlatLock<'a> as Composed<Journal<'a>>>⟧.tag lock.now)
+    requires passes { AreAll (λ p. (⟦<FlatPass as Resting>⟧.rest p).context) (⟦<FlatLock<'a> as Composed<Journal<'a>>>⟧.has lock.now)
+        (⟦<FlatLock<'a> as Composed<Journal<'a>>>⟧.level lock.now) (⟦<FlatLock<'a> as Composed<Journal<'a>>>⟧.tag lock.now)
         (⟦<FlatLock<'a> as Composed<Journal<'a>>>⟧.count lock.now) passes.items }
-    requires count { ⟦<FlatLock<'a> as Composed<Journal<'a>>>⟧.count lock.now ≡ callers_of (course_of (⟦<FlatLock<'a> as Composed<Journal<'a>>>⟧.tag lock.now)).shape }
-    requires known { length (course_of (⟦<FlatLock<'a> as Composed<Journal<'a>>>⟧.tag lock.now)).quotas ≡ callers_of (course_of (⟦<FlatLock<'a> as Composed<Journal<'a>>>⟧.tag lock.now)).shape }
-    requires shares { shares.items ≡ new_shares (course_of (⟦<FlatLock<'a> as Composed<Journal<'a>>>⟧.tag lock.now)).name (course_of (⟦<FlatLock<'a> as Composed<Journal<'a>>>⟧.tag lock.now)).quotas }
-    requires sections { lists_in (course_of (⟦<FlatLock<'a> as Composed<Journal<'a>>>⟧.tag lock.now)).payload ≡ map (λ section. section.bytes.now) sections.now }
-    requires quotas { (course_of (⟦<FlatLock<'a> as Composed<Journal<'a>>>⟧.tag lock.now)).quotas ≡ map (λ section. length (commands_of section.bytes.now)) sections.now }
-    ensures crew { IsCrew ⟦<FlatPass as Resting>⟧.rest (⟦<FlatLock<'a> as Composed<Journal<'a>>>⟧.has lock.now) (⟦<FlatLock<'a> as Composed<Journal<'a>>>⟧.level lock.now) (⟦<FlatLock<'a> as Composed<Journal<'a>>>⟧.count lock.now) (⟦<FlatLock<'a> as Composed<Journal<'a>>>⟧.tag lock.now)
-        result }
+    requires count { ⟦<FlatLock<'a> as Composed<Journal<'a>>>⟧.count lock.now
+        ≡ callers_of (course_of (⟦<FlatLock<'a> as Composed<Journal<'a>>>⟧.tag lock.now)).shape }
+    requires known { length (course_of (⟦<FlatLock<'a> as Composed<Journal<'a>>>⟧.tag lock.now)).quotas
+        ≡ callers_of (course_of (⟦<FlatLock<'a> as Composed<Journal<'a>>>⟧.tag lock.now)).shape }
+    requires shares { shares.items ≡ new_shares (course_of (⟦<FlatLock<'a> as Composed<Journal<'a>>>⟧.tag lock.now)).name
+        (course_of (⟦<FlatLock<'a> as Composed<Journal<'a>>>⟧.tag lock.now)).quotas }
+    requires sections { lists_in (course_of (⟦<FlatLock<'a> as Composed<Journal<'a>>>⟧.tag lock.now)).payload
+        ≡ map (λ section. section.bytes.now) sections.now }
+    requires quotas { (course_of (⟦<FlatLock<'a> as Composed<Journal<'a>>>⟧.tag lock.now)).quotas
+        ≡ map (λ section. length (commands_of section.bytes.now)) sections.now }
+    ensures crew { IsCrew ⟦<FlatPass as Resting>⟧.rest (⟦<FlatLock<'a> as Composed<Journal<'a>>>⟧.has lock.now)
+        (⟦<FlatLock<'a> as Composed<Journal<'a>>>⟧.level lock.now) (⟦<FlatLock<'a> as Composed<Journal<'a>>>⟧.count lock.now)
+        (⟦<FlatLock<'a> as Composed<Journal<'a>>>⟧.tag lock.now) result }
 {
     passes_are_shared();
     let prepared = match prepare(alloc, lock, passes, shares, sections) {
