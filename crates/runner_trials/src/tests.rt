@@ -244,8 +244,7 @@ fn runs_callers_by_one_moment(rt: HostRuntime) -> Result<(), Fail> {
         b"moment 149\r\nset a 0 1 1\r\ny\r\ngets a\r\nmoment 151\r\ngets a\r\n",
         &turns,
     )?;
-    let want =
-        b"turn 0 caller 0 pu 0 climb 0 tests 0 left 0 \"moment 100\\r\\n\" \"OK\\r\\n\"\n\
+    let want = b"turn 0 caller 0 pu 0 climb 0 tests 0 left 0 \"moment 100\\r\\n\" \"OK\\r\\n\"\n\
           turn 1 caller 0 pu 0 climb 0 tests 0 left 0 \"set a 0 50 1\\r\\nx\\r\\n\" \"STORED\\r\\n\"\n\
           turn 2 caller 0 pu 0 climb 0 tests 0 left 0 \"moment 149\\r\\n\" \"OK\\r\\n\"\n\
           turn 3 caller 0 pu 0 climb 0 tests 0 left 0 \"get a\\r\\n\" \"VALUE a 0 1\\r\\nx\\r\\nEND\\r\\n\"\n\
