@@ -14,10 +14,10 @@ LITERAL = r'b"(?:[^"\\]|\\[\s\S])*"'
 
 
 @contextlib.contextmanager
-def server():
-    """A new memcached with one thread, which ends with the block."""
-    process = subprocess.Popen(["memcached", "-u", "nobody", "-l", "127.0.0.1", "-p", str(PORT), "-U", "0", "-t", "1", "-m", "1024"],
-                               stderr=subprocess.DEVNULL)
+def server(threads=1):
+    """A new memcached with so many threads, which ends with the block."""
+    words = ["-u", "nobody", "-l", "127.0.0.1", "-p", str(PORT), "-U", "0", "-t", str(threads), "-m", "1024"]
+    process = subprocess.Popen(["memcached", *words], stderr=subprocess.DEVNULL)
     try:
         for _ in range(100):
             with contextlib.suppress(ConnectionRefusedError), socket.create_connection(("127.0.0.1", PORT), timeout=2):

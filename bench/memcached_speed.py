@@ -6,7 +6,10 @@ clof is timed as a whole process whose text goes to /dev/null, and memcached wit
 on one connection to the last reply, which the script drops too. Each row is the best of five, taken in turn. Rows: set, get,
 incr, expiring (`set` with expiry times; each as many commands as fit 16 MiB), moments (100,000 items that expire one after the other,
 of which each `moment` removes one, which is stored again), lines (16 MiB of `get a`), keys (20,000 keys), growth (1 to 16 MiB).
+set2, set4, get2, get4, incr2 and incr4 have as many sections of the same commands, and as many threads and connections of memcached, each
+asked by a process of its own.
 """
+import multiprocessing
 import os
 import pathlib
 import sys
@@ -68,11 +71,11 @@ def commands_of(row, limit=LIMIT):
     return fill([], [b"get a\r\n"], limit)
 
 
-def run(text):
-    """Seconds and the greatest resident memory, in MB, of the program on one section."""
+def run(*texts):
+    """Seconds and the greatest resident memory, in MB, of the program on a section for each text."""
     with tempfile.TemporaryDirectory() as folder:
         place = pathlib.Path(folder) / "in"
-        place.write_bytes(b"worker * %d\n%s\n" % (len(text), text))
+        place.write_bytes(b"".join(b"worker * %d\n%s\n" % (len(text), text) for text in texts))
         with open(place) as source, open(os.devnull, "wb") as out:
             streams = [(os.POSIX_SPAWN_DUP2, source.fileno(), 0), (os.POSIX_SPAWN_DUP2, out.fileno(), 1)]
             began = time.perf_counter()
@@ -92,12 +95,43 @@ def answered(text):
         return time.perf_counter() - began
 
 
+def ask_when(begun, text):
+    """Asks once all that wait for the barrier do."""
+    begun.wait()
+    ask(text)
+
+
+def answered_together(texts):
+    """Seconds that a new memcached takes for texts on as many connections, with as many threads."""
+    begun = multiprocessing.Barrier(len(texts) + 1)
+    with server(len(texts)):
+        askers = [multiprocessing.Process(target=ask_when, args=(begun, text)) for text in texts]
+        for asker in askers:
+            asker.start()
+        begun.wait()
+        began = time.perf_counter()
+        for asker in askers:
+            asker.join()
+        return time.perf_counter() - began
+
+
+def compare(row, count, times):
+    ours, theirs = (count / min(side) / 1e6 for side in zip(*times))
+    print(f"{row:8} {count:9,} commands  clof {ours:6.2f}  memcached {theirs:6.2f} million a second  {ours / theirs:5.2f} times")
+
+
 def beside(row):
     commands = commands_of(row)
     text = b"".join(commands)
-    times = [(run(text)[0], answered(text)) for _ in range(RUNS)]
-    ours, theirs = (len(commands) / min(side) / 1e6 for side in zip(*times))
-    print(f"{row:8} {len(commands):9,} commands  clof {ours:6.2f}  memcached {theirs:6.2f} million a second  {ours / theirs:5.2f} times")
+    compare(row, len(commands), [(run(text)[0], answered(text)) for _ in range(RUNS)])
+
+
+def together(row):
+    """A row whose last sign is the number of its callers."""
+    callers = int(row[-1])
+    commands = commands_of(row[:-1], (LIMIT - 100) // callers)
+    texts = [b"".join(commands)] * callers
+    compare(row, callers * len(commands), [(run(*texts)[0], answered_together(texts)) for _ in range(RUNS)])
 
 
 def alone(row, commands):
@@ -124,8 +158,12 @@ def main(rows):
             alone(row, sets(20_000))
         elif row == "growth":
             growth()
+        elif row[-1].isdigit():
+            together(row)
         else:
             beside(row)
 
 
-main(sys.argv[1:] or ["set", "get", "incr", "expiring", "moments", "lines", "keys", "growth"])
+SHARED = ["set2", "set4", "get2", "get4", "incr2", "incr4"]
+
+main(sys.argv[1:] or ["set", "get", "incr", *SHARED, "expiring", "moments", "lines", "keys", "growth"])
