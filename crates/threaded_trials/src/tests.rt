@@ -117,11 +117,11 @@ fn eight_callers_count_together(rt: HostRuntime) -> Result<(), Fail> {
         bytes: b"add n 0 0 1\r\n0\r\nincr n 1\r\nincr n 1\r\nincr n 1\r\n",
     };
     let text = run(&rt, rt.alloc(), &[section; 8], &OpenGate)?;
-    let mut stored = 0;
-    let mut last = 0;
+    let mut stored: u32 = 0;
+    let mut last: u32 = 0;
     for line in text.as_slice().split(|byte| *byte == b'\n') {
-        stored += u32::from(line.ends_with(b"\"STORED\\r\\n\""));
-        last += u32::from(line.ends_with(b" \"24\\r\\n\""));
+        stored = stored.wrapping_add(u32::from(line.ends_with(b"\"STORED\\r\\n\"")));
+        last = last.wrapping_add(u32::from(line.ends_with(b" \"24\\r\\n\"")));
     }
     assert!(rt; stored == 1 && last == 1);
     Ok(())
