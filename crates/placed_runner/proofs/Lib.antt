@@ -1,3 +1,4 @@
+pub mod Appending
 pub mod Cuts
 pub mod Escapes
 pub mod Histories
