@@ -1,6 +1,7 @@
 pub mod Numbers
 pub mod Strides
-pub mod Openings
+pub mod Sizes
+pub mod Parts
 pub mod Lines
 pub mod Readings
 pub mod Replays

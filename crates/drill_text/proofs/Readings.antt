@@ -39,6 +39,7 @@ use Rattle.mc_text.specs.Reading.{commands_of, rest_of}
 use Rattle.mc_text.specs.Laws.{EachSectionIsRead, OneReading}
 use Rattle.drill_text.specs.Drill.{addition, additions, below, delta, drill_section, key_name, keys, of_caller, opening}
 use Rattle.drill_text.proofs.Numbers.{below_within}
+use Rattle.drill_text.proofs.Sizes.{keys_are}
 use Rattle.drill_text.proofs.Lines.{
   addition_above,
   addition_front,
@@ -137,10 +138,6 @@ plain_ends (command ∷ more) rest plain none = rw plain.0.goes_on (plain_ends m
 nothing_begins : NoCommand []
 nothing_begins = λ command count begins.
     absurd (omega (arith, ap length begins.cut.parts, length-append begins.content (10 ∷ begins.behind)))
-
-pub keys_are : keys ≡ 8
-unfolding keys
-keys_are = refl
 
 section_is : (drill caller : ℕ) → drill_section drill caller ≡ spellings (commands_in drill caller) ++ []
 unfolding drill_section

@@ -75,7 +75,8 @@ use Rattle.drill_text.specs.Drill.{
 }
 use Rattle.drill_text.specs.Sums.{HoldsSums}
 use Rattle.drill_text.proofs.Numbers.{below_within, by_class, same_sum, same_up, sum_by-filter, sum_by-map, sum_up, zero_sum}
-use Rattle.drill_text.proofs.Readings.{addition_command, commands_in, keys_are, opening_command}
+use Rattle.drill_text.proofs.Readings.{addition_command, commands_in, opening_command}
+use Rattle.drill_text.proofs.Sizes.{additions_are, callers_are, keys_are}
 use Rattle.drill_text.proofs.Replays.{
   Counted,
   added_by,
@@ -86,14 +87,6 @@ use Rattle.drill_text.proofs.Replays.{
   same_names,
   total,
 }
-
-pub callers_are : callers ≡ 64
-unfolding callers
-callers_are = refl
-
-pub additions_are : additions ≡ 20000
-unfolding additions
-additions_are = refl
 
 -- ---- the commands of a caller, by their places
 

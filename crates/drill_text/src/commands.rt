@@ -27,6 +27,7 @@ pub fn sections(alloc: Global, drill: u32) -> Result<Vec<Vec<u8>>, OutOfMemory>
 }
 
 // The section of a caller.
+#[tactic(auto, unfolding(crate::specs::Drill::drill_section))]
 fn section(alloc: Global, drill: u32, caller: u32) -> Result<Vec<u8>, OutOfMemory>
     requires { caller < 64 }
     ensures { IfOk result (λ section. section.items ≡ drill_section drill caller) }
@@ -48,7 +49,6 @@ fn push_openings(section: &mut Vec<u8>) -> Result<(), AllocError>
 }
 
 // Appends the command that stores 0 under a key.
-#[tactic(auto, using(crate::proofs::Openings::opening_parts))]
 fn push_opening(section: &mut Vec<u8>, key: u32) -> Result<(), AllocError>
     ensures { OnOk result (section.new.items ≡ section.old.items ++ opening key) }
 {

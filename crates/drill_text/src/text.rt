@@ -40,7 +40,6 @@ fn told(alloc: Global, drill: u32, store: &Store) -> Result<Vec<u8>, OutOfMemory
 }
 
 // Appends the first line of a drill's text.
-#[tactic(auto, unfolding(crate::specs::Drill::heading))]
 fn push_heading(text: &mut Vec<u8>, drill: u32) -> Result<(), AllocError>
     ensures { OnOk result (text.new.items ≡ text.old.items ++ heading drill) }
 {
