@@ -320,7 +320,7 @@ module _ (entries : List Logged) (w : ℕ) (so_far : Counted entries) where
             | inl same ↦
                 let one : cond {A = ℕ} (w == other) 1 0 ≡ 1 = ap (λ b. cond b 1 0) same in
                 let own_is : length (own entries other) ≡ key =
-                    ap (λ (n : ℕ). length (own entries n)) (sym (eqb-true w other same)) ∙ place in
+                ap (λ (n : ℕ). length (own entries n)) (sym (eqb-true w other same)) ∙ place in
                 elim (cases_order k key) [
                   | inl is ↦ subst (λ (n : ℕ). Holds (after_opening (store_now entries) key) n (total n entries)) (sym is)
                       (opens (store_now entries) key (total key entries) small (so_far.each key small))
