@@ -1,5 +1,24 @@
 -- Texts that are written part by part.
-use Rattle.std.proofs.Common.{◌≡◌, ℕ, ◌<◌, ◌+◌, List, [], ◌∷◌, ◌++◌, codes, refl, sym, ap, ◌∙◌, append_assoc, None, Some, Option, option_map}
+use Rattle.std.proofs.Common.{
+  ◌≡◌,
+  ℕ,
+  ◌<◌,
+  ◌+◌,
+  List,
+  [],
+  ◌∷◌,
+  ◌++◌,
+  codes,
+  refl,
+  sym,
+  ap,
+  ◌∙◌,
+  append_assoc,
+  None,
+  Some,
+  Option,
+  option_map,
+}
 use Rattle.std.specs.Prelude.{decimal, flat_map, is_ok, Err, Ok, OnOk, Result, if◌then◌else◌}
 use Rattle.std.specs.List.{AllByRecursion}
 use Rattle.std.specs.Option.{option_map_or}

@@ -1,5 +1,28 @@
 -- How large a drill is.
-use Rattle.std.proofs.Common.{◌≡◌, ℕ, ◌+◌, ◌*◌, ◌%◌, ◌^◌, ◌<◌, ◌≤◌, List, [], ◌∷◌, ◌++◌, length, map, codes, Vec, refl, sym, ap, ◌∙◌, subst, arith}
+use Rattle.std.proofs.Common.{
+  ◌≡◌,
+  ℕ,
+  ◌+◌,
+  ◌*◌,
+  ◌%◌,
+  ◌^◌,
+  ◌<◌,
+  ◌≤◌,
+  List,
+  [],
+  ◌∷◌,
+  ◌++◌,
+  length,
+  map,
+  codes,
+  Vec,
+  refl,
+  sym,
+  ap,
+  ◌∙◌,
+  subst,
+  arith,
+}
 use Rattle.std.specs.Prelude.{All, decimal, filter, flat_map, sum_by, ◌==◌}
 use Rattle.std.specs.declared.alloc.Global.{Global}
 use Rattle.std.specs.List.{range_with_len}
@@ -98,7 +121,8 @@ all_few drill =
     let size = length-map-range_with_len (drill_section drill) 0 callers in
     omega (arith, bound, size, callers_are)
 
-pub sections_few : (drill : ℕ) (sections : List (Vec ℕ Global)) → map (λ (section : Vec ℕ Global). section.items) sections ≡ drill_sections drill
+pub sections_few : (drill : ℕ) (sections : List (Vec ℕ Global))
+    → map (λ (section : Vec ℕ Global). section.items) sections ≡ drill_sections drill
     → sum_by (λ (section : Vec ℕ Global). length section.items) sections < 2 ^ 32
 sections_few drill sections are =
     subst (λ (n : ℕ). n < 2 ^ 32)

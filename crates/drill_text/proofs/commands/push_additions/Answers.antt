@@ -13,7 +13,9 @@ loop-number-init c =
     record {
       rest = omega (arith, small);
       near = omega (arith, small);
-      items = sym (ap (λ (all : List ℕ). before ++ flat_map (addition c.args.drill) all) (first_stride c.args.caller small) ∙ append-nil before);
+      items =
+          sym (ap (λ (all : List ℕ). before ++ flat_map (addition c.args.drill) all) (first_stride c.args.caller small)
+          ∙ append-nil before);
     }
 
 pub loop-number-preserved : goal.loop-number-preserved
