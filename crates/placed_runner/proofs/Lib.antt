@@ -6,5 +6,6 @@ pub mod Numbered
 pub mod Printed
 pub mod Texts
 pub mod Readings
+pub mod Spreads
 pub mod Uniqueness
 pub mod Walks
