@@ -1,8 +1,8 @@
 -- Sections keep their bytes when their callers are placed.
-use Rattle.std.proofs.Common.{◌≡◌, ℕ, ◌+◌, List, [], ◌∷◌, Vec, map, refl, sym, ap, ◌∙◌}
+use Rattle.std.proofs.Common.{◌≡◌, ℕ, ◌+◌, List, [], ◌∷◌, Vec, Ok, Err, map, refl, ap, ◌∙◌}
 use Rattle.std.specs.declared.alloc.Global.{Global}
 use Rattle.std.specs.List.{enumerate_from}
-use Rattle.std.specs.Prelude.{length}
+use Rattle.std.specs.Prelude.{length, Result, IfOk}
 use Rattle.synth_text.specs.declared.description.Description.{Description}
 use Rattle.placed_runner.specs.declared.sections.Section.{Section}
 use Rattle.placed_runner.specs.Sections.{Placed, Written, anywhere, placed, placed_at}
@@ -32,3 +32,12 @@ spread_bytes described sections given are =
     ∙ placed_bytes described (length (map (λ (bytes : Vec ℕ Global). anywhere bytes.items) given)) 0
     (map (λ (bytes : Vec ℕ Global). anywhere bytes.items) given)
     ∙ anywhere_bytes given
+
+-- what is told of sections that could be placed
+pub spread_all : {E : Type 0} (described : Description) (placing : Result (Vec Section Global) E) (given : List (Vec ℕ Global))
+    (written : List Written) → written ≡ map (λ (bytes : Vec ℕ Global). anywhere bytes.items) given
+    → IfOk placing (λ (sections : Vec Section Global). map section_view sections.items ≡ placed described written)
+    → IfOk placing (λ (sections : Vec Section Global).
+    map (λ (section : Section). section.bytes.now) sections.items ≡ map (λ (bytes : Vec ℕ Global). bytes.items) given)
+spread_all described (Ok sections) given written is are = spread_bytes described sections.items given (are ∙ ap (placed described) is)
+spread_all described (Err error) given written is are = tt
