@@ -134,4 +134,5 @@ def main():
     print(f"{runs} of {runs} texts are runs; in {differing} of {asked.inputs} inputs the order of turns differed")
 
 
-main()
+if __name__ == "__main__":
+    main()

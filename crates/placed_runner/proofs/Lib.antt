@@ -1,3 +1,4 @@
+pub mod Appending
 pub mod Cuts
 pub mod Escapes
 pub mod Histories
@@ -5,5 +6,6 @@ pub mod Numbered
 pub mod Printed
 pub mod Texts
 pub mod Readings
+pub mod Spreads
 pub mod Uniqueness
 pub mod Walks

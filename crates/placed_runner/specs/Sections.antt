@@ -4,6 +4,7 @@ use Rattle.std.specs.List.{enumerate_from}
 use Rattle.byte_text.specs.Cuts.{IsCutAt}
 use Rattle.synth_text.specs.declared.description.Description.{Description}
 use Rattle.placed_runner.specs.declared.place.Place.{Place}
+use Rattle.placed_runner.specs.declared.place.Place.TheVariants.{Anywhere}
 use Rattle.placed_runner.specs.declared.fault.SectionFault.{SectionFault}
 use Rattle.placed_runner.specs.declared.fault.SectionFault.TheVariants.{BadHead, BadPlace, Short, TooManyCallers, OutOfMemory}
 use Rattle.placed_runner.specs.Heads.{Head, head_of}
@@ -17,6 +18,10 @@ caller_limit = 256
 pub record Written : Type 0 where
   pub place : Place
   pub bytes : List ℕ
+
+-- a section whose caller may stand on any PU
+abbrev pub anywhere : List ℕ → Written
+anywhere bytes = record { place = Anywhere; bytes = bytes }
 
 -- a section with its caller's PU
 pub record Placed : Type 0 where

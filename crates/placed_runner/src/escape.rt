@@ -1,5 +1,5 @@
 // How bytes are printed between quotes.
-ghost use Rattle.std.specs.Prelude.{◌≡◌, ◌++◌, ◌&&◌, not, ◌==◌, nat_lt, ◌<◌, length, IfSome, MatchOption, OnOk};
+ghost use Rattle.std.specs.Prelude.{◌≡◌, ◌++◌, ◌&&◌, not, ◌==◌, nat_lt, ◌<◌, ◌≤◌, true, drop, length, take, IfSome, MatchOption, OnOk};
 ghost use Rattle.placed_runner.specs.Text.{escaped, escaped_byte, quoted};
 
 use byte_text::hex_digit;
@@ -43,19 +43,49 @@ fn split_plain(text: &[u8]) -> Option<(&[u8], u8, &[u8])>
         (escaped text.now ≡ text.now)
         (λ parts. escaped text.now ≡ parts.0.now ++ (escaped_byte parts.1 ++ escaped parts.2.now)) }
 {
-    for (place, byte) in text.iter().enumerate() {
-        if !is_plain(*byte) {
-            return Some((&text[..place], *byte, &text[place + 1..]));
+    for place in plain_blocks(text)..text.len() {
+        let byte = text[place];
+        if !is_plain(byte) {
+            return Some((&text[..place], byte, &text[place + 1..]));
         }
     }
     None
+}
+
+// How many bytes are looked at together.
+const BLOCK: usize = 8;
+
+// How many bytes the blocks in front have all of whose bytes stand for themselves.
+fn plain_blocks(text: &[u8]) -> usize
+    ensures within { result ≤ length text.now }
+    ensures plain { escaped text.now ≡ take result text.now ++ escaped (drop result text.now) }
+{
+    let mut rest = text;
+    while let Some((block, behind)) = rest.split_at_checked(BLOCK) {
+        if !are_plain(block) {
+            break;
+        }
+        rest = behind;
+    }
+    text.len() - rest.len()
+}
+
+// Whether each byte stands for itself. All are looked at, whatever the first ones are.
+fn are_plain(block: &[u8]) -> bool
+    ensures { result ≡ true → escaped block.now ≡ block.now }
+{
+    let mut plain = true;
+    for byte in block {
+        plain &= is_plain(*byte);
+    }
+    plain
 }
 
 // Whether a byte stands for itself between quotes.
 fn is_plain(byte: u8) -> bool
     ensures { result ≡ (nat_lt 31 byte && nat_lt byte 127 && not (byte == 34) && not (byte == 92)) }
 {
-    byte > 31 && byte < 127 && byte != b'"' && byte != b'\\'
+    (byte > 31) & (byte < 127) & (byte != b'"') & (byte != b'\\')
 }
 
 // Appends a byte as it is printed between quotes.

@@ -11,9 +11,11 @@ mod place;
 mod printing;
 mod sections;
 mod size;
+mod spreading;
 
 pub use fault::SectionFault;
 pub use gate::{Gate, OpenGate};
 pub use laws::{one_answer, one_history};
 pub use printing::text;
 pub use sections::{Section, read_sections};
+pub use spreading::spread;

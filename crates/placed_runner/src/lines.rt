@@ -50,10 +50,13 @@ fn push_place(
     push_labelled(out, b" pu ", u64::from(pu_of(sections, caller)))
 }
 
-// Appends the other numbers of a turn's line: how it found and left the lock.
+// Appends the other numbers of a turn's line: how it found and left the lock. Under a lock of one level they are all 0.
 fn push_levels(out: &mut Vec<u8>, turn: Turn) -> Result<(), AllocError>
     ensures { OnOk result (out.new.items ≡ out.old.items ++ labelled (level_numbers turn)) }
 {
+    if turn.climb == 0 && turn.tests == 0 && turn.left == 0 {
+        return out.extend_from_slice(b" climb 0 tests 0 left 0");
+    }
     push_labelled(out, b" climb ", u64::from(turn.climb))?;
     push_labelled(out, b" tests ", u64::from(turn.tests))?;
     push_labelled(out, b" left ", u64::from(turn.left))

@@ -127,8 +127,8 @@ fn split_bytes(text: &[u8], size: u64) -> Option<(&[u8], &[u8])>
     }
 }
 
-// The sections with their callers' PUs.
-fn place_all<'a>(
+/// The sections with their callers' PUs.
+pub(crate) fn place_all<'a>(
     alloc: Global,
     tree: &Tree,
     written: &[Written<'a>],

@@ -1,16 +1,10 @@
-use Rattle.std.proofs.Common.{◌≡◌, ℕ, List, ◌++◌, length, take, drop, true, Ok, Err, codes, ap, sym, subst, ◌∙◌, append_assoc}
-use Rattle.std.specs.Prelude.{Result, OnOk, ◌-◌, nat_eq, if◌then◌else◌}
-use Rattle.std.specs.Result.{is_ok}
+use Rattle.std.proofs.Common.{◌≡◌, ℕ, List, ◌++◌, length, take, drop, true, codes, ap, sym, subst, ◌∙◌, append_assoc}
+use Rattle.std.specs.Prelude.{◌-◌, nat_eq}
 use Rattle.std.specs.Cmp.Lexicographic.{pointwise}
 use Rattle.placed_runner.specs.Text.{escaped}
 use Rattle.placed_runner.proofs.Escapes.{quoted_line}
+use Rattle.placed_runner.proofs.Appending.{appended}
 use Rattle.placed_runner.proofs.escape.push_quoted.Goals as goal
-
--- what a text is once more has been appended, where it could be
-appended : {T E : Type 0} (pushed : Result T E) (new before more all : List ℕ) → new ≡ (if is_ok pushed then before ++ more else before)
-    → before ++ more ≡ all → OnOk pushed (new ≡ all)
-appended (Ok value) new before more all is same = is ∙ same
-appended (Err error) new before more all is same = tt
 
 pub returns-in_ok-push_escaped-in-Some : goal.returns-in_ok-push_escaped-in-Some
 returns-in_ok-push_escaped-in-Some c =

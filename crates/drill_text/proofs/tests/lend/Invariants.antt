@@ -1,0 +1,6 @@
+use Rattle.std.proofs.Common.{◌≡◌, map, take}
+use Rattle.drill_text.proofs.tests.lend.Given as goal
+
+-- the texts so far are lent
+abbrev pub invariant-loop-text : goal.invariant-loop-text
+invariant-loop-text l = map (λ one. one.now) l.lent.items ≡ map (λ text. text.items) (take l.text-index l.texts)
