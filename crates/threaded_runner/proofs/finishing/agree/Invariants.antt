@@ -1,7 +1,7 @@
 use Rattle.std.proofs.Common.{◌≡◌, ◌++◌, List, vec_len}
 use Rattle.std.specs.Prelude.{All}
 use Rattle.keep_local.specs.States.{IsShareOf, ShareState}
-use Rattle.threaded_runner.proofs.whole.agree.Given as goal
+use Rattle.threaded_runner.proofs.finishing.agree.Given as goal
 
 -- the trail is as it was, and the shares that have left the list are counted
 abbrev pub invariant-loop-share : goal.invariant-loop-share

@@ -1,7 +1,7 @@
 use Rattle.std.proofs.Common.{ap, sym, ◌∷◌, ◌++◌, [], ◌∙◌, length, List, ℕ}
 use Rattle.mc_text.specs.Reading.{commands_of}
 use Rattle.threaded_runner.proofs.Sums.{one_read}
-use Rattle.threaded_runner.proofs.making.quotas_of.Goals as goal
+use Rattle.threaded_runner.proofs.roots.quotas_of.Goals as goal
 
 pub loop-caller-preserved : goal.loop-caller-preserved
 loop-caller-preserved c =

@@ -1,5 +1,5 @@
 use Rattle.std.proofs.Common.{◌≡◌, map, take}
-use Rattle.threaded_runner.proofs.making.bytes_of.Given as goal
+use Rattle.threaded_runner.proofs.roots.bytes_of.Given as goal
 
 -- the bytes of the sections so far
 abbrev pub invariant-loop-section : goal.invariant-loop-section

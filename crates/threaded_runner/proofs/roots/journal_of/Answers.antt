@@ -1,8 +1,8 @@
-use Rattle.std.proofs.Common.{◌≡◌, ℕ, List, length, ap, arith}
+use Rattle.std.proofs.Common.{ℕ, List, length, ap, arith}
 use Rattle.std.specs.List.{sum_by}
 use Rattle.std.specs.Borrow.{Bor}
 use Rattle.threaded_runner.proofs.Sums.{sum_sections, sum_texts}
-use Rattle.threaded_runner.proofs.making.journal_of.Goals as goal
+use Rattle.threaded_runner.proofs.roots.journal_of.Goals as goal
 
 pub reserve-requires : goal.reserve-requires
 reserve-requires c =
