@@ -1,5 +1,5 @@
 -- The commands that a caller has left.
-use Rattle.std.proofs.Common.{◌≡◌, ℕ, zero, suc, ◌+◌, ◌<◌, ◌≤◌, List, [], ◌∷◌, length, drop, ap, sym, ◌∙◌, arith, Some}
+use Rattle.std.proofs.Common.{◌≡◌, ℕ, zero, suc, ◌+◌, ◌<◌, List, [], ◌∷◌, length, drop, ap, sym, ◌∙◌, arith, Some}
 use Rattle.std.specs.Prelude.{slice_get}
 use Rattle.lock_rules.specs.Tag.{Tag}
 use Rattle.keep_local.specs.States.{ShareState}

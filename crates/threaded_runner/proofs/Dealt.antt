@@ -1,8 +1,10 @@
--- What a caller has left before it begins.
-use Rattle.std.proofs.Common.{◌≡◌, ℕ, ◌≤◌, List, [], ◌∷◌, length, map, drop, refl, ap, sym, ◌∙◌, subst, arith, Some}
-use Rattle.std.specs.Prelude.{option_map, slice_get, slice_index}
+-- What callers have before they begin.
+use Rattle.std.proofs.Common.{◌≡◌, ℕ, List, [], ◌∷◌, length, map, drop, refl, ap, sym, ◌∙◌, arith, Some}
+use Rattle.std.specs.Prelude.{option_map, slice_get}
+use Rattle.std.proofs.lemmas.List.{length-map}
 use Rattle.std.proofs.lemmas.Option.{get_or_from_slice_get, slice_get-map}
 use Rattle.lock_rules.specs.Trees.{lists_in}
+use Rattle.keep_local.specs.Shapes.{callers_of}
 use Rattle.keep_local.specs.States.{ShareState}
 use Rattle.clof_compose.specs.Courses.{Course}
 use Rattle.clof_compose.specs.Shares.{IsShareIn}
@@ -10,6 +12,7 @@ use Rattle.mc_text.specs.Request.{WholeCommand}
 use Rattle.mc_text.specs.Reading.{commands_of}
 use Rattle.placed_runner.specs.declared.sections.Section.{Section}
 use Rattle.threaded_runner.specs.Jobs.{HasLeft}
+use Rattle.threaded_runner.specs.Ready.{IsDealt}
 
 -- how many commands each section has, by its bytes
 pub counts : (sections : List Section) → map (λ (one : Section). length (commands_of one.bytes.now)) sections
@@ -37,3 +40,14 @@ all_left course n share sections bytes commands told quotas here is none all =
       within = omega (arith, none);
       left = all ∙ sym (ap (λ (k : ℕ). drop k (commands_of bytes)) none);
     }
+
+-- there is a quota for each caller of the shape
+pub quotas_known : (course : Course) (sections : List (List ℕ)) (shares : List ShareState) → IsDealt course sections shares
+    → length course.quotas ≡ callers_of course.shape
+quotas_known course sections shares is =
+    ap length is.quotas ∙ length-map sections (λ (one : List ℕ). length (commands_of one)) ∙ sym is.callers
+
+-- and a caller for each section
+pub callers_known : (course : Course) (sections : List Section) (shares : List ShareState)
+    → IsDealt course (map (λ (one : Section). one.bytes.now) sections) shares → callers_of course.shape ≡ length sections
+callers_known course sections shares is = is.callers ∙ length-map sections (λ (one : Section). one.bytes.now)

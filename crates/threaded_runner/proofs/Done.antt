@@ -1,25 +1,37 @@
 -- What is known of the turns once all shares came back.
-use Rattle.std.proofs.Common.{◌≡◌, ℕ, zero, suc, ◌<◌, false, true, not, Bool, List, [], ◌∷◌, ◌++◌, length, map, get_or, refl, ap, sym, ◌∙◌, subst, arith, Some}
+use Rattle.std.proofs.Common.{◌≡◌, ℕ, zero, suc, ◌<◌, false, true, not, Bool, List, [], ◌∷◌, ◌++◌, length, map, get_or, refl, ap, sym, ◌∙◌, subst, arith, Option, Some, None}
+use Rattle.std.proofs.Common.{length-append}
 use Rattle.std.specs.Prelude.{All, option_map, slice_get, slice_index, ◌||◌}
 use Rattle.std.specs.List.{list_any}
-use Rattle.std.proofs.lemmas.List.Elements.{All-nil, All-cons}
+use Rattle.std.proofs.lemmas.List.{append-nil}
+use Rattle.std.proofs.lemmas.List.Elements.{All-nil}
 use Rattle.std.proofs.lemmas.Option.{get_or_from_slice_get, slice_get-get_or, slice_get-map, slice_get_within}
 use Rattle.atomic_table.specs.Seated.{TableId}
 use Rattle.lock_rules.specs.Tag.{Tag}
-use Rattle.keep_local.specs.States.{IsShareOf, ShareState, TrailState, all_turns}
+use Rattle.keep_local.specs.declared.turn.Turn.{Turn}
+use Rattle.keep_local.specs.States.{IsShareOf, ShareState, TrailState, all_turns, callers_in, option_list}
 use Rattle.keep_local.specs.Turns.{turns_of}
+use Rattle.keep_local.specs.Views.{times}
+use Rattle.keep_local.proofs.Trails.{times_callers}
 use Rattle.clof_compose.specs.Contexts.{Context}
 use Rattle.clof_compose.specs.Courses.{course_of}
 use Rattle.clof_compose.specs.Meanings.{Rest}
+use Rattle.clof_compose.specs.Roots.{IsFit}
+use Rattle.clof_compose.specs.declared.root.Root.{Root}
 use Rattle.mc_text.specs.Reading.{commands_of}
+use Rattle.kv_history.specs.Log.{Log, EachHasSection, EachOwnFirst, NoneVoid, calls, own}
+use Rattle.kv_history.proofs.Next.{count-own}
 use Rattle.placed_runner.specs.Printed.{IsRun}
 use Rattle.placed_runner.specs.Sections.{Placed}
-use Rattle.placed_runner.specs.Text.{Hold, one_lock, run_text}
+use Rattle.placed_runner.specs.Text.{Hold, one_lock, run_text, turns_text}
 use Rattle.placed_runner.specs.Views.{section_view}
 use Rattle.placed_runner.specs.declared.sections.Section.{Section}
+use Rattle.placed_runner.proofs.Printed.{is_run}
+use Rattle.placed_runner.proofs.Texts.{bytes_of}
 use Rattle.threaded_runner.specs.Crews.{IsCrew}
 use Rattle.threaded_runner.specs.declared.crew.Crew.{Crew}
-use Rattle.threaded_runner.specs.Done.{AreDone, IsDone}
+use Rattle.threaded_runner.specs.Done.{AreDone}
+use Rattle.threaded_runner.specs.Finished.{EachGaveAll, EachMadeAll, IsFinished}
 
 blank : ShareState
 blank = record {
@@ -40,12 +52,10 @@ no_run = record {
   ends = tt;
 }
 
--- each caller has as many turns as its section has commands
-pub turns_made : (s : TrailState) (shares : List ShareState) (sections : List Placed) → All (IsShareOf s) shares
+-- each caller has made as many turns as its section has commands
+pub turns_made : (s : TrailState) (shares : List ShareState) (sections : List (List ℕ)) → All (IsShareOf s) shares
     → AreDone s.name s.quotas shares → length shares ≡ length sections
-    → s.quotas ≡ map (λ (one : Placed). length (commands_of one.bytes)) sections
-    → (caller : ℕ) (section : Placed) → slice_get sections caller ≡ Some section
-    → turns_of caller (all_turns s) ≡ length (commands_of section.bytes)
+    → s.quotas ≡ map (λ (one : List ℕ). length (commands_of one)) sections → EachMadeAll sections (all_turns s)
 turns_made s shares sections counted done many quotas caller section at =
     let within = slice_get_within sections caller section at in
     let share = get_or shares caller blank in
@@ -53,10 +63,62 @@ turns_made s shares sections counted done many quotas caller section at =
     let here = done caller share (slice_get-get_or shares caller blank inside) in
     let is = counted caller blank inside in
     let quota = ap (λ (l : List ℕ). slice_get l caller) quotas
-    ∙ slice_get-map (λ (one : Placed). length (commands_of one.bytes)) sections caller
-    ∙ ap (option_map (λ (one : Placed). length (commands_of one.bytes))) at in
+    ∙ slice_get-map (λ (one : List ℕ). length (commands_of one)) sections caller
+    ∙ ap (option_map (λ (one : List ℕ). length (commands_of one))) at in
     ap (λ (n : ℕ). turns_of n (all_turns s)) (sym here.caller_is) ∙ sym is.made ∙ here.made
-    ∙ get_or_from_slice_get s.quotas caller (length (commands_of section.bytes)) 0 quota
+    ∙ get_or_from_slice_get s.quotas caller (length (commands_of section)) 0 quota
+
+all_own : {A : Type 0} (all own rest : List A) → all ≡ own ++ rest → length own ≡ length all → own ≡ all
+all_own all own [] parts many = sym (append-nil own) ∙ sym parts
+all_own all own (x ∷ rest) parts many =
+    let more = ap length parts ∙ length-append own (x ∷ rest) in absurd (omega (arith, more, many))
+
+-- and so it has given all its commands
+pub each_gave : (log : Log) (turns : List Turn) → EachOwnFirst log → calls log ≡ callers_in turns → EachMadeAll log.sections turns
+    → EachGaveAll log
+each_gave log turns first called made caller section at =
+    let own_are = first caller section at in
+    let many = sym (count-own log.entries caller) ∙ ap (times caller) called ∙ times_callers caller turns ∙ made caller section at in
+    all_own (commands_of section) (own log.entries caller) own_are.0 own_are.1 many
+
+-- where no turn is open, all are closed
+pub all_closed : (s : TrailState) → s.current ≡ None → all_turns s ≡ s.closed
+all_closed s closed = ap (λ (o : Option Turn). s.closed ++ option_list o) closed ∙ append-nil s.closed
+
+-- what callers leave who have made all their turns, none of which found no memory
+pub finished : (root : Root Log) (shares : List ShareState) → IsFit calls root
+    → root.trail.quotas ≡ map (λ (one : List ℕ). length (commands_of one)) root.payload.sections → All (IsShareOf root.trail) shares
+    → AreDone root.trail.name root.trail.quotas shares → length shares ≡ length root.payload.sections → EachOwnFirst root.payload
+    → NoneVoid root.payload.entries → IsFinished root.trail root.payload
+finished root shares fit quotas counted done many first whole =
+    let made = subst (EachMadeAll root.payload.sections) (all_closed root.trail fit.settled.closed)
+    (turns_made root.trail shares root.payload.sections counted done many quotas) in
+    record {
+      closed = fit.settled.closed;
+      lawful = fit.settled.trail.lawful.0;
+      ends = fit.left;
+      called = fit.settled.calls_are;
+      whole = whole;
+      each_made = made;
+      each_gave = each_gave root.payload root.trail.closed first fit.settled.calls_are made;
+    }
+
+-- and the same of equal parts
+pub finished_parts : (trail trail' : TrailState) (log log' : Log) → trail' ≡ trail → log' ≡ log → IsFinished trail log
+    → IsFinished trail' log'
+finished_parts trail trail' log log' same equal left = subst (λ (s : TrailState). IsFinished s log') (sym same)
+    (subst (IsFinished trail) (sym equal) left)
+
+-- a finished run's text is that of a run
+pub run_of : (trail : TrailState) (log : Log) (sections : List Section) → IsFinished trail log
+    → log.sections ≡ map (λ (one : Section). one.bytes.now) sections → EachHasSection log
+    → IsRun (map section_view sections) trail.shape (turns_text (map section_view sections) trail.closed)
+run_of trail log sections left same callers =
+    let placed = map section_view sections in
+    let bytes : log.sections ≡ map (λ (one : Placed). one.bytes) placed = same ∙ bytes_of sections in
+    is_run placed trail.shape trail.closed log bytes callers (sym left.called) left.lawful left.ends
+    (λ caller section at. left.each_made caller section.bytes (ap (λ (l : List (List ℕ)). slice_get l caller) bytes
+    ∙ slice_get-map (λ (one : Placed). one.bytes) placed caller ∙ ap (option_map (λ (one : Placed). one.bytes)) at))
 
 -- where no caller stopped, each goes on
 none_stops : (stopped : List Bool) (k : ℕ) → list_any (λ stops. stops) stopped ≡ false → k < length stopped

@@ -4,6 +4,7 @@ pub mod Dealt
 pub mod OneLevel
 pub mod Done
 pub mod Items
+pub mod Told
 pub mod Served
 pub mod Sums
 pub mod Turns

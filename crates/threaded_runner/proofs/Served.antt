@@ -5,7 +5,6 @@ use Rattle.std.proofs.lemmas.Option.{slice_get_within, slice_get-get_or}
 use Rattle.lock_rules.specs.Tag.{Tag}
 use Rattle.keep_local.specs.States.{ShareState}
 use Rattle.clof_compose.specs.Contexts.{Context}
-use Rattle.clof_compose.specs.Courses.{course_of}
 use Rattle.clof_compose.specs.Meanings.{Rest}
 use Rattle.clof_compose.specs.Passes.{IsNumber}
 use Rattle.threaded_runner.specs.Jobs.{HasServed, IsJob, IsServed, MayServe}

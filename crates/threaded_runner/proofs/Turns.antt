@@ -1,5 +1,5 @@
 -- What a holder knows of its command.
-use Rattle.std.proofs.Common.{◌≡◌, ℕ, ◌+◌, ◌++◌, [], ◌∷◌, true, List, ap, sym, ◌∙◌, arith, Some}
+use Rattle.std.proofs.Common.{◌≡◌, ℕ, ◌+◌, ◌++◌, [], ◌∷◌, true, List, ap, sym, ◌∙◌, arith}
 use Rattle.std.specs.Prelude.{Option, slice_get, ◌==◌}
 use Rattle.std.proofs.lemmas.Bool.{eq-eqb}
 use Rattle.std.proofs.lemmas.List.Sums.{sum_by-append, sum_by-cons}
@@ -7,7 +7,7 @@ use Rattle.lock_rules.specs.Tag.{Tag}
 use Rattle.lock_rules.specs.Trees.{lists_in, tree_of_lists}
 use Rattle.lock_rules.proofs.Trees.{lists_in-tree_of_lists}
 use Rattle.keep_local.specs.declared.turn.Turn.{Turn}
-use Rattle.keep_local.specs.States.{ShareState, all_turns, callers_in, option_list}
+use Rattle.keep_local.specs.States.{ShareState, all_turns, option_list}
 use Rattle.keep_local.specs.Turns.{turns_of}
 use Rattle.keep_local.specs.Views.{times}
 use Rattle.keep_local.proofs.Counts.{one_if}

@@ -2,3 +2,4 @@ pub mod Jobs
 pub mod Crews
 pub mod Ready
 pub mod Done
+pub mod Finished

@@ -1,13 +1,10 @@
 //! The lock of the default plan: one MCS lock for all callers.
 ghost use Rattle.std.specs.Prelude.{◌≡◌, length, map};
-ghost use Rattle.lock_rules.specs.Trees.{lists_in};
-ghost use Rattle.keep_local.specs.Shapes.{callers_of};
-ghost use Rattle.keep_local.specs.States.{new_shares};
 ghost use Rattle.clof_compose.specs.Courses.{course_of};
 ghost use Rattle.clof_compose.specs.Passes.{AreAll};
-ghost use Rattle.mc_text.specs.Reading.{commands_of};
 ghost use Rattle.threaded_runner.specs.Crews.{IsCrew};
 ghost use Rattle.threaded_runner.specs.Jobs.{HasServed, MayServe};
+ghost use Rattle.threaded_runner.specs.Ready.{IsDealt};
 
 use crate::crew::Crew;
 use crate::holding::serve;
@@ -62,16 +59,9 @@ pub fn run_threads<'a, R: Threads + Wait + Sync, G: Gate + Sync>(
     requires passes { AreAll (λ p. (⟦<FlatPass as Resting>⟧.rest p).context) (⟦<FlatLock<'a> as Composed<Journal<'a>>>⟧.has lock.now)
         (⟦<FlatLock<'a> as Composed<Journal<'a>>>⟧.level lock.now) (⟦<FlatLock<'a> as Composed<Journal<'a>>>⟧.tag lock.now)
         (⟦<FlatLock<'a> as Composed<Journal<'a>>>⟧.count lock.now) passes.items }
-    requires count { ⟦<FlatLock<'a> as Composed<Journal<'a>>>⟧.count lock.now
-        ≡ callers_of (course_of (⟦<FlatLock<'a> as Composed<Journal<'a>>>⟧.tag lock.now)).shape }
-    requires known { length (course_of (⟦<FlatLock<'a> as Composed<Journal<'a>>>⟧.tag lock.now)).quotas
-        ≡ callers_of (course_of (⟦<FlatLock<'a> as Composed<Journal<'a>>>⟧.tag lock.now)).shape }
-    requires shares { shares.items ≡ new_shares (course_of (⟦<FlatLock<'a> as Composed<Journal<'a>>>⟧.tag lock.now)).name
-        (course_of (⟦<FlatLock<'a> as Composed<Journal<'a>>>⟧.tag lock.now)).quotas }
-    requires sections { lists_in (course_of (⟦<FlatLock<'a> as Composed<Journal<'a>>>⟧.tag lock.now)).payload
-        ≡ map (λ section. section.bytes.now) sections.now }
-    requires quotas { (course_of (⟦<FlatLock<'a> as Composed<Journal<'a>>>⟧.tag lock.now)).quotas
-        ≡ map (λ section. length (commands_of section.bytes.now)) sections.now }
+    requires count { ⟦<FlatLock<'a> as Composed<Journal<'a>>>⟧.count lock.now ≡ length sections.now }
+    requires dealt { IsDealt (course_of (⟦<FlatLock<'a> as Composed<Journal<'a>>>⟧.tag lock.now))
+        (map (λ section. section.bytes.now) sections.now) shares.items }
     ensures crew { IsCrew ⟦<FlatPass as Resting>⟧.rest (⟦<FlatLock<'a> as Composed<Journal<'a>>>⟧.has lock.now)
         (⟦<FlatLock<'a> as Composed<Journal<'a>>>⟧.level lock.now) (⟦<FlatLock<'a> as Composed<Journal<'a>>>⟧.count lock.now)
         (⟦<FlatLock<'a> as Composed<Journal<'a>>>⟧.tag lock.now) result }

@@ -95,8 +95,8 @@ fn hold<'a, C: Composed<Journal<'a>>, G: Gate, R: Wait>(
     (lock.release(rt, held), refused)
 }
 
-// Applies a command to the journal of a root. The answer is whether it was refused.
-fn apply<'a>(root: &mut Root<Journal<'a>>, caller: u32, command: Command<'a>) -> bool
+/// Applies a caller's next command to the journal of a root. The answer is whether it was refused, which is for want of memory.
+pub fn apply<'a>(root: &mut Root<Journal<'a>>, caller: u32, command: Command<'a>) -> bool
     requires next { IsNext root.old.payload.sections (calls root.old.payload) caller (view command) }
     ensures trail { root.new.trail ≡ root.old.trail }
     ensures sections { root.new.payload.sections ≡ root.old.payload.sections }

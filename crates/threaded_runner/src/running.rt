@@ -1,14 +1,11 @@
 //! What a run takes apart and puts together again, over any lock.
 ghost use Rattle.std.specs.Prelude.{◌≡◌, ◌≤◌, ℕ, [], length, map, slice_get, vec_capacity, IfErr, IfOk, IfSome, Some};
 ghost use Rattle.std.specs.List.{list_any};
-ghost use Rattle.lock_rules.specs.Trees.{lists_in};
-ghost use Rattle.keep_local.specs.Shapes.{callers_of};
-ghost use Rattle.keep_local.specs.States.{new_shares};
 ghost use Rattle.clof_compose.specs.Courses.{course_of};
 ghost use Rattle.clof_compose.specs.Passes.{AreAll};
-ghost use Rattle.mc_text.specs.Reading.{commands_of};
 ghost use Rattle.threaded_runner.specs.Crews.{HasRoom, IsCrew};
 ghost use Rattle.threaded_runner.specs.Jobs.{IsJob, IsServed};
+ghost use Rattle.threaded_runner.specs.Ready.{IsDealt};
 
 use crate::crew::Crew;
 use crate::dealing::{deal, stops, take_apart};
@@ -21,7 +18,7 @@ use std::alloc::Global;
 
 /// What a run has before its callers work: their jobs, and empty lists with room for what comes back.
 #[derive(Drop)]
-pub(crate) struct Prepared<'a, Q> {
+pub struct Prepared<'a, Q> {
     pub jobs: Vec<Job<'a, Q>>,
     pub passes: Vec<Q>,
     pub shares: Vec<Share>,
@@ -29,7 +26,7 @@ pub(crate) struct Prepared<'a, Q> {
 }
 
 /// Makes the jobs of all callers. Without memory it gives back what a run gives back that didn't start.
-pub(crate) fn prepare<'a, C: Composed<Journal<'a>>>(
+pub fn prepare<'a, C: Composed<Journal<'a>>>(
     alloc: Global,
     lock: &C,
     passes: Vec<C::Pass>,
@@ -38,11 +35,8 @@ pub(crate) fn prepare<'a, C: Composed<Journal<'a>>>(
 ) -> Result<Prepared<'a, C::Pass>, Crew<C::Pass>>
     requires passes { AreAll (λ p. (C.Pass.rest p).context) (C.has lock.now) (C.level lock.now) (C.tag lock.now) (C.count lock.now)
         passes.items }
-    requires count { C.count lock.now ≡ callers_of (course_of (C.tag lock.now)).shape }
-    requires known { length (course_of (C.tag lock.now)).quotas ≡ callers_of (course_of (C.tag lock.now)).shape }
-    requires shares { shares.items ≡ new_shares (course_of (C.tag lock.now)).name (course_of (C.tag lock.now)).quotas }
-    requires sections { lists_in (course_of (C.tag lock.now)).payload ≡ map (λ section. section.bytes.now) sections.now }
-    requires quotas { (course_of (C.tag lock.now)).quotas ≡ map (λ section. length (commands_of section.bytes.now)) sections.now }
+    requires count { C.count lock.now ≡ length sections.now }
+    requires dealt { IsDealt (course_of (C.tag lock.now)) (map (λ section. section.bytes.now) sections.now) shares.items }
     ensures each { IfOk result (λ made. (k : ℕ) (j : _) → slice_get made.jobs.items k ≡ Some j → IsJob C.Pass.rest (C.has lock.now)
         (C.level lock.now) (C.tag lock.now) k j) }
     ensures many { IfOk result (λ made. length made.jobs.items ≡ C.count lock.now) }
@@ -51,7 +45,7 @@ pub(crate) fn prepare<'a, C: Composed<Journal<'a>>>(
         crew) }
 {
     let Some((jobs, stopped)) = rooms(alloc, passes.len()) else {
-        return Err(idle(lock, passes, shares, Vec::new(alloc)));
+        return Err(not_started(alloc, lock, passes, shares, sections));
     };
     let (jobs, passes, shares) = deal(lock, passes, shares, sections, jobs);
     Ok(Prepared {
@@ -74,19 +68,18 @@ fn rooms<'a, Q: Drop>(alloc: Global, count: usize) -> Option<(Vec<Job<'a, Q>>, V
     Some((jobs, stopped))
 }
 
-// What comes back of a run that didn't start.
-fn idle<'a, C: Composed<Journal<'a>>>(
+/// What comes back of a run that doesn't start, for want of memory. It is called for a lock as `prepare` is.
+pub fn not_started<'a, C: Composed<Journal<'a>>>(
+    alloc: Global,
     _lock: &C,
     passes: Vec<C::Pass>,
     shares: Vec<Share>,
-    stopped: Vec<bool>,
+    _sections: &[Section<'a>],
 ) -> Crew<C::Pass>
     requires passes { AreAll (λ p. (C.Pass.rest p).context) (C.has _lock.now) (C.level _lock.now) (C.tag _lock.now) (C.count _lock.now)
         passes.items }
-    requires count { C.count _lock.now ≡ callers_of (course_of (C.tag _lock.now)).shape }
-    requires known { length (course_of (C.tag _lock.now)).quotas ≡ callers_of (course_of (C.tag _lock.now)).shape }
-    requires shares { shares.items ≡ new_shares (course_of (C.tag _lock.now)).name (course_of (C.tag _lock.now)).quotas }
-    requires stopped { stopped.items ≡ [] }
+    requires count { C.count _lock.now ≡ length _sections.now }
+    requires dealt { IsDealt (course_of (C.tag _lock.now)) (map (λ section. section.bytes.now) _sections.now) shares.items }
     ensures { IsCrew C.Pass.rest (C.has _lock.now) (C.level _lock.now) (C.count _lock.now) (C.tag _lock.now) result }
 {
     Crew {
@@ -94,12 +87,12 @@ fn idle<'a, C: Composed<Journal<'a>>>(
         shares,
         refused: true,
         started: false,
-        stopped,
+        stopped: Vec::new(alloc),
     }
 }
 
 /// What comes back of a run whose jobs are these. The lists are empty and have room for what the jobs have.
-pub(crate) fn crew_of<'a, C: Composed<Journal<'a>>>(
+pub fn crew_of<'a, C: Composed<Journal<'a>>>(
     _lock: &C,
     jobs: Vec<Job<'a, C::Pass>>,
     passes: Vec<C::Pass>,

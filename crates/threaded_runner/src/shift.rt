@@ -6,7 +6,7 @@ use std::thread::Threads;
 
 /// A lock whose callers can be served. Each kind of lock says what this asks of a caller's job, and what comes of it; so the function that
 /// starts the threads knows no kind.
-pub(crate) trait Serves<J, R, G> {
+pub trait Serves<J, R, G> {
     // This job may be done.
     ghost allows: { Self → J → Type 0 };
 
@@ -37,7 +37,7 @@ impl<'a, J, R, L: Serves<J, R, G>, G> Works<J> for Shift<'a, R, L, G> {
 }
 
 /// Each job is done by a thread of its own, or by the calling one. The answer has what came of each, in order.
-pub(crate) fn serve_all<J: Send + Drop, R: Threads + Sync, L: Serves<J, R, G> + Sync, G: Sync>(
+pub fn serve_all<J: Send + Drop, R: Threads + Sync, L: Serves<J, R, G> + Sync, G: Sync>(
     rt: &R,
     lock: &L,
     gate: &G,

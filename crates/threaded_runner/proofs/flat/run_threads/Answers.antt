@@ -1,4 +1,4 @@
-use Rattle.std.proofs.Common.{◌≡◌, length, rules, ◌∙◌}
+use Rattle.std.proofs.Common.{rules, ◌∙◌}
 use Rattle.threaded_runner.proofs.Served.{all_served, may_serve}
 use Rattle.threaded_runner.proofs.flat.run_threads.Goals as goal
 

@@ -1,4 +1,4 @@
-use Rattle.std.proofs.Common.{◌≡◌, false}
+use Rattle.std.proofs.Common.{◌≡◌}
 use Rattle.threaded_runner.specs.Jobs.{IsJob}
 use Rattle.threaded_runner.proofs.holding.serve.Given as goal
 

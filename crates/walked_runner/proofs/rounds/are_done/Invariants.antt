@@ -1,0 +1,8 @@
+use Rattle.std.proofs.Common.{◌≡◌, ℕ, ◌<◌, Some}
+use Rattle.std.specs.Prelude.{slice_get}
+use Rattle.walked_runner.specs.Walkers.{IsDone}
+use Rattle.walked_runner.proofs.rounds.are_done.Given as goal
+
+-- the callers so far are done
+abbrev pub invariant-loop-walker : goal.invariant-loop-walker
+invariant-loop-walker g l = (k : ℕ) (w : _) → k < l.walker-index → slice_get l.walkers k ≡ Some w → IsDone w
