@@ -104,7 +104,7 @@ module _ (described : Description) (levels : List ℕ) (locks : Option (List ℕ
   levels_refuse (inr memory) = inr memory
 
   module _ (depths : List ℕ) (said : entries_of (depth_named described) (comma_list levels) ≡ Some depths)
-    (are : AreLevels described depths) where
+      (are : AreLevels described depths) where
     pub locks_refuse : UnlessMemory OutOfMemory fault (lock_fault (length depths) locks ≡ Some fault)
         → UnlessMemory OutOfMemory fault (PlanRefused described levels locks keeps fault)
     locks_refuse (inl refused) = inl (plan_locks described levels locks keeps depths said are fault refused)

@@ -41,8 +41,8 @@ module _ (numbers : List ℕ) (rising : IsStrictlyIncreasing numbers) where
   place_is place number within here =
       position_or_len_is (λ other. other == number) numbers place 0 (omega arith)
       (λ k before.
-          let less = AllPairs-from_increasing numbers rising k place 0 before within in
-          ne_eqb (get_or numbers k 0) number (λ (same : get_or numbers k 0 ≡ number). omega (arith, less, here, same)))
+      let less = AllPairs-from_increasing numbers rising k place 0 before within in
+      ne_eqb (get_or numbers k 0) number (λ (same : get_or numbers k 0 ≡ number). omega (arith, less, here, same)))
       (λ _. eq-eqb (get_or numbers place 0) number here)
 
   -- the k-th number is at least k

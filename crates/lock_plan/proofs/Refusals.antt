@@ -117,7 +117,7 @@ module _ (described : Description) (levels : List ℕ) (locks : Option (List ℕ
       (keep_fault (length (comma_list levels)) (comma_list keeps)))) refused
 
   module _ (depths : List ℕ) (said : entries_of (depth_named described) (comma_list levels) ≡ Some depths)
-    (are : AreLevels described depths) where
+      (are : AreLevels described depths) where
     good_levels : plan_fault described levels locks keeps
         ≡ option_or (lock_fault (length depths) locks) (keep_fault (length depths) (comma_list keeps))
     unfolding plan_fault

@@ -24,11 +24,7 @@ impl Entries for Keeps {
 }
 
 /// The keeps of the levels below the top of so many levels: one number for each of them, or one for all.
-pub(crate) fn read_keeps(
-    alloc: Global,
-    levels: usize,
-    text: &[u8],
-) -> Result<Vec<u32>, PlanFault>
+pub(crate) fn read_keeps(alloc: Global, levels: usize, text: &[u8]) -> Result<Vec<u32>, PlanFault>
     requires some { 1 ≤ levels }
     requires few { levels < 2 ^ 32 }
     requires text { length text.now < 2 ^ 32 }

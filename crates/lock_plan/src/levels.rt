@@ -26,11 +26,7 @@ impl Entries for Tree {
 }
 
 /// The depths that a comma list names.
-pub(crate) fn read_levels(
-    alloc: Global,
-    tree: &Tree,
-    text: &[u8],
-) -> Result<Vec<u32>, PlanFault>
+pub(crate) fn read_levels(alloc: Global, tree: &Tree, text: &[u8]) -> Result<Vec<u32>, PlanFault>
     requires { length text.now < 2 ^ 32 }
     ensures named { IfOk result (λ depths. entries_of (depth_named tree.now) (comma_list text.now) ≡ Some depths.items) }
     ensures levels { IfOk result (λ depths. AreLevels tree.now depths.items) }

@@ -1,5 +1,5 @@
-//! Which locks the levels of a composed lock are: the layers of a topology, the kind of lock of each, and how long each keeps the lock above;
-//! and the shape of such a lock, whose callers stand on PUs.
+//! Which locks the levels of a composed lock are: the layers of a topology, the kind of lock of each, and how long each keeps the lock
+//! above; and the shape of such a lock, whose callers stand on PUs.
 #![tactic(auto)]
 
 mod fault;

@@ -41,11 +41,7 @@ pub(crate) fn read_locks(
 }
 
 // The kinds of so many levels that a list with dashes names.
-fn read_named(
-    alloc: Global,
-    levels: usize,
-    text: &[u8],
-) -> Result<Vec<LockKind>, PlanFault>
+fn read_named(alloc: Global, levels: usize, text: &[u8]) -> Result<Vec<LockKind>, PlanFault>
     requires few { levels < 2 ^ 32 }
     requires text { length text.now < 2 ^ 32 }
     ensures kinds { IfOk result (λ kinds. AreKinds levels (Some text.now) kinds.items) }

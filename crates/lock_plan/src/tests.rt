@@ -19,13 +19,14 @@ fn built(rt: &impl Abort, alloc: Global, text: &[u8]) -> Result<Tree, Fail> {
 
 fn read_plan(alloc: Global, tree: &Tree, texts: Texts<'_>) -> Result<Plan, PlanFault> {
     match texts.1 {
-        Some(locks) if texts.0.len() < 200 && locks.len() < 200 && texts.2.len() < 200 => Plan::read(
-            alloc,
-            tree,
-            texts.0.as_bytes(),
-            Some(locks.as_bytes()),
-            texts.2.as_bytes(),
-        ),
+        Some(locks) if texts.0.len() < 200 && locks.len() < 200 && texts.2.len() < 200 =>
+            Plan::read(
+                alloc,
+                tree,
+                texts.0.as_bytes(),
+                Some(locks.as_bytes()),
+                texts.2.as_bytes(),
+            ),
         None if texts.0.len() < 200 && texts.2.len() < 200 => Plan::read(
             alloc,
             tree,
@@ -86,16 +87,35 @@ fn check_shape(
 const MACHINE: &[u8] = b"Package:2 L3Cache:2 Core:2 PU:2";
 
 const TKT: LockKind = LockKind::Tkt;
+
 const MCS: LockKind = LockKind::Mcs;
+
 const CLH: LockKind = LockKind::Clh;
+
 const HEM: LockKind = LockKind::Hem;
 
 #[test]
 fn plans_of_texts(rt: HostRuntime) -> Result<(), Fail> {
     let alloc = rt.alloc();
     let tree = built(&rt, alloc, MACHINE)?;
-    check_plan(&rt, alloc, &tree, ("machine", None, "128"), &[0], &[MCS], &[])?;
-    check_plan(&rt, alloc, &tree, ("MACHINE", Some("hem"), "65535"), &[0], &[HEM], &[])?;
+    check_plan(
+        &rt,
+        alloc,
+        &tree,
+        ("machine", None, "128"),
+        &[0],
+        &[MCS],
+        &[],
+    )?;
+    check_plan(
+        &rt,
+        alloc,
+        &tree,
+        ("MACHINE", Some("hem"), "65535"),
+        &[0],
+        &[HEM],
+        &[],
+    )?;
     check_plan(
         &rt,
         alloc,
@@ -109,7 +129,11 @@ fn plans_of_texts(rt: HostRuntime) -> Result<(), Fail> {
         &rt,
         alloc,
         &tree,
-        ("pu,core,l3,pack,machine", Some("tkt-mcs-clh-hem-tkt"), "0,65535,3,00"),
+        (
+            "pu,core,l3,pack,machine",
+            Some("tkt-mcs-clh-hem-tkt"),
+            "0,65535,3,00",
+        ),
         &[4, 3, 2, 1, 0],
         &[TKT, MCS, CLH, HEM, TKT],
         &[0, 65535, 3, 0],
@@ -170,7 +194,13 @@ fn names_of_levels_that_are_refused(rt: HostRuntime) -> Result<(), Fail> {
         "machine,machine,machine,machine,machine,machine,machine",
         "pu,pu,pu,pu,pu,pu,pu,pu,pu,pu,pu,pu,pu,pu,pu,pu,pu,pu,pu,pu,pu,pu,pu,pu,pu,pu,pu,pu,pu,pu,pu,pu,pu",
     ] {
-        check_refusal(&rt, alloc, &tree, (levels, Some("x"), "x"), PlanFault::TooDeep);
+        check_refusal(
+            &rt,
+            alloc,
+            &tree,
+            (levels, Some("x"), "x"),
+            PlanFault::TooDeep,
+        );
     }
     for (levels, place) in [
         ("package", 0),
@@ -209,7 +239,12 @@ fn locks_that_are_refused(rt: HostRuntime) -> Result<(), Fail> {
         ("machine", "mcs-mcs", 1, 2),
         ("core,machine", "mcs", 2, 1),
         ("pu,core,machine", "tkt-clh", 3, 2),
-        ("pu,core,l3,package,machine", "tkt-tkt-tkt-tkt-tkt-hem", 5, 6),
+        (
+            "pu,core,l3,package,machine",
+            "tkt-tkt-tkt-tkt-tkt-hem",
+            5,
+            6,
+        ),
     ] {
         let fault = PlanFault::Lengths {
             levels: count,
@@ -292,7 +327,14 @@ fn nodes_are_numbered_by_rank(rt: HostRuntime) -> Result<(), Fail> {
         &[11, 7, 8],
         &[&[1, 0], &[0, 0], &[0, 0]],
     )?;
-    check_shape(&rt, alloc, b"Package:4 PU:3", "machine", &[11, 7], &[&[0], &[0]])?;
+    check_shape(
+        &rt,
+        alloc,
+        b"Package:4 PU:3",
+        "machine",
+        &[11, 7],
+        &[&[0], &[0]],
+    )?;
     check_shape(&rt, alloc, b"Package:4 PU:3", "package,machine", &[], &[])
 }
 
@@ -301,7 +343,13 @@ fn as_many_callers_and_objects_as_there_may_be(rt: HostRuntime) -> Result<(), Fa
     let alloc = rt.alloc();
     let tree = built(&rt, alloc, b"Package:3 Group:1365 Group:1 Group:1 PU:1")?;
     let topology = Topology::from_tree(alloc, tree)?;
-    let Ok(plan) = Plan::read(alloc, &topology, b"pu,group2,group1,group0,machine", None, b"1") else {
+    let Ok(plan) = Plan::read(
+        alloc,
+        &topology,
+        b"pu,group2,group1,group0,machine",
+        None,
+        b"1",
+    ) else {
         panic!(rt; "no plan");
     };
     let mut pus = Vec::with_capacity(alloc, 256)?;

@@ -57,7 +57,7 @@ loop-rest-preserved g c =
       read = rw items (readings.goes_on says (pieces_of c.args.separator c.args.text.now) (pieces test parts.1) before parts.0 entry said
           (rw next at c.loop-rest.invariant.read));
       few = let bound = c.loop-rest.invariant.few in
-      omega (arith, bound, some, here, first, ap length items, length-append before (entry ∷ []));
+          omega (arith, bound, some, here, first, ap length items, length-append before (entry ∷ []));
     }
 
 pub returns : goal.returns
