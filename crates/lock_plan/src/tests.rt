@@ -1,10 +1,15 @@
 // Plans and shapes that were worked out by hand, and all refusals.
+ghost use Rattle.std.specs.Prelude.{◌≡◌, ◌<◌, All, IfOk, IsTrue};
+ghost use Rattle.synth_text.specs.Rules.{pu_count};
+ghost use Rattle.lock_plan.specs.Plans.{IsPlanFor};
+
 use super::*;
+use keep_local::Shape;
 use std::alloc::Global;
 use std::process::Abort;
 use std::test::Fail;
 use synth_text::read;
-use topo_tree::{Topology, Tree};
+use topo_tree::{AsTree, Layer, Topology, Tree};
 
 // A case: the texts of the levels, of their locks and of the keeps.
 type Texts<'a> = (&'a str, Option<&'a str>, &'a str);
@@ -17,7 +22,9 @@ fn built(rt: &impl Abort, alloc: Global, text: &[u8]) -> Result<Tree, Fail> {
     }
 }
 
-fn read_plan(alloc: Global, tree: &Tree, texts: Texts<'_>) -> Result<Plan, PlanFault> {
+fn read_plan(alloc: Global, tree: &Tree, texts: Texts<'_>) -> Result<Plan, PlanFault>
+    ensures { IfOk result (IsPlanFor tree.now) }
+{
     match texts.1 {
         Some(locks) if texts.0.len() < 200 && locks.len() < 200 && texts.2.len() < 200 =>
             Plan::read(
@@ -61,6 +68,33 @@ fn check_refusal(rt: &impl Abort, alloc: Global, tree: &Tree, texts: Texts<'_>, 
     }
 }
 
+// How many PUs a topology has.
+fn count_pus<T: AsTree>(topology: &T) -> u32
+    ensures { result ≡ pu_count (T.described topology.now) }
+{
+    let tree = topology.as_tree();
+    tree.count(Layer::Depth(tree.depths() - 1))
+}
+
+fn are_below(count: u32, pus: &[u32]) -> bool
+    ensures { IsTrue result → All (λ pu. pu < count) pus.now }
+{
+    pus.iter().all(|pu| *pu < count)
+}
+
+fn shape_of<T: AsTree>(
+    rt: &impl Abort,
+    alloc: Global,
+    topology: &T,
+    plan: &Plan,
+    pus: &[u32],
+) -> Result<Shape, Fail>
+    requires { IsPlanFor (T.described topology.now) plan.now }
+{
+    assert!(rt; are_below(count_pus(topology), pus));
+    Ok(plan.shape(alloc, topology, pus)?)
+}
+
 fn check_shape(
     rt: &impl Abort,
     alloc: Global,
@@ -71,11 +105,7 @@ fn check_shape(
 ) -> Result<(), Fail> {
     let tree = built(rt, alloc, text)?;
     let plan = read_plan(alloc, &tree, (levels, None, "7"))?;
-    let known = tree.count(topo_tree::Layer::Depth(tree.depths() - 1));
-    for pu in pus {
-        assert!(rt; *pu < known);
-    }
-    let shape = plan.shape(alloc, &tree, pus)?;
+    let shape = shape_of(rt, alloc, &tree, &plan, pus)?;
     assert_eq!(rt; shape.keeps.as_slice(), plan.keeps.as_slice());
     assert_eq!(rt; shape.paths.as_slice().len(), paths.len());
     for (caller, path) in shape.paths.as_slice().iter().enumerate() {
@@ -120,6 +150,21 @@ fn plans_of_texts(rt: HostRuntime) -> Result<(), Fail> {
         &rt,
         alloc,
         &tree,
+        ("l3cache,machine", None, "4"),
+        &[2, 0],
+        &[MCS, MCS],
+        &[4],
+    )
+}
+
+#[test]
+fn plans_of_more_levels(rt: HostRuntime) -> Result<(), Fail> {
+    let alloc = rt.alloc();
+    let tree = built(&rt, alloc, MACHINE)?;
+    check_plan(
+        &rt,
+        alloc,
+        &tree,
         ("core,Socket,machine", Some("clh-hem-tkt"), "00009"),
         &[3, 1, 0],
         &[CLH, HEM, TKT],
@@ -137,15 +182,6 @@ fn plans_of_texts(rt: HostRuntime) -> Result<(), Fail> {
         &[4, 3, 2, 1, 0],
         &[TKT, MCS, CLH, HEM, TKT],
         &[0, 65535, 3, 0],
-    )?;
-    check_plan(
-        &rt,
-        alloc,
-        &tree,
-        ("l3cache,machine", None, "4"),
-        &[2, 0],
-        &[MCS, MCS],
-        &[4],
     )
 }
 
@@ -189,6 +225,13 @@ fn names_of_levels_that_are_refused(rt: HostRuntime) -> Result<(), Fail> {
         let fault = PlanFault::LevelUnknown { place };
         check_refusal(&rt, alloc, &tree, (levels, Some("x"), "x"), fault);
     }
+    Ok(())
+}
+
+#[test]
+fn levels_that_are_refused(rt: HostRuntime) -> Result<(), Fail> {
+    let alloc = rt.alloc();
+    let tree = built(&rt, alloc, MACHINE)?;
     for levels in [
         "pu,core,l3,package,machine,machine",
         "machine,machine,machine,machine,machine,machine,machine",
@@ -318,7 +361,12 @@ fn nodes_are_numbered_by_rank(rt: HostRuntime) -> Result<(), Fail> {
             &[1, 1, 0, 0],
             &[4, 3, 2, 0],
         ],
-    )?;
+    )
+}
+
+#[test]
+fn objects_without_a_caller_are_no_nodes(rt: HostRuntime) -> Result<(), Fail> {
+    let alloc = rt.alloc();
     check_shape(
         &rt,
         alloc,
@@ -338,29 +386,23 @@ fn nodes_are_numbered_by_rank(rt: HostRuntime) -> Result<(), Fail> {
     check_shape(&rt, alloc, b"Package:4 PU:3", "package,machine", &[], &[])
 }
 
+// So many PUs, from the last of the largest topology downwards, each 16 before the other.
+fn spread(alloc: Global, count: u32) -> Result<Vec<u32>, Fail> {
+    let mut pus = Vec::with_capacity(alloc, 256)?;
+    for caller in 0..count {
+        pus.push(4094_u32.saturating_sub(caller.saturating_mul(16)))?;
+    }
+    Ok(pus)
+}
+
 #[test]
 fn as_many_callers_and_objects_as_there_may_be(rt: HostRuntime) -> Result<(), Fail> {
     let alloc = rt.alloc();
     let tree = built(&rt, alloc, b"Package:3 Group:1365 Group:1 Group:1 PU:1")?;
+    let plan = read_plan(alloc, &tree, ("pu,group2,group1,group0,machine", None, "1"))?;
     let topology = Topology::from_tree(alloc, tree)?;
-    let Ok(plan) = Plan::read(
-        alloc,
-        &topology,
-        b"pu,group2,group1,group0,machine",
-        None,
-        b"1",
-    ) else {
-        panic!(rt; "no plan");
-    };
-    let mut pus = Vec::with_capacity(alloc, 256)?;
-    for caller in 0..256_u32 {
-        pus.push(4094 - 16 * caller)?;
-    }
-    let known = topology.count(topo_tree::Layer::Depth(topology.depths() - 1));
-    for pu in &pus {
-        assert!(rt; *pu < known);
-    }
-    let shape = plan.shape(alloc, &topology, &pus)?;
+    let pus = spread(alloc, 256)?;
+    let shape = shape_of(&rt, alloc, &topology, &plan, &pus)?;
     for (caller, path) in shape.paths.as_slice().iter().enumerate() {
         assert!(rt; caller < 256);
         let node = 255 - caller as u32;
