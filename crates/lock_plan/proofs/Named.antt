@@ -34,8 +34,8 @@ module _ (described : Description) where
       subst (λ (d : ℕ). d < depth_count described) e (All-get_or (λ (d : ℕ). d < depth_count described) (one ∷ []) 0 0 (omega arith) all)
   only_within (one ∷ next ∷ others) depth all is = absurd cc
 
-  numbered_within : (depths : List ℕ) (number depth : ℕ) → All (λ d. d < depth_count described) depths → slice_get depths number ≡ Some depth
-      → depth < depth_count described
+  numbered_within : (depths : List ℕ) (number depth : ℕ) → All (λ d. d < depth_count described) depths
+      → slice_get depths number ≡ Some depth → depth < depth_count described
   numbered_within depths number depth all is =
       subst (λ (d : ℕ). d < depth_count described) (get_or_from_slice_get depths number depth 0 is)
       (All-get_or (λ (d : ℕ). d < depth_count described) depths number 0 (slice_get_within depths number depth is) all)
@@ -92,7 +92,8 @@ module _ (described : Description) where
   layer_depth_within (Some layers.Memory) depth sound fits is = carrier_within described.memory depth sound.memory is
 
   -- the depth that a word names is one
-  pub named_within : (word : List ℕ) (depth : ℕ) → IsSound described → depth_named described word ≡ Some depth → depth < depth_count described
+  pub named_within : (word : List ℕ) (depth : ℕ) → IsSound described → depth_named described word ≡ Some depth
+      → depth < depth_count described
   named_within word depth sound is =
       layer_depth_within (layer_named described word) depth sound (named_layer (name_of word)) is
 

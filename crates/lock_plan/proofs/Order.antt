@@ -1,15 +1,14 @@
 -- The order of the levels of a lock.
-use Rattle.std.proofs.Common.{◌≡◌, ◌⊎◌, ℕ, zero, suc, ◌+◌, ◌-◌, ◌<◌, ◌≤◌, Bool, true, false, List, [], ◌∷◌, ◌++◌, length, get_or, take, drop}
-use Rattle.std.proofs.Common.{Some, None, refl, sym, ap, ◌∙◌, subst, arith, add-one, drop-cons, inl, inr}
-use Rattle.std.specs.Prelude.{All, slice_index, nat_le, nat_lt, ◌==◌, ◌&&◌, ◌||◌, find}
-use Rattle.std.specs.List.{AllPairs, AllByRecursion, range_with_len}
+use Rattle.std.proofs.Common.{◌≡◌, ℕ, zero, suc, ◌+◌, ◌-◌, ◌<◌, ◌≤◌, false, List, [], ◌∷◌, ◌++◌, length}
+use Rattle.std.proofs.Common.{take, drop}
+use Rattle.std.proofs.Common.{None, refl, ap, ◌∙◌, subst, arith}
+use Rattle.std.specs.Prelude.{All, slice_index}
+use Rattle.std.specs.List.{AllPairs}
 use Rattle.std.proofs.lemmas.Bool.Decides.{nat_tests}
 use Rattle.std.proofs.lemmas.List.{get_or-append_right, drop_all}
 use Rattle.std.proofs.lemmas.Grind.{get_or_default_zero}
 use Rattle.byte_text.proofs.CutLaws.{split_element}
-use Rattle.std.proofs.lemmas.List.Elements.{All-get_or}
 use Rattle.synth_text.specs.declared.description.Description.{Description}
-use Rattle.synth_text.specs.Sound.{IsSound}
 use Rattle.topo_tree.specs.Objects.{depth_count}
 use Rattle.topo_tree.proofs.Faults.{find_none, find_none_says}
 use Rattle.lock_select.specs.Nodes.{AreLevels, level_limit}

@@ -1,6 +1,6 @@
 -- What every plan of some texts keeps, and that texts have a plan or are refused.
-use Rattle.std.proofs.Common.{◌≡◌, ◌⊎◌, ℕ, ◌+◌, ◌-◌, ◌<◌, ◌≤◌, Bool, true, false, List, [], length, Option, Some, None, refl, sym, ap, ◌∙◌}
-use Rattle.std.proofs.Common.{inl, inr, arith, subst, eq-eqb, get_or}
+use Rattle.std.proofs.Common.{◌≡◌, ◌⊎◌, ℕ, ◌-◌, ◌<◌, ◌≤◌, Bool, true, false, List, [], length, Option, Some, None, refl, sym, ap, ◌∙◌}
+use Rattle.std.proofs.Common.{inl, inr, arith, subst}
 use Rattle.std.specs.Prelude.{◌==◌, ◌&&◌, nat_lt, option_map, if◌then◌else◌, replicate, All, slice_index, unwrap_or}
 use Rattle.std.specs.Option.{option_or}
 use Rattle.std.proofs.lemmas.Bool.{cases_Bool, eqb-true, eqb-false}
@@ -8,12 +8,11 @@ use Rattle.std.proofs.lemmas.Bool.Decides.{nat_tests}
 use Rattle.std.proofs.lemmas.List.{length-replicate, get_or-replicate}
 use Rattle.std.proofs.lemmas.List.Elements.{All-from_recursion, All-from_get_or, All-get_or}
 use Rattle.out_of_memory.specs.Memory.{UnlessMemory}
-use Rattle.byte_text.specs.Numerals.{number_below, number_where, is_decimal}
+use Rattle.byte_text.specs.Numerals.{number_below, is_decimal}
 use Rattle.std.specs.Str.Parse.{digits_value}
 use Rattle.synth_text.specs.declared.description.Description.{Description}
 use Rattle.synth_text.specs.IndexTexts.{entries_of}
 use Rattle.synth_text.specs.Sound.{IsSound}
-use Rattle.topo_tree.specs.Building.{IsBuilt}
 use Rattle.topo_tree.specs.Objects.{depth_count}
 use Rattle.topo_tree.specs.Naming.{depth_named}
 use Rattle.lock_select.specs.Nodes.{AreLevels, level_limit}
@@ -22,9 +21,11 @@ use Rattle.lock_plan.specs.declared.kind.LockKind.{LockKind}
 use Rattle.lock_plan.specs.declared.kind.LockKind.TheVariants.{Mcs}
 use Rattle.lock_plan.specs.declared.plan.Plan.{Plan}
 use Rattle.lock_plan.specs.declared.fault.PlanFault.{PlanFault}
-use Rattle.lock_plan.specs.declared.fault.PlanFault.TheVariants.{LevelUnknown, TooDeep, LevelOrder, LockUnknown, Lengths, KeepRange, OutOfMemory}
+use Rattle.lock_plan.specs.declared.fault.PlanFault.TheVariants.{LevelUnknown, TooDeep, LevelOrder, LockUnknown, Lengths}
+use Rattle.lock_plan.specs.declared.fault.PlanFault.TheVariants.{KeepRange, OutOfMemory}
 use Rattle.lock_plan.specs.Lists.{comma_list, dash_list, first_unknown}
-use Rattle.lock_plan.specs.Plans.{kind_named, AreKinds, are_enough, keeps_by, AreKeeps, IsPlan, IsPlanFor, depths_named, first_misplaced, level_fault, lock_fault, keep_fault, plan_fault, PlanRefused}
+use Rattle.lock_plan.specs.Plans.{kind_named, AreKinds, are_enough, keeps_by, AreKeeps, IsPlanFor, depths_named}
+use Rattle.lock_plan.specs.Plans.{first_misplaced, level_fault, lock_fault, keep_fault, plan_fault, PlanRefused}
 use Rattle.lock_plan.specs.Laws.{NotBoth, PlanOrRefusal}
 use Rattle.lock_plan.proofs.Named.{named_within}
 use Rattle.lock_plan.proofs.Order.{levels_from, placed_from}
@@ -63,14 +64,16 @@ lone : (levels keep : ℕ) → keep ≤ keep_limit → Spread levels (replicate 
 lone levels keep low = record {
   long = length-replicate (levels - 1) keep;
   few = All-from_get_or (λ (k : ℕ). k ≤ keep_limit) (replicate (levels - 1) keep) 0 (λ i within.
-      let at = get_or-replicate (levels - 1) i keep 0 (omega (arith, within, length-replicate (levels - 1) keep)) in omega (arith, at, low));
+      let at = get_or-replicate (levels - 1) i keep 0 (omega (arith, within, length-replicate (levels - 1) keep)) in
+      omega (arith, at, low));
 }
 
 spread : (levels : ℕ) (given : List ℕ) → (length given ≡ 1) ⊎ (length given ≡ levels - 1) → All (λ keep. keep ≤ keep_limit) given
     → Spread levels (keeps_by levels given)
 spread levels given enough few =
     elim (cases_Bool (length given == 1)) [
-      | inl one ↦ let first = All-get_or (λ (k : ℕ). k ≤ keep_limit) given 0 0 (let e = eqb-true (length given) 1 one in omega (arith, e)) few in
+      | inl one ↦ let some : 0 < length given = let e = eqb-true (length given) 1 one in omega (arith, e) in
+          let first = All-get_or (λ (k : ℕ). k ≤ keep_limit) given 0 0 some few in
           subst (Spread levels) (sym (ap (λ (b : Bool). if b then replicate (levels - 1) (slice_index given 0) else given) one))
           (lone levels (slice_index given 0) first)
       | inr other ↦ let no = eqb-false (length given) 1 other in

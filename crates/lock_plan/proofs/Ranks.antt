@@ -1,11 +1,11 @@
 -- The rank of an object among those that have a caller under them.
-use Rattle.std.proofs.Common.{◌≡◌, ◌≢◌, ℕ, zero, suc, ◌+◌, ◌-◌, ◌*◌, ◌<◌, ◌≤◌, Bool, true, false, List, [], ◌∷◌, length, get_or, take, ◌++◌, refl, sym, ap, ◌∙◌}
+use Rattle.std.proofs.Common.{◌≡◌, ℕ, zero, suc, ◌+◌, ◌*◌, ◌<◌, ◌≤◌, List, [], ◌∷◌, length, get_or}
+use Rattle.std.proofs.Common.{take, ◌++◌, refl, sym, ap, ◌∙◌}
 use Rattle.std.proofs.Common.{subst, arith, inl, inr, eq-eqb}
-use Rattle.std.specs.Prelude.{◌==◌, map, All, Contains, slice_index}
+use Rattle.std.specs.Prelude.{◌==◌, map, All, Contains}
 use Rattle.std.specs.List.{position_or_len}
 use Rattle.std.specs.List.Sorted.{IsStrictlyIncreasing}
-use Rattle.std.proofs.lemmas.Bool.{cases_lt, eqb-true, ne_eqb}
-use Rattle.std.proofs.lemmas.Bool.Decides.{nat_tests}
+use Rattle.std.proofs.lemmas.Bool.{cases_lt, ne_eqb}
 use Rattle.std.proofs.lemmas.List.Kept.{AllPairs-from_increasing}
 use Rattle.std.proofs.lemmas.List.Sums.{position_or_len_is}
 use Rattle.std.proofs.Common.{IsPermutation, nat_cmp, eqb}
@@ -14,7 +14,6 @@ use Rattle.std.specs.List.{dedup, AllByRecursion}
 use Rattle.std.proofs.lemmas.Simd.{map-map}
 use Rattle.std.specs.List.Sorted.{IsSorted}
 use Rattle.std.proofs.lemmas.Bool.Decides.{same_from_decides, Decides-like}
-use Rattle.std.proofs.lemmas.Grind.{get_or_default_zero}
 use Rattle.std.proofs.lemmas.List.{length-map, get_or-map, map-append, take_more}
 use Rattle.std.proofs.lemmas.List.Elements.{All-get_or, All-from_get_or, All-map, All-from_recursion, Contains-get_or}
 use Rattle.std.proofs.lemmas.List.Filters.{All-dedup}
@@ -22,7 +21,8 @@ use Rattle.std.proofs.lemmas.List.Kept.{Contains-dedup_nat, Contains-from_dedup}
 use Rattle.std.proofs.lemmas.List.Sorted.{All-permutation, Contains-permutation, IsPermutation-sym}
 use Rattle.std.proofs.lemmas.Map.Keys.{IsStrictlyIncreasing-dedup}
 use Rattle.cpu_set.specs.Sets.{has, numbers_below}
-use Rattle.cpu_set.specs.SetLaws.{Decides-has, has-numbers_below, numbers_below_ascends, numbers_below_within, numbers_below-has, numbers_below-same}
+use Rattle.cpu_set.specs.SetLaws.{Decides-has, has-numbers_below, numbers_below_ascends, numbers_below_within, numbers_below-has}
+use Rattle.cpu_set.specs.SetLaws.{numbers_below-same}
 use Rattle.synth_text.specs.declared.description.Description.{Description}
 use Rattle.synth_text.specs.Rules.{pu_count}
 use Rattle.synth_text.specs.Sound.{IsSound}
@@ -52,7 +52,8 @@ module _ (numbers : List ℕ) (rising : IsStrictlyIncreasing numbers) where
       let before = place_low place (omega arith) in
       let less = rising place (omega arith) in
       let e : place + 1 ≡ suc place = omega arith in
-      let next : get_or numbers place 0 < get_or numbers (suc place) 0 = subst (λ (n : ℕ). get_or numbers place 0 < get_or numbers n 0) e less in
+      let next : get_or numbers place 0 < get_or numbers (suc place) 0 =
+      subst (λ (n : ℕ). get_or numbers place 0 < get_or numbers n 0) e less in
       omega (arith, before, next)
 
   -- an earlier number is no greater
@@ -99,7 +100,8 @@ module _ (described : Description) (depth : ℕ) (pus : List ℕ) where
       ∙ numbers_below-same count (has kept) (has objects)
       (λ n low. same_from_decides (has kept n) (has objects n)
       (Decides-like (has kept n)
-      (λ (h : Contains kept n). Contains-permutation sorted objects n (IsPermutation-sym objects sorted moved) (Contains-from_dedup eqb sorted n h))
+      (λ (h : Contains kept n). Contains-permutation sorted objects n (IsPermutation-sym objects sorted moved)
+      (Contains-from_dedup eqb sorted n h))
       (λ (h : Contains objects n). Contains-dedup_nat sorted n (Contains-permutation objects sorted n moved h))
       (Decides-has kept n))
       (Decides-has objects n))
@@ -145,7 +147,8 @@ module _ (described : Description) (depth : ℕ) (pus : List ℕ) where
       ∙ (Decides-has found object).1 inside))
 
   -- the node of a caller is the place of the object over its PU
-  pub node_is : (objects_are : List ℕ) (object pu : ℕ) → objects_are ≡ occupied described pus depth → object ≡ object_over described depth pu
+  pub node_is : (objects_are : List ℕ) (object pu : ℕ)
+      → objects_are ≡ occupied described pus depth → object ≡ object_over described depth pu
       → position_or_len (λ other. other == object) objects_are ≡ node_on described pus depth pu
   unfolding node_on
   node_is objects_are object pu are is =

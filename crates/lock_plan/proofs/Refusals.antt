@@ -1,9 +1,9 @@
 -- When the texts of a plan are refused.
-use Rattle.std.proofs.Common.{◌≡◌, ◌⊎◌, ℕ, ◌+◌, ◌-◌, ◌<◌, ◌≤◌, Bool, true, false, List, [], length, Option, Some, None, refl, sym, ap, ◌∙◌}
-use Rattle.std.proofs.Common.{inl, inr, arith, subst, eq-eqb, eqb-true}
-use Rattle.std.specs.Prelude.{◌==◌, ◌||◌, nat_lt, option_map, unwrap_or, if◌then◌else◌, replicate, All}
+use Rattle.std.proofs.Common.{◌≡◌, ◌⊎◌, ℕ, ◌-◌, ◌<◌, ◌≤◌, Bool, true, false, List, [], length, Option, Some, None, refl, sym, ap, ◌∙◌}
+use Rattle.std.proofs.Common.{arith, eq-eqb}
+use Rattle.std.specs.Prelude.{◌==◌, nat_lt, option_map, unwrap_or, if◌then◌else◌}
 use Rattle.std.specs.Option.{option_or}
-use Rattle.std.proofs.lemmas.Bool.{cases_Bool, lt-ltb, eqb-true}
+use Rattle.std.proofs.lemmas.Bool.{lt-ltb}
 use Rattle.std.proofs.lemmas.Bool.Decides.{nat_tests}
 use Rattle.synth_text.specs.declared.description.Description.{Description}
 use Rattle.synth_text.specs.IndexTexts.{entries_of}
@@ -15,7 +15,8 @@ use Rattle.lock_plan.specs.declared.fault.PlanFault.{PlanFault}
 use Rattle.lock_plan.specs.declared.fault.PlanFault.TheVariants.{LevelUnknown, TooDeep, LevelOrder, LockUnknown, Lengths, KeepRange}
 use Rattle.byte_text.proofs.CutLaws.{slice_split-first_piece}
 use Rattle.lock_plan.specs.Lists.{pieces_of, comma_list, dash_list, first_unknown}
-use Rattle.lock_plan.specs.Plans.{kind_named, AreKinds, are_enough, AreKeeps, depths_named, first_misplaced, level_fault, lock_fault, keep_fault, plan_fault}
+use Rattle.lock_plan.specs.Plans.{kind_named, AreKinds, are_enough, AreKeeps, depths_named, first_misplaced, level_fault}
+use Rattle.lock_plan.specs.Plans.{lock_fault, keep_fault, plan_fault}
 use Rattle.lock_plan.proofs.Readings.{known_from_entries, length-entries}
 use Rattle.lock_plan.proofs.Order.{none_from, placed_by}
 

@@ -1,22 +1,21 @@
 -- The shape of a plan is a tree of levels.
-use Rattle.std.proofs.Common.{◌≡◌, ℕ, ◌+◌, ◌-◌, ◌<◌, ◌≤◌, List, [], length, get_or, map, refl, sym, ap, ◌∙◌, subst, arith}
-use Rattle.std.specs.Prelude.{All, Contains, slice_index, slice_index_or, ◌==◌}
-use Rattle.std.specs.List.{position_or_len}
-use Rattle.std.proofs.lemmas.List.{length-map, get_or-map}
+use Rattle.std.proofs.Common.{◌≡◌, ℕ, ◌+◌, ◌-◌, ◌<◌, List, [], ◌∷◌, length, get_or, replicate}
+use Rattle.std.proofs.Common.{refl, sym, ap, ◌∙◌, subst, arith}
+use Rattle.std.specs.Prelude.{All, slice_index, slice_index_or}
+use Rattle.std.proofs.lemmas.List.{length-map, get_or-map, length-replicate, get_or-replicate, nil_from_length, ext_get_or}
 use Rattle.std.proofs.lemmas.List.Elements.{All-get_or, Contains-get_or}
 use Rattle.std.proofs.lemmas.Grind.{get_or_default_zero}
 use Rattle.synth_text.specs.declared.description.Description.{Description}
 use Rattle.synth_text.specs.Rules.{pu_count}
 use Rattle.synth_text.specs.Sound.{IsSound}
-use Rattle.topo_tree.specs.Objects.{depth_count}
 use Rattle.keep_local.specs.declared.shape.Shape.{Shape}
-use Rattle.keep_local.specs.Shapes.{top_of, callers_of, node_of, HasNode, IsWellFormed}
+use Rattle.keep_local.specs.Shapes.{top_of, callers_of, node_of, HasNode}
 use Rattle.lock_select.specs.Nodes.{AreLevels, object_over}
 use Rattle.lock_select.proofs.NodeLaws.{some_levels, top_depth, depth_within, same_up, over_machine}
 use Rattle.lock_plan.specs.declared.plan.Plan.{Plan}
 use Rattle.lock_plan.specs.Plans.{IsPlanFor}
 use Rattle.lock_plan.specs.Shapes.{occupied, node_on, path_on, IsShapeOf}
-use Rattle.lock_plan.specs.Laws.{IsTree, ShapesAreTrees}
+use Rattle.lock_plan.specs.Laws.{IsTree, ShapesAreTrees, OneLevel}
 use Rattle.lock_plan.proofs.Ranks.{place_is, place_low, occupied_rises, occupied_has, occupied_by, node_is}
 
 module _ (described : Description) (pus : List ℕ) (sound : IsSound described) (known : All (λ pu. pu < pu_count described) pus) where
@@ -32,12 +31,15 @@ module _ (described : Description) (pus : List ℕ) (sound : IsSound described) 
   -- a place among the objects of a depth is the node of each caller under the object there
   node_at : (depth caller place : ℕ) → place < length (occupied described pus depth)
       → get_or (occupied described pus depth) place 0 ≡ object_over described depth (at caller) → IsNode depth caller place
-  node_at depth caller place within is = record {
-    within = within;
-    object = is;
-    node_is = sym (node_is described depth pus (occupied described pus depth) (object_over described depth (at caller)) (at caller) refl refl)
-        ∙ place_is (occupied described pus depth) (occupied_rises described depth pus) place (object_over described depth (at caller)) within is;
-  }
+  node_at depth caller place within is =
+      let objects = occupied described pus depth in
+      let own = object_over described depth (at caller) in
+      record {
+        within = within;
+        object = is;
+        node_is = sym (node_is described depth pus objects own (at caller) refl refl)
+            ∙ place_is objects (occupied_rises described depth pus) place own within is;
+      }
 
   has_node : (depth caller : ℕ) → caller < length pus → IsNode depth caller (node_on described pus depth (at caller))
   has_node depth caller here =
@@ -157,3 +159,28 @@ module _ (described : Description) (pus : List ℕ) (sound : IsSound described) 
 
 pub trees : ShapesAreTrees
 trees described plan pus shape built planned known is = tree_is described pus built.sound known plan planned shape is
+
+-- ---- one level
+
+lone_path : (path : List ℕ) → length path ≡ 1 → slice_index path 0 ≡ 0 → path ≡ 0 ∷ []
+lone_path [] long is = absurd (omega (arith, long))
+lone_path (node ∷ []) long is = ap (λ (n : ℕ). n ∷ []) is
+lone_path (node ∷ next ∷ rest) long is = absurd (omega (arith, long))
+
+abbrev shape_with : List (List ℕ) → List ℕ → Shape
+shape_with paths keeps = record { paths = paths; keeps = keeps }
+
+pub one_level : OneLevel
+one_level described plan pus shape built planned known is one =
+    let tree = trees described plan pus shape built planned known is in
+    let callers = tree.callers in
+    let top : top_of shape ≡ 0 = let e = tree.top in omega (arith, e, one) in
+    let path = λ (w : ℕ) (here : w < callers_of shape).
+    lone_path (slice_index_or shape.paths w [])
+    (let e = tree.formed.whole w here in omega (arith, e, top))
+    (subst (λ (k : ℕ). node_of shape w k ≡ 0) top (tree.formed.one_top w here)) in
+    let paths : shape.paths ≡ replicate (length pus) (0 ∷ []) =
+    ext_get_or [] shape.paths (replicate (length pus) (0 ∷ [])) (callers ∙ sym (length-replicate (length pus) (0 ∷ [])))
+    (λ w here. path w here ∙ sym (get_or-replicate (length pus) w (0 ∷ []) [] (omega (arith, callers, here)))) in
+    ap (λ (all : List (List ℕ)). shape_with all shape.keeps) paths
+    ∙ ap (shape_with (replicate (length pus) (0 ∷ []))) (nil_from_length shape.keeps top)

@@ -1,13 +1,12 @@
 -- What holds of plans and of their shapes.
-use Rattle.std.specs.Prelude.{◌≡◌, ◌⊎◌, ℕ, ◌-◌, ◌<◌, List, length, All, Option, Some, None}
+use Rattle.std.specs.Prelude.{◌≡◌, ℕ, ◌-◌, ◌<◌, List, [], ◌∷◌, length, All, replicate, Option, None}
 use Rattle.synth_text.specs.declared.description.Description.{Description}
 use Rattle.synth_text.specs.Rules.{pu_count}
 use Rattle.topo_tree.specs.Building.{IsBuilt}
 use Rattle.keep_local.specs.declared.shape.Shape.{Shape}
 use Rattle.keep_local.specs.Shapes.{top_of, callers_of, IsWellFormed}
 use Rattle.lock_plan.specs.declared.plan.Plan.{Plan}
-use Rattle.lock_plan.specs.declared.fault.PlanFault.{PlanFault}
-use Rattle.lock_plan.specs.Plans.{IsPlan, IsPlanFor, PlanRefused, plan_fault}
+use Rattle.lock_plan.specs.Plans.{IsPlan, IsPlanFor, plan_fault}
 use Rattle.lock_plan.specs.Shapes.{IsShapeOf}
 
 -- At most one plan fits some texts.
@@ -48,3 +47,10 @@ abbrev pub ShapesAreTrees : Type 0
 ShapesAreTrees =
     (described : Description) (plan : Plan) (pus : List ℕ) (shape : Shape) → IsBuilt described → IsPlanFor described plan
     → All (λ pu. pu < pu_count described) pus → IsShapeOf described plan pus shape → IsTree plan pus shape
+
+-- The shape of a plan of one level: all callers stand under its one node, and no level lies below it.
+abbrev pub OneLevel : Type 0
+OneLevel =
+    (described : Description) (plan : Plan) (pus : List ℕ) (shape : Shape) → IsBuilt described → IsPlanFor described plan
+    → All (λ pu. pu < pu_count described) pus → IsShapeOf described plan pus shape → length plan.depths ≡ 1
+    → shape ≡ record { paths = replicate (length pus) (0 ∷ []); keeps = [] }

@@ -1,4 +1,4 @@
-use Rattle.std.proofs.Common.{◌≡◌, ◌<◌, ℕ, false, arith, sym, ◌∙◌, length, below_more}
+use Rattle.std.proofs.Common.{◌≡◌, ℕ, false, arith, sym, ◌∙◌, length, below_more}
 use Rattle.topo_tree.proofs.Faults.{find_first, find_none}
 use Rattle.lock_plan.specs.Plans.{is_misplaced, first_misplaced}
 use Rattle.lock_plan.proofs.levels.first_misplaced.Goals as goal

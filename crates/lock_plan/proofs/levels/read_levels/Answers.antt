@@ -1,5 +1,5 @@
-use Rattle.std.proofs.Common.{◌≡◌, ◌<◌, ◌≤◌, ℕ, Some, inl, sym, ap, ◌∙◌, length, arith}
-use Rattle.std.specs.Prelude.{option_map, vec_len}
+use Rattle.std.proofs.Common.{◌<◌, ℕ, inl, sym, ap, ◌∙◌, arith}
+use Rattle.std.specs.Prelude.{option_map}
 use Rattle.std.proofs.lemmas.List.Elements.{All-from_recursion}
 use Rattle.topo_tree.specs.Objects.{depth_count}
 use Rattle.topo_tree.specs.Naming.{depth_named}

@@ -1,4 +1,4 @@
-use Rattle.std.proofs.Common.{◌≡◌, ◌+◌, ◌≤◌, ℕ, List, [], Option, Some, None, inl, refl, sym, ap, ◌∙◌, subst, length, length-append, ◌∷◌, arith}
+use Rattle.std.proofs.Common.{◌≡◌, ◌+◌, ◌≤◌, ℕ, List, [], Option, inl, sym, ap, ◌∙◌, subst, length, length-append, ◌∷◌, arith}
 use Rattle.std.specs.Prelude.{◌==◌, vec_len}
 use Rattle.byte_text.specs.Cuts.{pieces}
 use Rattle.byte_text.specs.Views.{text_at, piece_texts}
@@ -49,7 +49,8 @@ loop-rest-preserved g c =
     let said = sym c.in-Some-entry.ensures.entry in
     let whole = left_parts test c.in-Some.text.now in
     let some : 1 ≤ length parts.0 = nonempty says parts.0 entry said c.entry.ensures.empty in
-    let here : left (text_at c.loop-rest.rest) ≡ length c.in-Some.text.now + 1 = ap (λ (o : Option (List ℕ)). left o) (ap text_at c.in-Some.is) in
+    let here : left (text_at c.loop-rest.rest) ≡ length c.in-Some.text.now + 1 =
+    ap (λ (o : Option (List ℕ)). left o) (ap text_at c.in-Some.is) in
     let first : length parts.0 + 1 + left parts.1 ≡ length c.in-Some.text.now + 1 =
     ap (λ (p : List ℕ × Option (List ℕ)). length p.0 + 1 + left p.1) c.first_piece.ensures ∙ sym whole in
     let items = c.in_ok-push.ensures.items in

@@ -1,6 +1,5 @@
-use Rattle.std.proofs.Common.{rules, ◌≡◌, ◌+◌, ◌<◌, ◌++◌, ◌∷◌, [], ℕ, List, Contains, get_or, length, map, take, sym, ap, ◌∙◌, subst, arith}
+use Rattle.std.proofs.Common.{◌≡◌, ℕ, List, Contains, get_or, sym, ◌∙◌, subst}
 use Rattle.std.specs.List.Sorted.{IsStrictlyIncreasing}
-use Rattle.lock_select.specs.Nodes.{object_over}
 use Rattle.lock_plan.specs.Shapes.{occupied, node_on}
 use Rattle.lock_plan.proofs.Ranks.{occupied_rises, occupied_has, node_is, map_more}
 use Rattle.lock_plan.proofs.nodes.nodes.Goals as goal

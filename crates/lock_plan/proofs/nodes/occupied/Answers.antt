@@ -1,4 +1,4 @@
-use Rattle.std.proofs.Common.{◌≡◌, ◌≤◌, ℕ, List, length, map, take, sym, ap, ◌∙◌, subst, arith, eqb, IsPermutation}
+use Rattle.std.proofs.Common.{ℕ, List, map, ap, ◌∙◌, subst, eqb, IsPermutation}
 use Rattle.std.proofs.lemmas.List.{take_all}
 use Rattle.std.proofs.lemmas.List.Filters.{dedup_is}
 use Rattle.lock_select.specs.Nodes.{object_over}

@@ -1,7 +1,7 @@
-use Rattle.std.proofs.Common.{rules, ◌≡◌, ◌+◌, ◌<◌, ◌++◌, ◌∷◌, [], ℕ, List, get_or, length, map, take, sym, ap, ◌∙◌, subst, arith}
+use Rattle.std.proofs.Common.{◌<◌, ℕ, length, map, ap, ◌∙◌, arith}
 use Rattle.std.proofs.Common.{Vec, Global}
 use Rattle.lock_plan.specs.Shapes.{path_on}
-use Rattle.lock_plan.proofs.Ranks.{nodes_by, path_is, levels_long, map_more}
+use Rattle.lock_plan.proofs.Ranks.{path_is, levels_long, map_more}
 use Rattle.lock_plan.proofs.nodes.paths.Goals as goal
 
 pub path-requires : goal.path-requires
@@ -19,5 +19,6 @@ loop-caller-preserved c =
     let within : c.loop-caller.caller < length pus = omega arith in
     let path = c.in_ok-path.ensures
     ∙ path_is (λ (level : Vec ℕ Global). level.items) described pus c.deref.result.now depths c.loop-caller.caller same within in
-    map_more (path_on described pus depths) pus c.loop-caller.caller c.loop-caller.paths.items c.push.new.self.items c.in_ok-path.field-0 within
+    map_more (path_on described pus depths) pus c.loop-caller.caller c.loop-caller.paths.items c.push.new.self.items
+    c.in_ok-path.field-0 within
     c.loop-caller.invariant path c.in_ok-push.ensures.items

@@ -1,5 +1,4 @@
-use Rattle.std.proofs.Common.{◌≡◌, ℕ, List, Some, sym, ap, ◌∙◌, subst, length, arith}
-use Rattle.std.specs.Prelude.{vec_len, Option}
+use Rattle.std.proofs.Common.{◌≡◌, ℕ, Some, subst, length, arith}
 use Rattle.std.proofs.lemmas.Result.{err_from_is_err_and}
 use Rattle.out_of_memory.specs.Memory.{UnlessMemory}
 use Rattle.byte_text.specs.Views.{text_at}

@@ -1,10 +1,7 @@
-use Rattle.std.proofs.Common.{rules, ◌≡◌, ℕ, List, map, sym, ap, ◌∙◌, subst}
-use Rattle.std.specs.Prelude.{All}
-use Rattle.synth_text.specs.declared.description.Description.{Description}
-use Rattle.synth_text.specs.Rules.{pu_count}
+use Rattle.std.proofs.Common.{rules, subst}
 use Rattle.synth_text.specs.Sound.{IsSound}
 use Rattle.keep_local.specs.declared.shape.Shape.{Shape}
-use Rattle.lock_plan.specs.Shapes.{IsShapeOf, path_on}
+use Rattle.lock_plan.specs.Shapes.{IsShapeOf}
 use Rattle.lock_plan.proofs.Trees.{tree_is}
 use Rattle.lock_plan.proofs.plan.Plan.shape.Goals as goal
 
