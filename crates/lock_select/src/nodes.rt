@@ -9,8 +9,8 @@ ghost use Rattle.lock_select.specs.Walks.{IsCommon, AreCommons};
 use std::alloc::{AllocError, Global};
 use topo_tree::{Layer, Tree};
 
-// The object of a depth over a PU.
-fn object_over(tree: &Tree, depth: u32, pu: u32) -> u32
+/// The object of a depth over a PU.
+pub fn object_over(tree: &Tree, depth: u32, pu: u32) -> u32
     requires { depth < depth_count tree.now }
     ensures { result ≡ object_over tree.now depth pu }
 {
