@@ -110,8 +110,8 @@ fn go<'a, C: Composed<Journal<'a>>>(lock: &C, leave: C::Leave, task: &Task<'a>) 
     }
 }
 
-/// Makes the caller's step of a round: an idle caller with a command left begins to take the lock, a queued one asks again, a holder applies
-/// its next command and begins to leave, and one that leaves asks again.
+/// Makes the caller's step of a round: an idle caller with a command left begins to take the lock, a queued one asks again, a holder
+/// applies its next command and begins to leave, and one that leaves asks again.
 pub(crate) fn step<'a, C: Composed<Journal<'a>>>(lock: &C, walker: &mut WalkerIn<'a, C>)
     requires sound { C.sound lock.now }
     requires lowest { C.level lock.now ≡ 0 }

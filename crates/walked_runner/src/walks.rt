@@ -56,8 +56,8 @@ pub fn run_walk<'a, C: Composed<Journal<'a>>, R: Wait>(
     crew_of(lock, jobs, passes, shares, stopped)
 }
 
-/// Has the callers of a lock that is ready walk, as `run_walk` does, takes the lock apart, and gives what they leave. Without memory for the
-/// run, or for a command in it, nothing is given.
+/// Has the callers of a lock that is ready walk, as `run_walk` does, takes the lock apart, and gives what they leave. Without memory for
+/// the run, or for a command in it, nothing is given.
 pub fn walk_under<'a, C: Composed<Journal<'a>> + Drop, R: Wait>(
     rt: &R,
     alloc: Global,
