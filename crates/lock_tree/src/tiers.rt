@@ -27,8 +27,8 @@ pub type LowPass = LevelPass<Pass>;
 
 /// A composed lock whose levels are of kinds that a plan chooses.
 pub(crate) trait Tiers<P: Payload>: Composed<P> + Drop {
-    // how many levels it has
-    ghost tiers: { ℕ };
+    // how many levels it has below its top
+    ghost lower: { ℕ };
 
     /// A lock for a shape, from this level up to the top, around a root. For want of memory the levels that were made are closed, and the
     /// root comes back.
@@ -40,7 +40,7 @@ pub(crate) trait Tiers<P: Payload>: Composed<P> + Drop {
         level: u32,
     ) -> Result<(Self, Vec<Self::Pass>), Refused<Root<P>>>
         requires kinds { length plan.now.kinds ≡ top_of shape.now + 1 }
-        requires tiers { level + tiers ≡ top_of shape.now + 1 }
+        requires lower { level + lower ≡ top_of shape.now }
         requires callers { 0 < callers_of shape.now }
         requires fit { IsFit P.calls root }
         requires shape { root.trail.shape ≡ shape.now }
@@ -81,7 +81,7 @@ pub(crate) fn make_top_of<P: Payload>(
 }
 
 impl<P: Payload> Tiers<P> for Top<AnyLock<Root<P>>, Pass> {
-    ghost tiers = { 1 };
+    ghost lower = { 0 };
 
     fn raise(
         alloc: Global,
@@ -91,7 +91,7 @@ impl<P: Payload> Tiers<P> for Top<AnyLock<Root<P>>, Pass> {
         level: u32,
     ) -> Result<(TopOf<P>, Vec<TopPass<Pass>>), Refused<Root<P>>>
         requires kinds { length plan.now.kinds ≡ top_of shape.now + 1 }
-        requires tiers { level + 1 ≡ top_of shape.now + 1 }
+        requires lower { level + 0 ≡ top_of shape.now }
         requires callers { 0 < callers_of shape.now }
         requires fit { IsFit P.calls root }
         requires shape { root.trail.shape ≡ shape.now }
@@ -137,7 +137,7 @@ fn add_below<P: Payload, H: Composed<P> + Drop>(
 
 impl<P: Payload, H: Tiers<P>> Tiers<P>
     for Level<AnyLock<Own<P, H::Pass, H::Held>>, H, Pass, H::Pass> {
-    ghost tiers = { H.tiers + 1 };
+    ghost lower = { H.lower + 1 };
 
     fn raise(
         alloc: Global,
@@ -147,7 +147,7 @@ impl<P: Payload, H: Tiers<P>> Tiers<P>
         level: u32,
     ) -> Result<(LevelOver<P, H>, Vec<LowPass>), Refused<Root<P>>>
         requires kinds { length plan.now.kinds ≡ top_of shape.now + 1 }
-        requires tiers { level + (H.tiers + 1) ≡ top_of shape.now + 1 }
+        requires lower { level + (H.lower + 1) ≡ top_of shape.now }
         requires callers { 0 < callers_of shape.now }
         requires fit { IsFit P.calls root }
         requires shape { root.trail.shape ≡ shape.now }
