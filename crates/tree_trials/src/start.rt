@@ -5,7 +5,7 @@ ghost use Rattle.clof_compose.specs.Courses.{course_of};
 ghost use Rattle.clof_compose.specs.Roots.{IsFit, root_tag};
 ghost use Rattle.level_trials.specs.Rooms.{roll_tag};
 ghost use Rattle.lock_tree.specs.Made.{IsMade};
-ghost use Rattle.tree_trials.specs.Started.{IsDealt};
+ghost use Rattle.tree_trials.specs.Started.{IsDealt, IsStart};
 
 use clof_compose::{Composed, Resting, Root};
 use keep_local::{Shape, Share, Trail};
@@ -26,16 +26,14 @@ pub struct Start {
 
 /// A plan of these kinds for a shape, with a new trail of these quotas and a roll that has room for all turns. The answer is `None` for
 /// want of memory.
-pub fn start(alloc: Global, kinds: &[LockKind], shape: Shape, quotas: &[u32]) -> Option<Start>
+pub fn make_start(alloc: Global, kinds: &[LockKind], shape: Shape, quotas: &[u32]) -> Option<Start>
     requires shaped { IsWellFormed shape }
     requires few { callers_of shape < 2 ^ 32 }
     requires quotas { length quotas.now ≡ callers_of shape }
     requires fits { sum quotas.now < 2 ^ 32 }
     ensures kinds { IfSome result (λ s. s.plan.kinds ≡ kinds.now) }
     ensures shape { IfSome result (λ s. s.shape ≡ shape) }
-    ensures fit { IfSome result (λ s. IsFit (λ r. r.callers.items) s.root) }
-    ensures same { IfSome result (λ s. s.root.trail.shape ≡ shape) }
-    ensures dealt { IfSome result (λ s. IsDealt shape (course_of (root_tag roll_tag s.root)) s.shares.items) }
+    ensures started { IfSome result IsStart }
 {
     let plan = plan_of(alloc, kinds, &shape)?;
     let same = copy_of(alloc, &shape)?;
