@@ -66,7 +66,10 @@ pub fn make_2<P: Payload>(
     ensures fit { IfErr result (λ r. IsFit P.calls r.value) }
     ensures tagged { IfErr result (λ r. root_tag P.tag r.value ≡ root_tag P.tag root) }
 {
-    Lock2::<P>::raise(alloc, plan, root, shape, 0)
+    match Lock2::<P>::raise(alloc, plan, root, shape, 0) {
+        Ok(made) => Ok(made),
+        Err(refused) => Err(refused),
+    }
 }
 
 /// A lock of three levels around a root, for the callers of the shape of its trail, whose levels have the kinds of the plan. It is refused for
@@ -88,7 +91,10 @@ pub fn make_3<P: Payload>(
     ensures fit { IfErr result (λ r. IsFit P.calls r.value) }
     ensures tagged { IfErr result (λ r. root_tag P.tag r.value ≡ root_tag P.tag root) }
 {
-    Lock3::<P>::raise(alloc, plan, root, shape, 0)
+    match Lock3::<P>::raise(alloc, plan, root, shape, 0) {
+        Ok(made) => Ok(made),
+        Err(refused) => Err(refused),
+    }
 }
 
 /// A lock of four levels around a root, for the callers of the shape of its trail, whose levels have the kinds of the plan. It is refused for
@@ -110,7 +116,10 @@ pub fn make_4<P: Payload>(
     ensures fit { IfErr result (λ r. IsFit P.calls r.value) }
     ensures tagged { IfErr result (λ r. root_tag P.tag r.value ≡ root_tag P.tag root) }
 {
-    Lock4::<P>::raise(alloc, plan, root, shape, 0)
+    match Lock4::<P>::raise(alloc, plan, root, shape, 0) {
+        Ok(made) => Ok(made),
+        Err(refused) => Err(refused),
+    }
 }
 
 /// A lock of five levels around a root, for the callers of the shape of its trail, whose levels have the kinds of the plan. It is refused for
@@ -132,5 +141,8 @@ pub fn make_5<P: Payload>(
     ensures fit { IfErr result (λ r. IsFit P.calls r.value) }
     ensures tagged { IfErr result (λ r. root_tag P.tag r.value ≡ root_tag P.tag root) }
 {
-    Lock5::<P>::raise(alloc, plan, root, shape, 0)
+    match Lock5::<P>::raise(alloc, plan, root, shape, 0) {
+        Ok(made) => Ok(made),
+        Err(refused) => Err(refused),
+    }
 }
