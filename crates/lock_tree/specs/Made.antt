@@ -7,7 +7,8 @@ use Rattle.clof_compose.specs.Contexts.{AreContexts, Context}
 use Rattle.clof_compose.specs.Meanings.{Rest}
 use Rattle.clof_compose.specs.Passes.{AreAll}
 
--- a lock whose lowest level is this one of the shape: it is sound, its root has this tag, and it has a pass for each context, as it was made
+-- a lock whose lowest level is this one of the shape: it is sound, its root has this tag, and it has a pass for each context, as it was
+-- made
 pub record IsRaised {P : Type 0} (rest : P → Rest) (has : Context → Type 0) (sound : Type 0) (level count : ℕ) (tag : Tag) (shape : Shape)
     (lowest : ℕ) (root_is : Tag) (passes : List P) : Type 0 where
   pub sound_is : sound
@@ -17,7 +18,8 @@ pub record IsRaised {P : Type 0} (rest : P → Rest) (has : Context → Type 0) 
   pub all : AreAll (λ p. (rest p).context) has level tag count passes
   pub fresh : All (λ p. (rest p).report.tests ≡ 0) passes
 
--- a lock with all its levels: it is sound, its root has this tag, and it has a pass for each caller of the shape, in order, as it was made
+-- a lock with all its levels: it is sound, its root has this tag, and it has a pass for each caller of the shape, in order, as it was
+-- made
 pub record IsMade {P : Type 0} (rest : P → Rest) (has : Context → Type 0) (sound : Type 0) (level count : ℕ) (tag : Tag) (shape : Shape)
     (root_is : Tag) (passes : List P) : Type 0 where
   pub sound_is : sound

@@ -85,19 +85,39 @@ impl<V: Cargo> Basic<V> for AnyLock<V> {
         match recipe {
             LockKind::Tkt => {
                 let (lock, list) = Ticket::make(alloc, (), passes, value)?;
-                Ok((AnyLock { lock: Kinds::Ticket(lock) }, list))
+                Ok((
+                    AnyLock {
+                        lock: Kinds::Ticket(lock),
+                    },
+                    list,
+                ))
             }
             LockKind::Mcs => {
                 let (lock, list) = Mcs::make(alloc, (), passes, value)?;
-                Ok((AnyLock { lock: Kinds::Mcs(lock) }, list))
+                Ok((
+                    AnyLock {
+                        lock: Kinds::Mcs(lock),
+                    },
+                    list,
+                ))
             }
             LockKind::Clh => {
                 let (lock, list) = Clh::make(alloc, (), passes, value)?;
-                Ok((AnyLock { lock: Kinds::Clh(lock) }, list))
+                Ok((
+                    AnyLock {
+                        lock: Kinds::Clh(lock),
+                    },
+                    list,
+                ))
             }
             LockKind::Hem => {
                 let (lock, list) = Hemlock::make(alloc, (), passes, value)?;
-                Ok((AnyLock { lock: Kinds::Hemlock(lock) }, list))
+                Ok((
+                    AnyLock {
+                        lock: Kinds::Hemlock(lock),
+                    },
+                    list,
+                ))
             }
         }
     }

@@ -26,8 +26,8 @@ pub type Lock4<P> = LevelOver<P, Lock3<P>>;
 /// Five levels.
 pub type Lock5<P> = LevelOver<P, Lock4<P>>;
 
-/// A lock of one level around a root, for the callers of the shape of its trail, whose levels have the kinds of the plan. It is refused for
-/// want of memory alone, and gives the root back.
+/// A lock of one level around a root, for the callers of the shape of its trail, whose levels have the kinds of the plan. It is refused
+/// for want of memory alone, and gives the root back.
 pub fn make_1<P: Payload>(
     alloc: Global,
     plan: &Plan,
@@ -39,16 +39,16 @@ pub fn make_1<P: Payload>(
     requires callers { 0 < callers_of shape.now }
     requires fit { IsFit P.calls root }
     requires shape { root.trail.shape ≡ shape.now }
-    ensures made { IfOk result (λ m. IsMade ⟦<TopPass<Pass> as Resting>⟧.rest (⟦<Lock1<P> as Composed<P>>⟧.has m.0) (⟦<Lock1<P> as Composed<P>>⟧.sound m.0)
-        (⟦<Lock1<P> as Composed<P>>⟧.level m.0) (⟦<Lock1<P> as Composed<P>>⟧.count m.0) (⟦<Lock1<P> as Composed<P>>⟧.tag m.0) shape.now
-        (root_tag P.tag root) m.1.items) }
+    ensures made { IfOk result (λ m. IsMade ⟦<TopPass<Pass> as Resting>⟧.rest (⟦<Lock1<P> as Composed<P>>⟧.has m.0)
+        (⟦<Lock1<P> as Composed<P>>⟧.sound m.0) (⟦<Lock1<P> as Composed<P>>⟧.level m.0) (⟦<Lock1<P> as Composed<P>>⟧.count m.0)
+        (⟦<Lock1<P> as Composed<P>>⟧.tag m.0) shape.now (root_tag P.tag root) m.1.items) }
     ensures refused { IfErr result (λ r. r.value ≡ root) }
 {
     make_top_of(alloc, plan, root, shape, 0)
 }
 
-/// A lock of two levels around a root, for the callers of the shape of its trail, whose levels have the kinds of the plan. It is refused for
-/// want of memory alone, and gives the root back.
+/// A lock of two levels around a root, for the callers of the shape of its trail, whose levels have the kinds of the plan. It is
+/// refused for want of memory alone. It then closes the levels that it had made, and gives their root back.
 pub fn make_2<P: Payload>(
     alloc: Global,
     plan: &Plan,
@@ -60,9 +60,9 @@ pub fn make_2<P: Payload>(
     requires callers { 0 < callers_of shape.now }
     requires fit { IsFit P.calls root }
     requires shape { root.trail.shape ≡ shape.now }
-    ensures made { IfOk result (λ m. IsMade ⟦<LowPass as Resting>⟧.rest (⟦<Lock2<P> as Composed<P>>⟧.has m.0) (⟦<Lock2<P> as Composed<P>>⟧.sound m.0)
-        (⟦<Lock2<P> as Composed<P>>⟧.level m.0) (⟦<Lock2<P> as Composed<P>>⟧.count m.0) (⟦<Lock2<P> as Composed<P>>⟧.tag m.0) shape.now
-        (root_tag P.tag root) m.1.items) }
+    ensures made { IfOk result (λ m. IsMade ⟦<LowPass as Resting>⟧.rest (⟦<Lock2<P> as Composed<P>>⟧.has m.0)
+        (⟦<Lock2<P> as Composed<P>>⟧.sound m.0) (⟦<Lock2<P> as Composed<P>>⟧.level m.0) (⟦<Lock2<P> as Composed<P>>⟧.count m.0)
+        (⟦<Lock2<P> as Composed<P>>⟧.tag m.0) shape.now (root_tag P.tag root) m.1.items) }
     ensures fit { IfErr result (λ r. IsFit P.calls r.value) }
     ensures tagged { IfErr result (λ r. root_tag P.tag r.value ≡ root_tag P.tag root) }
 {
@@ -72,8 +72,8 @@ pub fn make_2<P: Payload>(
     }
 }
 
-/// A lock of three levels around a root, for the callers of the shape of its trail, whose levels have the kinds of the plan. It is refused for
-/// want of memory alone, and gives the root back.
+/// A lock of three levels around a root, for the callers of the shape of its trail, whose levels have the kinds of the plan. It is
+/// refused for want of memory alone. It then closes the levels that it had made, and gives their root back.
 pub fn make_3<P: Payload>(
     alloc: Global,
     plan: &Plan,
@@ -85,9 +85,9 @@ pub fn make_3<P: Payload>(
     requires callers { 0 < callers_of shape.now }
     requires fit { IsFit P.calls root }
     requires shape { root.trail.shape ≡ shape.now }
-    ensures made { IfOk result (λ m. IsMade ⟦<LowPass as Resting>⟧.rest (⟦<Lock3<P> as Composed<P>>⟧.has m.0) (⟦<Lock3<P> as Composed<P>>⟧.sound m.0)
-        (⟦<Lock3<P> as Composed<P>>⟧.level m.0) (⟦<Lock3<P> as Composed<P>>⟧.count m.0) (⟦<Lock3<P> as Composed<P>>⟧.tag m.0) shape.now
-        (root_tag P.tag root) m.1.items) }
+    ensures made { IfOk result (λ m. IsMade ⟦<LowPass as Resting>⟧.rest (⟦<Lock3<P> as Composed<P>>⟧.has m.0)
+        (⟦<Lock3<P> as Composed<P>>⟧.sound m.0) (⟦<Lock3<P> as Composed<P>>⟧.level m.0) (⟦<Lock3<P> as Composed<P>>⟧.count m.0)
+        (⟦<Lock3<P> as Composed<P>>⟧.tag m.0) shape.now (root_tag P.tag root) m.1.items) }
     ensures fit { IfErr result (λ r. IsFit P.calls r.value) }
     ensures tagged { IfErr result (λ r. root_tag P.tag r.value ≡ root_tag P.tag root) }
 {
@@ -97,8 +97,8 @@ pub fn make_3<P: Payload>(
     }
 }
 
-/// A lock of four levels around a root, for the callers of the shape of its trail, whose levels have the kinds of the plan. It is refused for
-/// want of memory alone, and gives the root back.
+/// A lock of four levels around a root, for the callers of the shape of its trail, whose levels have the kinds of the plan. It is
+/// refused for want of memory alone. It then closes the levels that it had made, and gives their root back.
 pub fn make_4<P: Payload>(
     alloc: Global,
     plan: &Plan,
@@ -110,9 +110,9 @@ pub fn make_4<P: Payload>(
     requires callers { 0 < callers_of shape.now }
     requires fit { IsFit P.calls root }
     requires shape { root.trail.shape ≡ shape.now }
-    ensures made { IfOk result (λ m. IsMade ⟦<LowPass as Resting>⟧.rest (⟦<Lock4<P> as Composed<P>>⟧.has m.0) (⟦<Lock4<P> as Composed<P>>⟧.sound m.0)
-        (⟦<Lock4<P> as Composed<P>>⟧.level m.0) (⟦<Lock4<P> as Composed<P>>⟧.count m.0) (⟦<Lock4<P> as Composed<P>>⟧.tag m.0) shape.now
-        (root_tag P.tag root) m.1.items) }
+    ensures made { IfOk result (λ m. IsMade ⟦<LowPass as Resting>⟧.rest (⟦<Lock4<P> as Composed<P>>⟧.has m.0)
+        (⟦<Lock4<P> as Composed<P>>⟧.sound m.0) (⟦<Lock4<P> as Composed<P>>⟧.level m.0) (⟦<Lock4<P> as Composed<P>>⟧.count m.0)
+        (⟦<Lock4<P> as Composed<P>>⟧.tag m.0) shape.now (root_tag P.tag root) m.1.items) }
     ensures fit { IfErr result (λ r. IsFit P.calls r.value) }
     ensures tagged { IfErr result (λ r. root_tag P.tag r.value ≡ root_tag P.tag root) }
 {
@@ -122,8 +122,8 @@ pub fn make_4<P: Payload>(
     }
 }
 
-/// A lock of five levels around a root, for the callers of the shape of its trail, whose levels have the kinds of the plan. It is refused for
-/// want of memory alone, and gives the root back.
+/// A lock of five levels around a root, for the callers of the shape of its trail, whose levels have the kinds of the plan. It is
+/// refused for want of memory alone. It then closes the levels that it had made, and gives their root back.
 pub fn make_5<P: Payload>(
     alloc: Global,
     plan: &Plan,
@@ -135,9 +135,9 @@ pub fn make_5<P: Payload>(
     requires callers { 0 < callers_of shape.now }
     requires fit { IsFit P.calls root }
     requires shape { root.trail.shape ≡ shape.now }
-    ensures made { IfOk result (λ m. IsMade ⟦<LowPass as Resting>⟧.rest (⟦<Lock5<P> as Composed<P>>⟧.has m.0) (⟦<Lock5<P> as Composed<P>>⟧.sound m.0)
-        (⟦<Lock5<P> as Composed<P>>⟧.level m.0) (⟦<Lock5<P> as Composed<P>>⟧.count m.0) (⟦<Lock5<P> as Composed<P>>⟧.tag m.0) shape.now
-        (root_tag P.tag root) m.1.items) }
+    ensures made { IfOk result (λ m. IsMade ⟦<LowPass as Resting>⟧.rest (⟦<Lock5<P> as Composed<P>>⟧.has m.0)
+        (⟦<Lock5<P> as Composed<P>>⟧.sound m.0) (⟦<Lock5<P> as Composed<P>>⟧.level m.0) (⟦<Lock5<P> as Composed<P>>⟧.count m.0)
+        (⟦<Lock5<P> as Composed<P>>⟧.tag m.0) shape.now (root_tag P.tag root) m.1.items) }
     ensures fit { IfErr result (λ r. IsFit P.calls r.value) }
     ensures tagged { IfErr result (λ r. root_tag P.tag r.value ≡ root_tag P.tag root) }
 {

@@ -6,7 +6,9 @@ ghost use Rattle.clof_compose.specs.Roots.{IsFit, root_tag};
 ghost use Rattle.lock_tree.specs.Made.{IsRaised};
 
 use crate::any_lock::AnyLock;
-use clof_compose::{Composed, Level, LevelPass, Own, Payload, Resting, Root, Top, TopPass, make_top};
+use clof_compose::{
+    Composed, Level, LevelPass, Own, Payload, Resting, Root, Top, TopPass, make_top,
+};
 use keep_local::Shape;
 use lock_plan::{LockKind, Plan};
 use lock_rules::{Pass, Refused};

@@ -1,5 +1,6 @@
-use crate::{Setting, close_1, close_2, close_3, close_4, close_5};
-use crate::{walk_1, walk_2, walk_3, walk_4, walk_5};
+use crate::{
+    Setting, close_1, close_2, close_3, close_4, close_5, walk_1, walk_2, walk_3, walk_4, walk_5,
+};
 use clof_compose::Root;
 use keep_local::{Turn, is_lawful};
 use level_trials::Roll;
@@ -39,7 +40,12 @@ fn two_callers_take_turns_at_one_level(rt: HostRuntime) {
     let Some(root) = walk_1(&rt, rt.alloc(), &setting) else {
         panic!(rt; "there was no memory")
     };
-    assert!(rt; has_turns(&root, &[turn(0, 0, 0, 0), turn(1, 0, 0, 0), turn(0, 0, 0, 0)]));
+    assert!(rt;
+        has_turns(
+            &root,
+            &[turn(0, 0, 0, 0), turn(1, 0, 0, 0), turn(0, 0, 0, 0)]
+        )
+    );
 }
 
 #[test]
@@ -124,7 +130,6 @@ fn five_callers_walk_over_four_levels_of_four_kinds(rt: HostRuntime) {
     ];
     assert!(rt; has_turns(&root, &turns));
 }
-
 
 #[test]
 fn a_root_comes_back_from_one_level(rt: HostRuntime) {

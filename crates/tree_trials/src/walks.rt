@@ -162,8 +162,8 @@ pub fn walk_5<R: Wait>(rt: &R, alloc: Global, setting: &Setting<'_>) -> Option<R
     walk_made(rt, alloc, &shape, lock, passes, shares)
 }
 
-/// A lock of one level for a setting is made and closed again. The answer is its root, also where the lock was refused; `None` where there
-/// was no memory for what it is made of, and where the paths are no tree.
+/// A lock of one level for a setting is made and closed again. The answer is its root, also where the lock was refused; `None` where
+/// there was no memory for what it is made of, and where the paths are no tree.
 pub fn close_1(alloc: Global, setting: &Setting<'_>) -> Option<Root<Roll>>
     requires kinds { length setting.now.kinds.now ≡ 1 }
     requires top { length setting.now.keeps.now ≡ 0 }
@@ -182,8 +182,8 @@ pub fn close_1(alloc: Global, setting: &Setting<'_>) -> Option<Root<Roll>>
     }
 }
 
-/// A lock of two levels for a setting is made and closed again. The answer is its root, also where the lock was refused; `None` where there
-/// was no memory for what it is made of, and where the paths are no tree.
+/// A lock of two levels for a setting is made and closed again. The answer is its root, also where the lock was refused; `None` where
+/// there was no memory for what it is made of, and where the paths are no tree.
 pub fn close_2(alloc: Global, setting: &Setting<'_>) -> Option<Root<Roll>>
     requires kinds { length setting.now.kinds.now ≡ 2 }
     requires top { length setting.now.keeps.now ≡ 1 }
@@ -202,8 +202,8 @@ pub fn close_2(alloc: Global, setting: &Setting<'_>) -> Option<Root<Roll>>
     }
 }
 
-/// A lock of three levels for a setting is made and closed again. The answer is its root, also where the lock was refused; `None` where there
-/// was no memory for what it is made of, and where the paths are no tree.
+/// A lock of three levels for a setting is made and closed again. The answer is its root, also where the lock was refused; `None` where
+/// there was no memory for what it is made of, and where the paths are no tree.
 pub fn close_3(alloc: Global, setting: &Setting<'_>) -> Option<Root<Roll>>
     requires kinds { length setting.now.kinds.now ≡ 3 }
     requires top { length setting.now.keeps.now ≡ 2 }
@@ -222,8 +222,8 @@ pub fn close_3(alloc: Global, setting: &Setting<'_>) -> Option<Root<Roll>>
     }
 }
 
-/// A lock of four levels for a setting is made and closed again. The answer is its root, also where the lock was refused; `None` where there
-/// was no memory for what it is made of, and where the paths are no tree.
+/// A lock of four levels for a setting is made and closed again. The answer is its root, also where the lock was refused; `None` where
+/// there was no memory for what it is made of, and where the paths are no tree.
 pub fn close_4(alloc: Global, setting: &Setting<'_>) -> Option<Root<Roll>>
     requires kinds { length setting.now.kinds.now ≡ 4 }
     requires top { length setting.now.keeps.now ≡ 3 }
@@ -242,8 +242,8 @@ pub fn close_4(alloc: Global, setting: &Setting<'_>) -> Option<Root<Roll>>
     }
 }
 
-/// A lock of five levels for a setting is made and closed again. The answer is its root, also where the lock was refused; `None` where there
-/// was no memory for what it is made of, and where the paths are no tree.
+/// A lock of five levels for a setting is made and closed again. The answer is its root, also where the lock was refused; `None` where
+/// there was no memory for what it is made of, and where the paths are no tree.
 pub fn close_5(alloc: Global, setting: &Setting<'_>) -> Option<Root<Roll>>
     requires kinds { length setting.now.kinds.now ≡ 5 }
     requires top { length setting.now.keeps.now ≡ 4 }

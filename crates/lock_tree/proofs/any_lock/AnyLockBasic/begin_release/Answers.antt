@@ -9,7 +9,7 @@ returns-in-Not-begin_release-clause-rests g c =
     let left = c.in-Not-begin_release.ensures in (
       left.rests,
       ap (λ p. algorithm_in p.lock) left.leave ∙ kind_told _ _ _ _ c.args.self.now.lock _ (names_tell _ _ _ _) c.requires.own.lock_is
-      ∙ ap (λ k. number_of (kind_of k)) c.in-Mcs.is,
+          ∙ ap (λ k. number_of (kind_of k)) c.in-Mcs.is,
     )
 
 pub returns-in-Not-begin_release-3-clause-rests : goal.returns-in-Not-begin_release-3-clause-rests
