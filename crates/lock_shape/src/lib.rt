@@ -1,7 +1,7 @@
 //! The levels of a composed lock that a shape of callers asks for: how many contexts each has, and the node above each context.
 #![tactic(auto)]
 
-ghost use Rattle.std.specs.Prelude.{◌≡◌, ◌+◌, ◌<◌, ◌≤◌, ◌^◌, All, length, slice_index, vec_capacity, IfOk};
+ghost use Rattle.std.specs.Prelude.{◌≡◌, ◌+◌, ◌<◌, ◌≤◌, ◌^◌, All, length, slice_index, vec_capacity, IfErr, IfOk};
 ghost use Rattle.keep_local.specs.Shapes.{IsWellFormed, top_of, callers_of, node_of};
 ghost use Rattle.clof_compose.specs.Contexts.{AreContexts, IsContextOf};
 ghost use Rattle.clof_compose.specs.Courses.{course_of};
@@ -9,7 +9,7 @@ ghost use Rattle.clof_compose.specs.Levels.{level_context};
 ghost use Rattle.clof_compose.specs.Nodes.{IsInShape, IsLevel, IsOfLevel, locks_of};
 ghost use Rattle.clof_compose.specs.Passes.{AreAll};
 
-use clof_compose::{Composed, Level, LevelPass, Own, Payload, Resting, make_level};
+use clof_compose::{Composed, Level, LevelPass, Own, Payload, Resting, Returned, make_level};
 use keep_local::Shape;
 use lock_rules::{Basic, Held, Placed};
 use out_of_memory::OutOfMemory;
@@ -74,7 +74,8 @@ fn context_of(shape: &Shape, caller: usize, level: u32) -> usize
     }
 }
 
-/// Another level below a composed lock, whose trail has this shape. It is refused for want of memory alone.
+/// Another level below a composed lock, whose trail has this shape. It is refused for want of memory alone, and gives the lock and its
+/// passes back.
 pub fn add_level<
     P: Payload,
     H: Composed<P> + Drop,
@@ -86,7 +87,7 @@ pub fn add_level<
     shape: &Shape,
     high: H,
     passes: Vec<H::Pass>,
-) -> Result<(Level<B, H, B::Pass, H::Pass>, Vec<LevelPass<B::Pass>>), OutOfMemory>
+) -> Result<(Level<B, H, B::Pass, H::Pass>, Vec<LevelPass<B::Pass>>), Returned<H, H::Pass>>
     requires sound { H.sound high }
     requires above { H.level high ≡ level + 1 }
     requires all { AreAll (λ p. (H.Pass.rest p).context) (H.has high) (H.level high) (H.tag high) (H.count high) passes.items }
@@ -106,11 +107,13 @@ pub fn add_level<
         (IsOfLevel B.name B.tag m.0.level m.0.parents.items (locks_of m.0.nodes.items)) m.0.level (H.tag m.0.high)
         (length m.0.parents.items) m.1.items) }
     ensures fresh { IfOk result (λ m. All (λ p. p.report.tests ≡ 0) m.1.items) }
+    ensures high { IfErr result (λ r. r.high ≡ high) }
+    ensures returned { IfErr result (λ r. AreAll (λ p. (H.Pass.rest p).context) (H.has high) (H.level high) (H.tag high) (H.count high)
+        r.passes.items) }
 {
-    let parents = parents_at(alloc, shape, level)?;
+    let Ok(parents) = parents_at(alloc, shape, level) else {
+        return Err(Returned { high, passes });
+    };
     let keep = shape.keeps.as_slice()[level as usize];
-    match make_level::<P, H, B>(alloc, recipe, level, keep, &parents, high, passes) {
-        Ok(made) => Ok(made),
-        Err(_) => Err(OutOfMemory),
-    }
+    make_level::<P, H, B>(alloc, recipe, level, keep, &parents, high, passes)
 }

@@ -1,0 +1,5 @@
+use Rattle.lock_tree.proofs.Levels.{made_of}
+use Rattle.lock_tree.proofs.depths.make_3.Goals as goal
+
+pub returns-in-Ok-clause-made : goal.returns-in-Ok-clause-made
+returns-in-Ok-clause-made g c = made_of c.in-Ok.ensures.raised

@@ -1,0 +1,245 @@
+//! A basic lock whose kind is chosen when it is made.
+ghost use Rattle.std.specs.Prelude.{◌≡◌, ◌≢◌, ◌+◌, ◌<◌, true, false, IfOk, IfErr};
+ghost use Rattle.lock_plan.specs.declared.kind.LockKind.TheVariants.{Mcs as mcs_kind};
+ghost use Rattle.lock_rules.specs.Holders.{holder_of};
+ghost use Rattle.lock_rules.specs.Passes.{AreAll, IsOf};
+ghost use Rattle.lock_rules.specs.Steps.{IfNot, IfGot, IsNot, IsGot};
+ghost use Rattle.lock_rules.specs.Tokens.{view_of, badge_place, badge_waiting};
+ghost use Rattle.lock_rules.specs.declared.step.Answer.TheVariants.{Open, Yes};
+ghost use Rattle.lock_tree.specs.Kinds.{by_kind, kind_of, only_queues};
+ghost use Rattle.lock_tree.specs.Leaves.{AnyRests, any_waiting};
+
+use crate::any_leave::AnyLeave;
+use crate::kinds::Kinds;
+use clh_lock::Clh;
+use hemlock_lock::Hemlock;
+use lock_plan::LockKind;
+use lock_rules::{Basic, Cargo, Held, Pass, Queue, Refused, Step};
+use mcs_lock::Mcs;
+use std::alloc::Global;
+use ticket_lock::Ticket;
+
+/// A lock of one of the four kinds.
+#[derive(Drop)]
+pub struct AnyLock<V: Cargo> {
+    lock: Kinds<Ticket<V>, Mcs<V>, Clh<V>, Hemlock<V>>,
+}
+
+impl<V: Cargo> AnyLock<V> {
+    /// The kind that it was made of.
+    pub fn kind(&self) -> LockKind
+        ensures { result ≡ kind_of self.now.lock }
+    {
+        match &self.lock {
+            Kinds::Ticket(_) => LockKind::Tkt,
+            Kinds::Mcs(_) => LockKind::Mcs,
+            Kinds::Clh(_) => LockKind::Clh,
+            Kinds::Hemlock(_) => LockKind::Hem,
+        }
+    }
+}
+
+impl<V: Cargo> Basic<V> for AnyLock<V> {
+    type Recipe = LockKind;
+
+    type Pass = Pass;
+
+    type Queue = Queue;
+
+    type Held = Held<V>;
+
+    type Leave = AnyLeave<V>;
+
+    ghost name = { λ l. by_kind ⟦<Ticket<V> as Basic<V>>⟧.name ⟦<Mcs<V> as Basic<V>>⟧.name ⟦<Clh<V> as Basic<V>>⟧.name
+        ⟦<Hemlock<V> as Basic<V>>⟧.name l.lock };
+
+    ghost tag = { λ l. by_kind ⟦<Ticket<V> as Basic<V>>⟧.tag ⟦<Mcs<V> as Basic<V>>⟧.tag ⟦<Clh<V> as Basic<V>>⟧.tag
+        ⟦<Hemlock<V> as Basic<V>>⟧.tag l.lock };
+
+    ghost count = { λ l. by_kind ⟦<Ticket<V> as Basic<V>>⟧.count ⟦<Mcs<V> as Basic<V>>⟧.count ⟦<Clh<V> as Basic<V>>⟧.count
+        ⟦<Hemlock<V> as Basic<V>>⟧.count l.lock };
+
+    /// A lock of the kind that is asked for.
+    fn make(
+        alloc: Global,
+        recipe: LockKind,
+        passes: u32,
+        value: V,
+    ) -> Result<(AnyLock<V>, Vec<Pass>), Refused<V>>
+        requires some { 0 < passes }
+        requires fit { V.fit value }
+        requires unparked { V.parked value ≡ false }
+        ensures kind { IfOk result (λ m. kind_of m.0.lock ≡ recipe) }
+        ensures tag { IfOk result (λ m. by_kind ⟦<Ticket<V> as Basic<V>>⟧.tag ⟦<Mcs<V> as Basic<V>>⟧.tag ⟦<Clh<V> as Basic<V>>⟧.tag
+            ⟦<Hemlock<V> as Basic<V>>⟧.tag m.0.lock ≡ V.tag value) }
+        ensures count { IfOk result (λ m. by_kind ⟦<Ticket<V> as Basic<V>>⟧.count ⟦<Mcs<V> as Basic<V>>⟧.count
+            ⟦<Clh<V> as Basic<V>>⟧.count ⟦<Hemlock<V> as Basic<V>>⟧.count m.0.lock ≡ passes) }
+        ensures passes { IfOk result (λ m. AreAll (λ p. badge_place p.badge) (by_kind ⟦<Ticket<V> as Basic<V>>⟧.name
+            ⟦<Mcs<V> as Basic<V>>⟧.name ⟦<Clh<V> as Basic<V>>⟧.name ⟦<Hemlock<V> as Basic<V>>⟧.name m.0.lock)
+            (by_kind ⟦<Ticket<V> as Basic<V>>⟧.tag ⟦<Mcs<V> as Basic<V>>⟧.tag ⟦<Clh<V> as Basic<V>>⟧.tag
+            ⟦<Hemlock<V> as Basic<V>>⟧.tag m.0.lock)
+            (by_kind ⟦<Ticket<V> as Basic<V>>⟧.count ⟦<Mcs<V> as Basic<V>>⟧.count ⟦<Clh<V> as Basic<V>>⟧.count
+            ⟦<Hemlock<V> as Basic<V>>⟧.count m.0.lock) m.1.items) }
+        ensures refused { IfErr result (λ r. r.value ≡ value) }
+    {
+        match recipe {
+            LockKind::Tkt => {
+                let (lock, list) = Ticket::make(alloc, (), passes, value)?;
+                Ok((
+                    AnyLock {
+                        lock: Kinds::Ticket(lock),
+                    },
+                    list,
+                ))
+            }
+            LockKind::Mcs => {
+                let (lock, list) = Mcs::make(alloc, (), passes, value)?;
+                Ok((
+                    AnyLock {
+                        lock: Kinds::Mcs(lock),
+                    },
+                    list,
+                ))
+            }
+            LockKind::Clh => {
+                let (lock, list) = Clh::make(alloc, (), passes, value)?;
+                Ok((
+                    AnyLock {
+                        lock: Kinds::Clh(lock),
+                    },
+                    list,
+                ))
+            }
+            LockKind::Hem => {
+                let (lock, list) = Hemlock::make(alloc, (), passes, value)?;
+                Ok((
+                    AnyLock {
+                        lock: Kinds::Hemlock(lock),
+                    },
+                    list,
+                ))
+            }
+        }
+    }
+
+    /// In a Ticket and a CLH lock the answer is always `Not`, and in the others only where the swap found another.
+    fn begin(&self, pass: Pass) -> Step<Queue, Held<V>>
+        requires own { IsOf (by_kind ⟦<Ticket<V> as Basic<V>>⟧.name ⟦<Mcs<V> as Basic<V>>⟧.name ⟦<Clh<V> as Basic<V>>⟧.name
+            ⟦<Hemlock<V> as Basic<V>>⟧.name self.now.lock) (by_kind ⟦<Ticket<V> as Basic<V>>⟧.tag ⟦<Mcs<V> as Basic<V>>⟧.tag
+            ⟦<Clh<V> as Basic<V>>⟧.tag ⟦<Hemlock<V> as Basic<V>>⟧.tag self.now.lock) (badge_place pass.badge) }
+        ensures only_queues { only_queues (kind_of self.now.lock) ≡ true → IsNot result }
+        ensures preceded { IfNot result (λ q. only_queues (kind_of self.now.lock) ≡ false → (badge_waiting q.badge).preceded ≡ true) }
+        ensures queue { IfNot result (λ q. (badge_waiting q.badge).place ≡ badge_place pass.badge) }
+        ensures entered { IfNot result (λ q. (view_of q.badge).entries ≡ (view_of pass.badge).entries + 1) }
+        ensures held { IfGot result (λ h. (holder_of h).place ≡ badge_place pass.badge) }
+        ensures fit { IfGot result (λ h. V.fit h.value) }
+        ensures tagged { IfGot result (λ h. V.tag h.value ≡ by_kind ⟦<Ticket<V> as Basic<V>>⟧.tag ⟦<Mcs<V> as Basic<V>>⟧.tag
+            ⟦<Clh<V> as Basic<V>>⟧.tag ⟦<Hemlock<V> as Basic<V>>⟧.tag self.now.lock) }
+        ensures untested { IfGot result (λ h. (holder_of h).tested ≡ Open) }
+    {
+        match &self.lock {
+            Kinds::Ticket(lock) => lock.begin(pass),
+            Kinds::Mcs(lock) => lock.begin(pass),
+            Kinds::Clh(lock) => lock.begin(pass),
+            Kinds::Hemlock(lock) => lock.begin(pass),
+        }
+    }
+
+    fn poll(&self, queue: Queue) -> Step<Queue, Held<V>> {
+        match &self.lock {
+            Kinds::Ticket(lock) => lock.poll(queue),
+            Kinds::Mcs(lock) => lock.poll(queue),
+            Kinds::Clh(lock) => lock.poll(queue),
+            Kinds::Hemlock(lock) => lock.poll(queue),
+        }
+    }
+
+    fn waiter(&self, held: &mut Held<V>) -> bool {
+        match &self.lock {
+            Kinds::Ticket(lock) => lock.waiter(held),
+            Kinds::Mcs(lock) => lock.waiter(held),
+            Kinds::Clh(lock) => lock.waiter(held),
+            Kinds::Hemlock(lock) => lock.waiter(held),
+        }
+    }
+
+    /// In a Ticket and a CLH lock the answer is never `Not`, and in an MCS lock only where the exchange of the tail found another.
+    fn begin_release(&self, held: Held<V>) -> Step<AnyLeave<V>, Pass>
+        requires own { IsOf (by_kind ⟦<Ticket<V> as Basic<V>>⟧.name ⟦<Mcs<V> as Basic<V>>⟧.name ⟦<Clh<V> as Basic<V>>⟧.name
+            ⟦<Hemlock<V> as Basic<V>>⟧.name self.now.lock) (by_kind ⟦<Ticket<V> as Basic<V>>⟧.tag ⟦<Mcs<V> as Basic<V>>⟧.tag
+            ⟦<Clh<V> as Basic<V>>⟧.tag ⟦<Hemlock<V> as Basic<V>>⟧.tag self.now.lock) (holder_of held).place }
+        requires fit { V.fit held.value }
+        requires tagged { V.tag held.value ≡ by_kind ⟦<Ticket<V> as Basic<V>>⟧.tag ⟦<Mcs<V> as Basic<V>>⟧.tag
+            ⟦<Clh<V> as Basic<V>>⟧.tag ⟦<Hemlock<V> as Basic<V>>⟧.tag self.now.lock }
+        requires relied_on { V.parked held.value ≡ true → (holder_of held).tested ≡ Yes }
+        requires said { V.said held.value ≢ Open → V.said held.value ≡ (holder_of held).tested }
+        ensures leaves_at_once { only_queues (kind_of self.now.lock) ≡ true → IsGot result }
+        ensures behind { IfNot result (λ l. kind_of self.now.lock ≡ mcs_kind → (any_waiting l).followed ≡ true) }
+        ensures leave { IfNot result (λ l. (any_waiting l).place ≡ (holder_of held).place) }
+        ensures loaded { IfNot result (λ l. (any_waiting l).loads ≡ (holder_of held).loads + 1) }
+        ensures unready { IfNot result (λ l. (any_waiting l).ready ≡ false) }
+        ensures rests { IfNot result (λ l. AnyRests V.fit V.tag V.parked l) }
+        ensures pass { IfGot result (λ p. badge_place p.badge ≡ (holder_of held).place) }
+    {
+        match &self.lock {
+            Kinds::Ticket(lock) => match lock.begin_release(held) {
+                Step::Not(_) => unreachable!(),
+                Step::Got(pass) => Step::Got(pass),
+            },
+            Kinds::Mcs(lock) => match lock.begin_release(held) {
+                Step::Not(leave) => Step::Not(AnyLeave::Mcs(leave)),
+                Step::Got(pass) => Step::Got(pass),
+            },
+            Kinds::Clh(lock) => match lock.begin_release(held) {
+                Step::Not(_) => unreachable!(),
+                Step::Got(pass) => Step::Got(pass),
+            },
+            Kinds::Hemlock(lock) => match lock.begin_release(held) {
+                Step::Not(leave) => Step::Not(AnyLeave::Hemlock(leave)),
+                Step::Got(pass) => Step::Got(pass),
+            },
+        }
+    }
+
+    fn poll_release(&self, leave: AnyLeave<V>) -> Step<AnyLeave<V>, Pass> {
+        match leave {
+            AnyLeave::Mcs(leave) => {
+                let Kinds::Mcs(lock) = &self.lock else {
+                    unreachable!()
+                };
+                match lock.poll_release(leave) {
+                    Step::Not(leave) => Step::Not(AnyLeave::Mcs(leave)),
+                    Step::Got(pass) => Step::Got(pass),
+                }
+            }
+            AnyLeave::Hemlock(leave) => {
+                let Kinds::Hemlock(lock) = &self.lock else {
+                    unreachable!()
+                };
+                match lock.poll_release(leave) {
+                    Step::Not(leave) => Step::Not(AnyLeave::Hemlock(leave)),
+                    Step::Got(pass) => Step::Got(pass),
+                }
+            }
+        }
+    }
+
+    fn close(self, passes: Vec<Pass>) -> V
+        requires all { AreAll (λ p. badge_place p.badge) (by_kind ⟦<Ticket<V> as Basic<V>>⟧.name ⟦<Mcs<V> as Basic<V>>⟧.name
+            ⟦<Clh<V> as Basic<V>>⟧.name ⟦<Hemlock<V> as Basic<V>>⟧.name self.lock) (by_kind ⟦<Ticket<V> as Basic<V>>⟧.tag
+            ⟦<Mcs<V> as Basic<V>>⟧.tag ⟦<Clh<V> as Basic<V>>⟧.tag ⟦<Hemlock<V> as Basic<V>>⟧.tag self.lock)
+            (by_kind ⟦<Ticket<V> as Basic<V>>⟧.count ⟦<Mcs<V> as Basic<V>>⟧.count ⟦<Clh<V> as Basic<V>>⟧.count
+            ⟦<Hemlock<V> as Basic<V>>⟧.count self.lock) passes.items }
+        ensures fit { V.fit result }
+        ensures tagged { V.tag result ≡ by_kind ⟦<Ticket<V> as Basic<V>>⟧.tag ⟦<Mcs<V> as Basic<V>>⟧.tag ⟦<Clh<V> as Basic<V>>⟧.tag
+            ⟦<Hemlock<V> as Basic<V>>⟧.tag self.lock }
+        ensures unparked { V.parked result ≡ false }
+    {
+        match self.lock {
+            Kinds::Ticket(lock) => lock.close(passes),
+            Kinds::Mcs(lock) => lock.close(passes),
+            Kinds::Clh(lock) => lock.close(passes),
+            Kinds::Hemlock(lock) => lock.close(passes),
+        }
+    }
+}

@@ -1,0 +1,19 @@
+//! Locks for a plan: a basic lock of any of the four kinds, and composed locks of one to five levels of them.
+//!
+//! `make_1` to `make_5` make a composed lock of as many levels for the callers of a shape, whose levels have the kinds of the plan.
+#![tactic(auto)]
+
+mod any_leave;
+mod any_lock;
+mod depths;
+mod kinds;
+#[cfg(test)]
+mod tests;
+mod tiers;
+
+pub use any_leave::AnyLeave;
+pub use any_lock::AnyLock;
+pub use depths::{Lock1, Lock2, Lock3, Lock4, Lock5, make_1, make_2, make_3, make_4, make_5};
+pub use kinds::Kinds;
+pub use lock_plan::{LockKind, Plan};
+pub use tiers::{LevelOver, LowPass, Owned};
