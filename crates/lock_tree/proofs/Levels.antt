@@ -1,5 +1,5 @@
 -- What the levels of a lock for a shape need of the shape and of the root.
-use Rattle.std.proofs.Common.{◌≡◌, ℕ, zero, suc, ◌+◌, ◌<◌, List, ap, sym, ◌∙◌, subst, refl, arith}
+use Rattle.std.proofs.Common.{◌≡◌, ℕ, zero, suc, ◌<◌, List, ap, ◌∙◌, refl, arith}
 use Rattle.lock_rules.specs.Tag.{Tag}
 use Rattle.keep_local.specs.declared.shape.Shape.{Shape}
 use Rattle.keep_local.specs.Shapes.{callers_of, node_of}
