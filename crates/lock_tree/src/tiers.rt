@@ -155,7 +155,8 @@ impl<P: Payload, H: Tiers<P>> Tiers<P>
         requires shape { root.trail.shape ≡ shape.now }
         ensures raised { IfOk result (λ m. IsRaised ⟦<LowPass as Resting>⟧.rest (⟦<LevelOver<P, H> as Composed<P>>⟧.has m.0)
             (⟦<LevelOver<P, H> as Composed<P>>⟧.sound m.0) (⟦<LevelOver<P, H> as Composed<P>>⟧.level m.0)
-            (⟦<LevelOver<P, H> as Composed<P>>⟧.count m.0) (⟦<LevelOver<P, H> as Composed<P>>⟧.tag m.0) shape.now level (root_tag P.tag root) m.1.items) }
+            (⟦<LevelOver<P, H> as Composed<P>>⟧.count m.0) (⟦<LevelOver<P, H> as Composed<P>>⟧.tag m.0)
+            shape.now level (root_tag P.tag root) m.1.items) }
         ensures fit { IfErr result (λ r. IsFit P.calls r.value) }
         ensures tagged { IfErr result (λ r. root_tag P.tag r.value ≡ root_tag P.tag root) }
     {
