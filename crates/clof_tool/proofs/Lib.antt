@@ -1,4 +1,10 @@
 pub mod Codes
+pub mod Drills
+pub mod Machine
+pub mod Places
+pub mod Plans
+pub mod Runs
 pub mod SectionRuns
 pub mod Stops
 pub mod Words
+pub mod LockPlans

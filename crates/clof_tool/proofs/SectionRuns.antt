@@ -1,5 +1,5 @@
 -- A run of sections: what is printed, or the first rule that the input breaks.
-use Rattle.std.proofs.Common.{◌≡◌, ◌≤◌, ◌⊎◌, ℕ, List, length, Ok, inl, inr, refl, sym, ap, subst, ◌∙◌, arith}
+use Rattle.std.proofs.Common.{◌≡◌, ◌≤◌, ◌⊎◌, ℕ, List, length, map, Ok, inl, inr, refl, sym, ap, subst, ◌∙◌, arith}
 use Rattle.std.proofs.lemmas.Bool.{cases_lt}
 use Rattle.std.proofs.lemmas.List.{length-map}
 use Rattle.std.proofs.lemmas.List.FromFn.{length-enumerate_from}
@@ -10,18 +10,24 @@ use Rattle.synth_text.specs.declared.description.Description.{Description}
 use Rattle.synth_text.specs.declared.fault.SynthRule.{SynthRule}
 use Rattle.synth_text.specs.Descriptions.{Describes, meaning}
 use Rattle.synth_text.proofs.ItemLaws.{same_items}
+use Rattle.keep_local.specs.declared.shape.Shape.{Shape}
+use Rattle.keep_local.specs.Shapes.{top_of}
+use Rattle.lock_plan.specs.declared.plan.Plan.{Plan}
+use Rattle.lock_plan.specs.Plans.{IsPlanFor}
+use Rattle.lock_plan.proofs.Plans.{plan_is_for}
 use Rattle.placed_runner.specs.declared.fault.SectionFault.{SectionFault}
 use Rattle.placed_runner.specs.declared.fault.SectionFault.TheVariants as section
 use Rattle.placed_runner.specs.Sections.{caller_limit, IsRefused, Placed, Sections, placed, placed_at}
 use Rattle.placed_runner.specs.Printed.{IsRun}
-use Rattle.placed_runner.specs.Text.{one_lock}
 use Rattle.placed_runner.proofs.Printed.{one_history_lem}
 use Rattle.placed_runner.proofs.Readings.{one_applies}
 use Rattle.placed_runner.proofs.Uniqueness.{refusal_once, sections_once, not_both}
+use Rattle.command_words.specs.Asked.{Running}
 use Rattle.command_texts.specs.declared.status.Fault.TheVariants.{Input}
 use Rattle.command_texts.specs.declared.status.Status.{Status}
 use Rattle.command_texts.specs.declared.status.Status.TheVariants as statuses
-use Rattle.clof_tool.specs.Run.{input_limit, section_status, PrintsSections, Refuses, RefusesSections}
+use Rattle.clof_tool.specs.Run.{input_limit, section_status, PrintsSections, PrintsUnder, Refuses, RefusesSections, RunsUnder}
+use Rattle.clof_tool.proofs.Plans.{few_levels, plan_same, shape_same}
 use Rattle.clof_tool.specs.Laws.{NotBoth, OneApplies, OneHistory, OneRefusal}
 
 -- the status of a refusal is its own
@@ -83,13 +89,45 @@ few_sections described input sections are =
     ∙ length-enumerate_from 0 are.written in
     omega (arith, count, are.are.few)
 
--- a text tells one list of holds of the same sections
-same_holds : (printed : List ℕ) (one other : List Placed) → one ≡ other → length one ≤ caller_limit
-    → (first : IsRun one (one_lock (length one)) printed) (second : IsRun other (one_lock (length other)) printed)
-    → first.holds ≡ second.holds
-same_holds printed one other same few first =
-    subst (λ (sections : List Placed). (second : IsRun sections (one_lock (length sections)) printed) → first.holds ≡ second.holds) same
-    (λ second. one_history_lem one (one_lock (length one)) printed (omega (arith, few)) (omega arith) first second)
+-- a text tells one list of holds of the same sections under the lock of one shape
+same_holds : (printed : List ℕ) (sections : List Placed) (one other : Shape) → one ≡ other → length sections ≤ caller_limit
+    → top_of one ≤ 32 → (first : IsRun sections one printed) (second : IsRun sections other printed) → first.holds ≡ second.holds
+same_holds printed sections one other same few low first =
+    subst (λ (shape : Shape). (second : IsRun sections shape printed) → first.holds ≡ second.holds) same
+    (λ second. one_history_lem sections one printed (omega (arith, few)) low first second)
+
+-- the same under the lock of one plan
+same_runs : (described : Description) (plan : Plan) (printed : List ℕ) (one other : List Placed) → one ≡ other
+    → IsPlanFor described plan → length one ≤ caller_limit → (first : RunsUnder described plan one printed)
+    (second : RunsUnder described plan other printed) → first.run.holds ≡ second.run.holds
+same_runs described plan printed one other same planned few first =
+    subst (λ (sections : List Placed). (second : RunsUnder described plan sections printed) → first.run.holds ≡ second.run.holds) same
+    (λ second. let pus = map (λ (section : Placed). section.pu) one in
+    same_holds printed one first.shape second.shape
+    (shape_same described plan pus first.shape second.shape first.shape_is second.shape_is) few
+    (few_levels described plan pus first.shape planned first.shape_is) first.run second.run)
+
+-- and the same of an input
+same_prints : (described : Description) (input printed : List ℕ) (one other : Plan) → one ≡ other → IsPlanFor described one
+    → (first : PrintsUnder described one input printed) (second : PrintsUnder described other input printed)
+    → first.runs.run.holds ≡ second.runs.run.holds
+same_prints described input printed one other same planned first =
+    subst (λ (plan : Plan). (second : PrintsUnder described plan input printed) → first.runs.run.holds ≡ second.runs.run.holds) same
+    (λ second. same_runs described one printed first.sections second.sections
+    (sections_same described input first.sections second.sections first.are second.are) planned
+    (few_sections described input first.sections first.are) first.runs second.runs)
+
+-- what is asked for on a topology tells one list of holds
+same_sections : (asked : Running) (input printed : List ℕ) (one other : Description) → one ≡ other
+    → (first : PrintsSections one asked input printed) (second : PrintsSections other asked input printed)
+    → first.prints.runs.run.holds ≡ second.prints.runs.run.holds
+same_sections asked input printed one other same first =
+    subst (λ (described : Description). (second : PrintsSections described asked input printed)
+    → first.prints.runs.run.holds ≡ second.prints.runs.run.holds) same
+    (λ second. same_prints one input printed first.plan second.plan
+    (plan_same one asked first.plan second.plan first.plan_is second.plan_is)
+    (plan_is_for one asked.locks asked.keep first.plan first.plan_is.levels_are first.plan_is.kinds_are first.plan_is.keeps_are)
+    first.prints second.prints)
 
 refused_once : (described : Description) (input : List ℕ) (status other : Status) → Refuses described input status
     → Refuses described input other → status ≡ other
@@ -101,21 +139,17 @@ refused_once described input status other (inr first) (inr second) =
     ∙ ap section_status (refusal_once described input first.1.fault second.1.fault first.1.refused second.1.refused)
     ∙ sym second.1.status_is
 
-not_refused : (described : Description) (input printed : List ℕ) (status : Status) → length input ≤ input_limit
-    → PrintsSections described input printed → Refuses described input status → ⊥
-not_refused described input printed status short prints (inl long) = omega (arith, short, long.0)
-not_refused described input printed status short prints (inr broken) =
-    sections_not described input prints.sections status prints.are broken.1
+not_refused : (described : Description) (asked : Running) (input printed : List ℕ) (status : Status) → length input ≤ input_limit
+    → PrintsSections described asked input printed → Refuses described input status → ⊥
+not_refused described asked input printed status short prints (inl long) = omega (arith, short, long.0)
+not_refused described asked input printed status short prints (inr broken) =
+    sections_not described input prints.prints.sections status prints.prints.are broken.1
 
 pub one_history : OneHistory
-one_history text input printed one other =
-    let first = one.1.holds in
-    let second = other.1.holds in
-    let same = described_once text one.1.described other.1.described one.1.built.describes other.1.built.describes in
-    let sections = sections_same one.1.described input first.sections second.sections first.are
-    (subst (λ d. Sections d input second.sections) (sym same) second.are) in
-    same_holds printed first.sections second.sections sections (few_sections one.1.described input first.sections first.are)
-    first.run second.run
+one_history asked input printed one other =
+    same_sections asked input printed one.1.described other.1.described
+    (described_once asked.description one.1.described other.1.described one.1.built.describes other.1.built.describes)
+    one.1.holds other.1.holds
 
 pub some_applies : OneApplies
 some_applies described input =
@@ -131,12 +165,13 @@ some_applies described input =
     ]
 
 pub one_refusal : OneRefusal
-one_refusal text input status other first second =
-    let same = described_once text first.described second.described first.built.describes second.built.describes in
-    refused_once first.described input status other first.holds (subst (λ d. Refuses d input other) (sym same) second.holds)
+one_refusal asked input status other first second =
+    let same = described_once asked.description first.described second.described first.built.describes second.built.describes in
+    refused_once first.described input status other first.holds.1
+    (subst (λ d. Refuses d input other) (sym same) second.holds.1)
 
 pub text_or_refusal : NotBoth
-text_or_refusal text input printed status prints refuses =
-    let same = described_once text prints.1.described refuses.described prints.1.built.describes refuses.built.describes in
-    not_refused prints.1.described input printed status prints.0 prints.1.holds
-    (subst (λ d. Refuses d input status) (sym same) refuses.holds)
+text_or_refusal asked input printed status prints refuses =
+    let same = described_once asked.description prints.1.described refuses.described prints.1.built.describes refuses.built.describes in
+    not_refused prints.1.described asked input printed status prints.0 prints.1.holds
+    (subst (λ d. Refuses d input status) (sym same) refuses.holds.1)

@@ -1,5 +1,5 @@
 -- What is answered by words alone: where no status refuses them, there is a text, or memory is wanting.
-use Rattle.std.proofs.Common.{◌≡◌, ◌⊎◌, ℕ, List, Err, refl, sym, subst}
+use Rattle.std.proofs.Common.{◌≡◌, ◌⊎◌, ℕ, List, Ok, Err, inl, inr, refl, sym, ap, subst}
 use Rattle.std.specs.Prelude.{Bool, IfErr, IsOk, Result}
 use Rattle.std.specs.declared.vec.Vec.{Vec}
 use Rattle.std.specs.declared.alloc.Global.{Global}
@@ -42,3 +42,8 @@ pub distrib_complete : (made : Result (Vec ℕ Global) Status) (asked : Distribu
     → IfErr made (λ status. (status ≡ statuses.OutOfMemory) ⊎ DistribRefuses asked status)
     → ((status : Status) → DistribRefuses asked status → ⊥) → IsOk made ⊎ (made ≡ Err statuses.OutOfMemory)
 distrib_complete made asked cause none = complete_of made (DistribRefuses asked) cause none
+
+pub drill_complete : (made : Result (Vec ℕ Global) Status) → IfErr made (λ status. status ≡ statuses.OutOfMemory)
+    → IsOk made ⊎ (made ≡ Err statuses.OutOfMemory)
+drill_complete (Ok text) cause = inl refl
+drill_complete (Err status) cause = inr (ap Err cause)

@@ -1,3 +1,5 @@
+pub mod Drilling
+pub mod LockPlan
 pub mod Outcome
 pub mod Answered
 pub mod Process

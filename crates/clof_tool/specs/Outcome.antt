@@ -5,9 +5,11 @@ use Rattle.edge_io.specs.Counts.{RisesBy}
 use Rattle.command_texts.specs.declared.status.Fault.TheVariants.{Set as SetOf, Input}
 use Rattle.command_texts.specs.declared.status.Status.{Status}
 use Rattle.command_texts.specs.declared.status.Status.TheVariants as statuses
-use Rattle.command_words.specs.Asked.{Asked, Run, Set, Topo, Calc, Distrib, Select, Selection}
+use Rattle.command_words.specs.Asked.{Asked, Run, Set, Topo, Calc, Distrib, Select, Drill, Running, Selection}
 use Rattle.cpu_set.specs.declared.fault.SetFault.{SetFault}
-use Rattle.clof_tool.specs.Run.{input_limit, PrintsSections, RefusesSections, Refuses, OnDescribed}
+use Rattle.clof_tool.specs.Run.{input_limit, PrintsSections, RefusesSections, RefusesPlanned, RunRefuses, OnDescribed}
+use Rattle.drill_text.specs.Drill.{drill_text}
+use Rattle.clof_tool.specs.LockPlan.{HasLock}
 use Rattle.command_texts.specs.SetText.{PrintsSet, IsRefused}
 use Rattle.command_texts.specs.CalcText.{PrintsCalc, CalcRefuses}
 use Rattle.command_texts.specs.DistribText.{PrintsDistrib, DistribRefuses}
@@ -18,12 +20,13 @@ use Rattle.command_texts.specs.TopoText.{PrintsTopo, TopoRefuses}
 
 -- what is asked for depends on the input
 abbrev pub ReadsInput : Asked → Type 0
-ReadsInput (Run text) = Unit {0}
+ReadsInput (Run asked) = Unit {0}
 ReadsInput (Set list text) = ⊥
 ReadsInput (Topo export text) = ⊥
 ReadsInput (Calc asked) = ⊥
 ReadsInput (Distrib asked) = ⊥
 ReadsInput (Select asked) = Unit {0}
+ReadsInput (Drill number) = ⊥
 
 -- a source gave this input and came to its end: as many bytes as its count of given ones rose by, which are what it had
 -- left, where it tells that
@@ -33,23 +36,25 @@ pub record WasRead (left : Option (List ℕ)) (given given_now : ℕ) (input : L
 
 -- the input that was read for what is asked for, or any text where it doesn't depend on one
 abbrev pub HasRead : Asked → Option (List ℕ) → ℕ → ℕ → List ℕ → Type 0
-HasRead (Run text) left given given_now input = WasRead left given given_now input
+HasRead (Run asked) left given given_now input = WasRead left given given_now input
 HasRead (Set list text) left given given_now input = Unit {0}
 HasRead (Topo export text) left given given_now input = Unit {0}
 HasRead (Calc asked) left given given_now input = Unit {0}
 HasRead (Distrib asked) left given given_now input = Unit {0}
 HasRead (Select asked) left given given_now input = WasRead left given given_now input
+HasRead (Drill number) left given given_now input = Unit {0}
 
 -- the text that is printed
 abbrev pub IsAnswer : Asked → List ℕ → List ℕ → Type 0
-IsAnswer (Run text) input printed =
-    (length input ≤ input_limit) × OnDescribed text (λ described. PrintsSections described input printed)
+IsAnswer (Run asked) input printed =
+    (length input ≤ input_limit) × OnDescribed asked.description (λ described. PrintsSections described asked input printed)
 IsAnswer (Set list text) input printed = PrintsSet list text printed
 IsAnswer (Topo export text) input printed = PrintsTopo export text printed
 IsAnswer (Calc asked) input printed = PrintsCalc asked printed
 IsAnswer (Distrib asked) input printed = PrintsDistrib asked printed
 IsAnswer (Select asked) input printed =
     (length input ≤ input_limit) × OnDescribed asked.description (λ described. PrintsSelection described asked input printed)
+IsAnswer (Drill number) input printed = printed ≡ drill_text number
 
 -- why `set` refuses its text: by the leftmost rule that it breaks
 abbrev pub SetRefuses : Bool → List ℕ → Status → Type 0
@@ -63,21 +68,23 @@ SetRefuses list text statuses.OutOfMemory = ⊥
 
 -- the status with which what is asked for is refused by its words, whatever the input is
 abbrev pub WordsRefused : Asked → Status → Type 0
-WordsRefused (Run text) status = TopoRefuses text status
+WordsRefused (Run asked) status = RunRefuses asked status
 WordsRefused (Set list text) status = SetRefuses list text status
 WordsRefused (Topo export text) status = TopoRefuses text status
 WordsRefused (Calc asked) status = CalcRefuses asked status
 WordsRefused (Distrib asked) status = DistribRefuses asked status
 WordsRefused (Select asked) status = SelectRefuses asked status
+WordsRefused (Drill number) status = ⊥
 
 -- the status with which what is asked for is refused by its input
 abbrev pub InputRefused : Asked → List ℕ → Status → Type 0
-InputRefused (Run text) input status = OnDescribed text (λ described. Refuses described input status)
+InputRefused (Run asked) input status = OnDescribed asked.description (RefusesPlanned asked input status)
 InputRefused (Set list text) input status = ⊥
 InputRefused (Topo export text) input status = ⊥
 InputRefused (Calc asked) input status = ⊥
 InputRefused (Distrib asked) input status = ⊥
 InputRefused (Select asked) input status = OnDescribed asked.description (RefusesInput asked input status)
+InputRefused (Drill number) input status = ⊥
 
 -- a source has an input left, where it tells that, and no status refuses it
 pub record IsAccepted (asked : Asked) (left : Option (List ℕ)) : Type 0 where
@@ -96,6 +103,10 @@ Found left given given_now status described =
     ((status ≡ statuses.Limit Input) × WasTooLong left given given_now)
     ⊎ ((input : List ℕ) × WasRead left given given_now input × (length input ≤ input_limit) × RefusesSections described input status)
 
+-- there is a plan whose lock the program has, and what was read tells so
+abbrev pub FoundPlanned : Running → Option (List ℕ) → ℕ → ℕ → Status → Description → Type 0
+FoundPlanned asked left given given_now status described = HasLock described asked × Found left given given_now status described
+
 -- what was read tells that `select` refuses it with this status: too much of it, or no trace
 abbrev pub FoundNoTrace : Option (List ℕ) → ℕ → ℕ → Status → Description → Type 0
 FoundNoTrace left given given_now status described =
@@ -108,12 +119,13 @@ FoundRefused asked left given given_now status described = HasTerms described as
 
 -- what was read tells that what is asked for is refused with this status
 abbrev pub WasFound : Asked → Option (List ℕ) → ℕ → ℕ → Status → Type 0
-WasFound (Run text) left given given_now status = OnDescribed text (Found left given given_now status)
+WasFound (Run asked) left given given_now status = OnDescribed asked.description (FoundPlanned asked left given given_now status)
 WasFound (Set list text) left given given_now status = ⊥
 WasFound (Topo export text) left given given_now status = ⊥
 WasFound (Calc asked) left given given_now status = ⊥
 WasFound (Distrib asked) left given given_now status = ⊥
 WasFound (Select asked) left given given_now status = OnDescribed asked.description (FoundRefused asked left given given_now status)
+WasFound (Drill number) left given given_now status = ⊥
 
 -- the cause of a refusal: the words, or what was read
 abbrev pub HasCause : Asked → Option (List ℕ) → ℕ → ℕ → Status → Type 0

@@ -1,15 +1,20 @@
 -- What `run` prints.
-use Rattle.std.specs.Prelude.{◌≡◌, ◌<◌, ◌≤◌, ◌⊎◌, ℕ, List, length}
+use Rattle.std.specs.Prelude.{◌≡◌, ◌<◌, ◌≤◌, ◌⊎◌, ℕ, List, length, map}
 use Rattle.synth_text.specs.declared.description.Description.{Description}
+use Rattle.keep_local.specs.declared.shape.Shape.{Shape}
+use Rattle.lock_plan.specs.declared.plan.Plan.{Plan}
+use Rattle.lock_plan.specs.Shapes.{IsShapeOf}
 use Rattle.placed_runner.specs.declared.fault.SectionFault.{SectionFault}
 use Rattle.placed_runner.specs.declared.fault.SectionFault.TheVariants as section
 use Rattle.placed_runner.specs.Sections.{Placed, Sections, IsRefused}
-use Rattle.placed_runner.specs.Text.{one_lock}
 use Rattle.placed_runner.specs.Printed.{IsRun}
 use Rattle.command_texts.specs.declared.status.Fault.TheVariants.{Section, Input}
 use Rattle.command_texts.specs.declared.status.Status.{Status}
 use Rattle.command_texts.specs.declared.status.Status.TheVariants as statuses
-use Rattle.command_texts.specs.TopoText.{IsBuilt}
+use Rattle.command_texts.specs.TopoText.{IsBuilt, TopoRefuses}
+use Rattle.command_texts.specs.RunPlan.{PlanOf}
+use Rattle.command_words.specs.Asked.{Running}
+use Rattle.clof_tool.specs.LockPlan.{HasLock, RefusesLock}
 
 -- the greatest length of an input
 abbrev pub input_limit : ℕ
@@ -23,12 +28,24 @@ section_status (section.Short at) = statuses.Malformed (Section (section.Short a
 section_status section.TooManyCallers = statuses.Limit (Section section.TooManyCallers)
 section_status section.OutOfMemory = statuses.OutOfMemory
 
--- the input is some sections on a topology, and what is printed is the text of a run of these under one lock: of some holds by their
+-- a text is that of a run of sections under the lock of a plan, whose callers stand on their sections' PUs: of some holds by these
 -- callers, each of which gives its commands once and in order
-pub record PrintsSections (described : Description) (input printed : List ℕ) : Type 0 where
+pub record RunsUnder (described : Description) (plan : Plan) (sections : List Placed) (printed : List ℕ) : Type 0 where
+  pub shape : Shape
+  pub shape_is : IsShapeOf described plan (map (λ section. section.pu) sections) shape
+  pub run : IsRun sections shape printed
+
+-- the input is some sections on a topology, and what is printed is the text of a run of these under the lock of a plan
+pub record PrintsUnder (described : Description) (plan : Plan) (input printed : List ℕ) : Type 0 where
   pub sections : List Placed
   pub are : Sections described input sections
-  pub run : IsRun sections (one_lock (length sections)) printed
+  pub runs : RunsUnder described plan sections printed
+
+-- the same under the lock of the plan that is asked for
+pub record PrintsSections (described : Description) (asked : Running) (input printed : List ℕ) : Type 0 where
+  pub plan : Plan
+  pub plan_is : PlanOf described asked plan
+  pub prints : PrintsUnder described plan input printed
 
 -- the input is refused as sections on a topology
 pub record RefusesSections (described : Description) (input : List ℕ) (status : Status) : Type 0 where
@@ -47,3 +64,12 @@ pub record OnDescribed (text : List ℕ) (P : Description → Type 0) : Type 0 w
   pub described : Description
   pub built : IsBuilt text described
   pub holds : P described
+
+-- the words are refused: the description, or on what it describes the plan
+abbrev pub RunRefuses : Running → Status → Type 0
+RunRefuses asked status =
+    TopoRefuses asked.description status ⊎ OnDescribed asked.description (λ described. RefusesLock described asked status)
+
+-- there is a plan whose lock the program has, and an input is refused
+abbrev pub RefusesPlanned : Running → List ℕ → Status → Description → Type 0
+RefusesPlanned asked input status described = HasLock described asked × Refuses described input status

@@ -1,22 +1,19 @@
 // The text that is printed, all of it before the first write.
-ghost use Rattle.std.specs.Prelude.{◌≡◌, ◌≢◌, ◌≤◌, ◌⊎◌, ℕ, List, Some, length, IfErr, IfOk, IsOk, OnOk};
+ghost use Rattle.std.specs.Prelude.{◌≡◌, ◌≢◌, ◌≤◌, ◌⊎◌, length, IfErr, IfOk, OnOk};
 ghost use Rattle.edge_io.specs.Counts.{Rose};
 ghost use Rattle.edge_io.specs.Contents.{IsDrained};
 ghost use Rattle.edge_io.specs.Reading.{HasGiven};
 ghost use Rattle.command_texts.specs.declared.status.Status.{Status as AnyStatus};
 ghost use Rattle.command_texts.specs.declared.status.Fault.TheVariants.{Input as InputOf};
 ghost use Rattle.command_words.specs.Plain.{plain};
-ghost use Rattle.command_texts.specs.Ends.{IsRefusal, HasWritten};
-ghost use Rattle.command_texts.specs.TopoText.{TopoRefuses};
-ghost use Rattle.command_words.specs.Asked.{Run};
-ghost use Rattle.clof_tool.specs.Run.{input_limit, PrintsSections, Refuses};
-ghost use Rattle.clof_tool.specs.Outcome.{ReadsInput, WasRead, WasTooLong, WordsRefused, Found};
+ghost use Rattle.clof_tool.specs.Run.{input_limit};
+ghost use Rattle.clof_tool.specs.Outcome.{ReadsInput, WasRead, WasTooLong, WordsRefused};
 ghost use Rattle.clof_tool.specs.Answered.{Answered, AnswersUnrefused};
 
-use crate::running::run_text;
+use crate::drilling::drill_text;
 use crate::selecting::select_on;
+use crate::serving::run_on;
 use crate::{Fault, Status};
-use command_texts::topology::tree;
 use command_texts::{calc_text, distrib_text, set_text, topo_text};
 use command_words::Asked;
 use edge_io::{ReadAllFault, Source, read_all};
@@ -24,7 +21,6 @@ use placed_runner::Gate;
 use std::alloc::Global;
 use std::sync::Wait;
 use std::thread::Threads;
-use topo_tree::Tree;
 
 // The greatest length of an input.
 const INPUT_LIMIT: usize = 16_777_216;
@@ -44,64 +40,13 @@ pub(crate) fn answer<R: Threads + Wait + Sync, S: Source, G: Gate + Sync>(
     ensures words_unread { (status : AnyStatus) → WordsRefused (plain asked.entry) status → source.new ≡ source.old }
 {
     match asked {
-        Asked::Run { description } => run_on(rt, alloc, description, source, gate),
+        Asked::Run(asked) => run_on(rt, alloc, asked, source, gate),
         Asked::Set { list, text } => set_text(alloc, list, text),
         Asked::Topo { export, text } => topo_text(alloc, export, text),
         Asked::Calc(asked) => calc_text(alloc, &asked),
         Asked::Distrib(asked) => distrib_text(alloc, &asked),
         Asked::Select(asked) => select_on(alloc, &asked, source),
-    }
-}
-
-// The text of a run on the topology that a text describes, of all that the source has left.
-fn run_on<R: Threads + Wait + Sync, S: Source, G: Gate + Sync>(
-    rt: &R,
-    alloc: Global,
-    text: &[u8],
-    source: &mut S,
-    gate: &G,
-) -> Result<Vec<u8>, Status>
-    ensures answered { Answered (Run text.now) (S.left source.old) (S.left source.new) (S.given source.old) (S.given source.new)
-        (S.faults source.old) (S.faults source.new) result }
-    ensures complete { AnswersUnrefused (Run text.now) (S.left source.old) (S.faults source.old) (S.faults source.new) result }
-    ensures words_unread { (status : AnyStatus) → TopoRefuses text.now status → source.new ≡ source.old }
-{
-    match tree(alloc, text) {
-        Ok(tree) => served(rt, alloc, &tree, source, gate),
-        Err(status) => Err(status),
-    }
-}
-
-// The text of a run on a topology, of all that the source has left.
-fn served<R: Threads + Wait + Sync, S: Source, G: Gate + Sync>(
-    rt: &R,
-    alloc: Global,
-    tree: &Tree,
-    source: &mut S,
-    gate: &G,
-) -> Result<Vec<u8>, Status>
-    ensures answer { IfOk result (λ printed. (input : List ℕ)
-        × WasRead (S.left source.old) (S.given source.old) (S.given source.new) input
-        × (length input ≤ input_limit) × PrintsSections tree.now input printed.items) }
-    ensures at_end { OnOk result (IsDrained (S.left source.old) (S.left source.new)) }
-    ensures cause { IfErr result (λ status. IsRefusal status →
-        Found (S.left source.old) (S.given source.old) (S.given source.new) status tree.now) }
-    ensures silent { IfErr result (λ status. HasWritten status → ⊥) }
-    ensures not_usage { result ≢ Err Status.Usage }
-    ensures read_fault { result ≡ Err Status.ReadFault → Rose (S.faults source.old) (S.faults source.new) }
-    ensures read_in_part { result ≡ Err Status.ReadFault →
-        HasGiven input_limit (S.left source.old) (S.left source.new) (S.given source.old) (S.given source.new) }
-    ensures read_calm { result ≢ Err Status.ReadFault → S.faults source.new ≡ S.faults source.old }
-    ensures input_refused { (input : List ℕ) (status : AnyStatus) →
-        S.left source.old ≡ Some input → Refuses tree.now input status →
-        (Rose (S.faults source.old) (S.faults source.new) → ⊥) → (result ≡ Err status) ⊎ (result ≡ Err Status.OutOfMemory) }
-    ensures complete { (input : List ℕ) →
-        S.left source.old ≡ Some input → ((status : AnyStatus) → Refuses tree.now input status → ⊥) →
-        (Rose (S.faults source.old) (S.faults source.new) → ⊥) → IsOk result ⊎ (result ≡ Err Status.OutOfMemory) }
-{
-    match read_input(alloc, source) {
-        Ok(input) => run_text(rt, alloc, tree, &input, gate),
-        Err(status) => Err(status),
+        Asked::Drill(number) => drill_text(rt, alloc, number, gate),
     }
 }
 

@@ -2,11 +2,14 @@
 #![tactic(auto)]
 
 mod answer;
+mod drilling;
 mod laws;
+mod planning;
 mod process;
 mod report;
 mod running;
 mod selecting;
+mod serving;
 mod top_call;
 
 pub use command_texts::{Fault, OptionName, Status};

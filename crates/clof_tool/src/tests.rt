@@ -319,7 +319,7 @@ fn refuses_other_words(rt: HostRuntime) -> Result<(), Fail> {
         &["topo", "-", "PU:1"],
         &[],
         &["frob"],
-        &["run", "--walk"],
+        &["run", "--walk", "--walk"],
         &["Run"],
         &[""],
         &["set"],

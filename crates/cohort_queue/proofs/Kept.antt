@@ -113,6 +113,8 @@ module _ {J : Type 0} (number : J → ℕ) (tag_of : J → Tag) where
           tagged = knows.tag_is ∙ All-head (λ j. had.tag ≡ tagged_by (tag_of j)) job queue had.tagged;
           known = known;
           new = mine.1;
+          few = let outs = part_le out_count views seat v at in
+              let all = ap length knows.given_is in omega (arith, outs, all, had.in_all);
           after = refl;
         },
       )

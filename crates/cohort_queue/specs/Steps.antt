@@ -1,6 +1,6 @@
 -- The five kinds of step of a Cohort: what each makes of the view of the seat that steps. The queue itself says what becomes of the job: a
 -- push puts it behind all others, and a pop takes the one in front.
-use Rattle.std.specs.Prelude.{◌≡◌, ◌≤◌, ℕ, ◌+◌, List, [], ◌∷◌, ◌++◌, length}
+use Rattle.std.specs.Prelude.{◌≡◌, ◌<◌, ◌≤◌, ℕ, ◌+◌, List, [], ◌∷◌, ◌++◌, length}
 use mathlib.Core.Option.{some}
 use lib.ListN.{get_elem?}
 use Rattle.lock_rules.specs.Tag.{Tag}
@@ -51,11 +51,12 @@ module _ {J : Type 0} where
       abbrev pub Gives : View → J → View → Type 0
       Gives v job w = w ≡ with_given v (number job) (tag_of job)
 
-      -- the job has the tag that the view knows, and was given and not out with it
+      -- the job has the tag that the view knows, and was given and not out with it; so fewer are out with it than were given
       pub record Takes (v : View) (job : J) (w : View) : Type 0 where
         pub tagged : v.tag ≡ tagged_by (tag_of job)
         pub known : IsIn (number job) v.given
         pub new : IsNotIn (number job) v.outs
+        pub few : length v.outs < length v.given
         pub after : w ≡ with_out v (number job)
 
       -- a state of the Cohort with these jobs in the queue and this view

@@ -82,6 +82,7 @@ impl<J: Numbered> Cohort<J> {
         ensures tagged { IfSome result (λ job. J.tag job ≡ self.now.tag) }
         ensures given { IfSome result (λ job. IsIn (J.number job) self.now.numbers) }
         ensures new { IfSome result (λ job. IsNotIn (J.number job) seat.old.outs) }
+        ensures few { IfSome result (λ _. length seat.old.outs < length self.now.numbers) }
         ensures out { IfSome result (λ job. seat.new ≡ record seat.old { outs = seat.old.outs ++ J.number job ∷ [] }) }
         ensures same { result ≡ None → seat.new ≡ seat.old }
         ensures empty { result ≡ None → FoundEmpty J.number J.tag seat.old }

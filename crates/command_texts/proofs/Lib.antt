@@ -1,3 +1,4 @@
 pub mod Masks
 pub mod OnTopologies
+pub mod RunPlans
 pub mod Topologies

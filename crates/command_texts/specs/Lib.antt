@@ -4,6 +4,7 @@ pub mod DistribText
 pub mod Ends
 pub mod Line
 pub mod OnTopology
+pub mod RunPlan
 pub mod SelectText
 pub mod SetText
 pub mod Status

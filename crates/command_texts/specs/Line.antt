@@ -6,6 +6,8 @@ use Rattle.cpu_set.specs.declared.fault.SetFault.{SetFault}
 use Rattle.cpu_set.specs.declared.fault.SetFault.TheVariants as set
 use Rattle.distrib_rules.specs.declared.fault.DistribFault.{DistribFault}
 use Rattle.distrib_rules.specs.declared.fault.DistribFault.TheVariants as distrib
+use Rattle.lock_plan.specs.declared.fault.PlanFault.{PlanFault}
+use Rattle.lock_plan.specs.declared.fault.PlanFault.TheVariants as plan
 use Rattle.lock_select.specs.declared.fault.SelectFault.{SelectFault}
 use Rattle.lock_select.specs.declared.fault.SelectFault.TheVariants as select
 use Rattle.placed_runner.specs.declared.fault.SectionFault.{SectionFault}
@@ -68,6 +70,15 @@ distrib_message distrib.TooManyMasks = codes "distrib TooManyMasks"
 distrib_message distrib.Reversed = codes "distrib Reversed"
 distrib_message distrib.OutOfMemory = codes "out of memory"
 
+abbrev pub plan_message : PlanFault → List ℕ
+plan_message (plan.LevelUnknown place) = with_number (codes "plan LevelUnknown") place
+plan_message plan.TooDeep = codes "plan TooDeep"
+plan_message (plan.LevelOrder place) = with_number (codes "plan LevelOrder") place
+plan_message (plan.LockUnknown place) = with_number (codes "plan LockUnknown") place
+plan_message (plan.Lengths levels given) = with_number (with_number (codes "plan Lengths") levels) given
+plan_message (plan.KeepRange place) = with_number (codes "plan KeepRange") place
+plan_message plan.OutOfMemory = codes "out of memory"
+
 abbrev pub section_message : SectionFault → List ℕ
 section_message (section.BadHead at) = with_number (codes "section BadHead") at
 section_message (section.BadPlace at) = with_number (codes "section BadPlace") at
@@ -91,6 +102,7 @@ fault_message (faults.Build fault) = build_message fault
 fault_message (faults.Calc fault) = calc_message fault
 fault_message (faults.TypeOf option) = type_message option
 fault_message (faults.Distrib fault) = distrib_message fault
+fault_message (faults.Plan fault) = plan_message fault
 fault_message (faults.Section fault) = section_message fault
 fault_message (faults.Select fault) = select_message fault
 fault_message faults.Input = codes "input"

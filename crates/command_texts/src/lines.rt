@@ -3,7 +3,7 @@ ghost use Rattle.std.specs.Prelude.{◌≡◌, ◌≤◌, ◌+◌, ◌++◌, cod
 ghost use Rattle.arrayvec.specs.ArrayString.{array_string_len};
 ghost use Rattle.command_texts.specs.Line.{with_number, set_message, synth_message, build_message, calc_message, type_message};
 ghost use Rattle.command_texts.specs.Line.{distrib_message};
-ghost use Rattle.command_texts.specs.Line.{section_message, select_message};
+ghost use Rattle.command_texts.specs.Line.{plan_message, section_message, select_message};
 ghost use Rattle.command_texts.specs.Line.{fault_message, line_with, line_of};
 
 use crate::{Fault, OptionName, Status};
@@ -12,6 +12,7 @@ use calc_query::CalcFault;
 use cpu_set::SetFault;
 use distrib_rules::DistribFault;
 use itoa::Buffer;
+use lock_plan::PlanFault;
 use lock_select::SelectFault;
 use placed_runner::SectionFault;
 use synth_text::SynthFault;
@@ -49,6 +50,7 @@ fn fault_line(fault: &Fault) -> Line
         Fault::Calc(fault) => calc_line(fault),
         Fault::TypeOf(option) => type_line(option),
         Fault::Distrib(fault) => distrib_line(fault),
+        Fault::Plan(fault) => plan_line(fault),
         Fault::Section(fault) => section_line(fault),
         Fault::Select(fault) => select_line(fault),
         Fault::Input => saying("input"),
@@ -153,6 +155,24 @@ fn distrib_line(fault: &DistribFault) -> Line
         DistribFault::TooManyMasks => saying("distrib TooManyMasks"),
         DistribFault::Reversed => saying("distrib Reversed"),
         DistribFault::OutOfMemory => saying("out of memory"),
+    }
+}
+
+fn plan_line(fault: &PlanFault) -> Line
+    ensures { result.bytes ≡ line_with (plan_message fault.now) }
+{
+    match fault {
+        PlanFault::LevelUnknown { place } => {
+            saying_number("plan LevelUnknown", u64::from(*place))
+        }
+        PlanFault::TooDeep => saying("plan TooDeep"),
+        PlanFault::LevelOrder { place } => saying_number("plan LevelOrder", u64::from(*place)),
+        PlanFault::LockUnknown { place } => saying_number("plan LockUnknown", u64::from(*place)),
+        PlanFault::Lengths { levels, given } => {
+            saying_two("plan Lengths", u64::from(*levels), u64::from(*given))
+        }
+        PlanFault::KeepRange { place } => saying_number("plan KeepRange", u64::from(*place)),
+        PlanFault::OutOfMemory => saying("out of memory"),
     }
 }
 

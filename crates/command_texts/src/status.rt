@@ -4,6 +4,7 @@ ghost use Rattle.std.specs.Prelude.{◌≡◌};
 use calc_query::CalcFault;
 use cpu_set::SetFault;
 use distrib_rules::DistribFault;
+use lock_plan::PlanFault;
 use lock_select::SelectFault;
 use placed_runner::SectionFault;
 use synth_text::SynthFault;
@@ -48,6 +49,9 @@ pub enum Fault {
     /// The numbers of a distribution.
     #[error("the distribution: {0}")]
     Distrib(DistribFault),
+    /// The levels, the locks or the keeps of a plan.
+    #[error("the plan: {0}")]
+    Plan(PlanFault),
     /// The sections of the input.
     #[error("the sections: {0}")]
     Section(SectionFault),

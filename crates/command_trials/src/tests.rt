@@ -2,6 +2,7 @@
 mod calc;
 mod distrib;
 mod options;
+mod plan;
 mod set;
 mod topo;
 
@@ -12,6 +13,7 @@ use command_texts::{
 use command_words::{Asked, WordsFault, read_words};
 use cpu_set::SetFault;
 use distrib_rules::DistribFault;
+use lock_plan::PlanFault;
 use lock_select::SelectFault;
 use out_of_memory::OutOfMemory;
 use placed_runner::SectionFault;
@@ -28,8 +30,9 @@ fn answered(alloc: Global, words: &[&str]) -> Result<Result<Vec<u8>, Status>, Fa
         owned.push(String::from_str(alloc, word)?)?;
     }
     Ok(match read_words(alloc, &owned) {
-        Ok(Asked::Run { .. }) => Err(Status::Usage),
+        Ok(Asked::Run(asked)) => plan::of(alloc, asked).map(|_| Vec::new(alloc)),
         Ok(Asked::Select(_)) => Err(Status::Usage),
+        Ok(Asked::Drill(_)) => Err(Status::Usage),
         Ok(Asked::Set { list, text }) => set_text(alloc, list, text),
         Ok(Asked::Topo { export, text }) => topo_text(alloc, export, text),
         Ok(Asked::Calc(asked)) => calc_text(alloc, &asked),
@@ -90,6 +93,10 @@ fn tells_each_fault(rt: HostRuntime) -> Result<(), Fail> {
         (
             Fault::Distrib(DistribFault::ZeroMasks),
             "the distribution: no mask",
+        ),
+        (
+            Fault::Plan(PlanFault::TooDeep),
+            "the plan: more than 5 levels",
         ),
         (
             Fault::Section(SectionFault::TooManyCallers),

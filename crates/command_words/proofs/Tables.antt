@@ -5,6 +5,7 @@ use Rattle.clap.proofs.OnLiterals.{clap_on_literals}
 use Rattle.command_words.specs.Commands.{command_of}
 use Rattle.command_words.specs.CalcWords.{calc_rules, calc_command}
 use Rattle.command_words.specs.DistribWords.{distrib_rules, distrib_command}
+use Rattle.command_words.specs.DrillWords.{drill_rules, drill_command}
 use Rattle.command_words.specs.RunWords.{run_rules, run_command}
 use Rattle.command_words.specs.SelectWords.{select_rules, select_command}
 use Rattle.command_words.specs.SetWords.{set_rules, set_command}
@@ -57,3 +58,11 @@ select_made rules is = ap (command_of (codes "select")) is
 pub select_simple : is_simple_and_free select_command ≡ true
 unfolding select_command clap_on_literals
 select_simple = refl
+
+pub drill_made : (rules : List Rule) → rules ≡ drill_rules → command_of (codes "drill") rules ≡ drill_command
+unfolding drill_command
+drill_made rules is = ap (command_of (codes "drill")) is
+
+pub drill_simple : is_simple_and_free drill_command ≡ true
+unfolding drill_command clap_on_literals
+drill_simple = refl

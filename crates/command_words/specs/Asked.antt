@@ -43,10 +43,20 @@ pub record Selection : Type 0 where
   pub keep : Text
   pub description : Text
 
+-- a run of the sections of the input: the levels of its lock, the kinds of their basic locks where they are given, how often a
+-- level keeps the lock, whether the callers are stepped on one thread, and the topology
+pub record Running : Type 0 where
+  pub levels : Text
+  pub locks : Option Text
+  pub keep : Text
+  pub walk : Bool
+  pub description : Text
+
 pub data Asked : Type 0 where
-  Run : (description : Text) → Asked
+  Run : (asked : Running) → Asked
   Set : (list : Bool) (text : Text) → Asked
   Topo : (export : Bool) (text : Text) → Asked
   Calc : (asked : Calculation) → Asked
   Distrib : (asked : Distribution) → Asked
   Select : (asked : Selection) → Asked
+  Drill : (number : ℕ) → Asked

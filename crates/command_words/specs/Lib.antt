@@ -2,6 +2,7 @@ pub mod Asked
 pub mod CalcWords
 pub mod Commands
 pub mod DistribWords
+pub mod DrillWords
 pub mod Plain
 pub mod RunWords
 pub mod SelectWords

@@ -9,6 +9,7 @@ use Rattle.command_words.specs.declared.asked.Calculation.{Calculation}
 use Rattle.command_words.specs.declared.asked.Depths.{Depths}
 use Rattle.command_words.specs.declared.asked.Depths.TheVariants as depths
 use Rattle.command_words.specs.declared.asked.Distribution.{Distribution}
+use Rattle.command_words.specs.declared.asked.Running.{Running}
 use Rattle.command_words.specs.declared.asked.Selection.{Selection}
 use Rattle.command_words.specs.Asked as words
 
@@ -50,10 +51,20 @@ plain_distribution given = record {
 abbrev pub plain_selection : Selection → words.Selection
 plain_selection given = record { weights = plain_text given.weights; keep = given.keep.now; description = given.description.now }
 
+abbrev pub plain_running : Running → words.Running
+plain_running given = record {
+  levels = given.levels.now;
+  locks = plain_text given.locks;
+  keep = given.keep.now;
+  walk = given.walk;
+  description = given.description.now;
+}
+
 abbrev pub plain : Asked → words.Asked
-plain (asked.Run description) = words.Run description.now
+plain (asked.Run given) = words.Run (plain_running given)
 plain (asked.Set list text) = words.Set list text.now
 plain (asked.Topo export text) = words.Topo export text.now
 plain (asked.Calc given) = words.Calc (plain_calculation given)
 plain (asked.Distrib given) = words.Distrib (plain_distribution given)
 plain (asked.Select given) = words.Select (plain_selection given)
+plain (asked.Drill number) = words.Drill number

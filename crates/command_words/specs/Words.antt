@@ -9,6 +9,7 @@ use Rattle.clap.specs.Words.{Text}
 use Rattle.command_words.specs.Asked.{Asked}
 use Rattle.command_words.specs.CalcWords.{calc_asked}
 use Rattle.command_words.specs.DistribWords.{distrib_asked}
+use Rattle.command_words.specs.DrillWords.{drill_asked}
 use Rattle.command_words.specs.RunWords.{run_asked}
 use Rattle.command_words.specs.SelectWords.{select_asked}
 use Rattle.command_words.specs.SetWords.{set_asked}
@@ -27,7 +28,8 @@ command_asked (name ∷ words) =
     else (if bytes_eq name (codes "topo") then topo_asked (name ∷ words)
     else (if bytes_eq name (codes "calc") then calc_asked (name ∷ words)
     else (if bytes_eq name (codes "distrib") then distrib_asked (name ∷ words)
-    else (if bytes_eq name (codes "select") then select_asked (name ∷ words) else None)))))
+    else (if bytes_eq name (codes "select") then select_asked (name ∷ words)
+    else (if bytes_eq name (codes "drill") then drill_asked (name ∷ words) else None))))))
 
 -- what words ask for
 unfoldable pub asked_of : List Text → Option Asked
@@ -42,7 +44,8 @@ IsUsage words = asked_of (map string_bytes words) ≡ None
 
 -- the names of the commands whose words `clap` reads
 abbrev pub tabled_names : List Text
-tabled_names = codes "run" ∷ codes "set" ∷ codes "topo" ∷ codes "calc" ∷ codes "distrib" ∷ codes "select" ∷ []
+tabled_names =
+    codes "run" ∷ codes "set" ∷ codes "topo" ∷ codes "calc" ∷ codes "distrib" ∷ codes "select" ∷ codes "drill" ∷ []
 
 abbrev pub is_tabled : List Text → Bool
 is_tabled [] = false

@@ -1,11 +1,12 @@
 // What words ask for.
-ghost use Rattle.std.specs.Prelude.{◌<◌, ◌^◌, vec_len};
+ghost use Rattle.std.specs.Prelude.{◌<◌, ◌^◌, IfSome, length, vec_len};
+ghost use Rattle.std.proofs.Props.{props};
 
 /// What the words ask for.
 #[derive(Drop)]
 pub enum Asked<'a> {
     /// Serve the sections of the input, whose callers stand on the topology of a description.
-    Run { description: &'a [u8] },
+    Run(Running<'a>),
     /// Print a set, read as a list or in hexadecimal.
     Set { list: bool, text: &'a [u8] },
     /// Print the tree of a description, or its canonical text.
@@ -16,6 +17,26 @@ pub enum Asked<'a> {
     Distrib(Distribution<'a>),
     /// Choose the levels of a lock for the trace that the input holds.
     Select(Selection<'a>),
+    /// Serve the sections of the load test of a number.
+    Drill(u32),
+}
+
+/// A run of the sections of the input.
+#[derive(Clone, Copy)]
+pub struct Running<'a> {
+    /// The levels of the lock, the lowest first: `machine` where none are given.
+    pub levels: &'a [u8],
+    /// The kinds of its basic locks, where they are given.
+    pub locks: Option<&'a [u8]>,
+    /// How often a level below the top keeps the lock: 128 where nothing is given.
+    pub keep: &'a [u8],
+    /// The callers are stepped on one thread.
+    pub walk: bool,
+    /// The description of the topology: `PU:1` where none is given.
+    pub description: &'a [u8],
+    pub ghost short_levels: { length levels.now < 2 ^ 32 },
+    pub ghost short_locks: { IfSome locks (λ text. length text.now < 2 ^ 32) } by { Prim.hlevel props },
+    pub ghost short_keep: { length keep.now < 2 ^ 32 },
 }
 
 /// What is asked of a set.

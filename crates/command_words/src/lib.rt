@@ -5,6 +5,7 @@ mod asked;
 mod calc_words;
 mod command;
 mod distrib_words;
+mod drill_words;
 mod fault;
 mod run_words;
 mod select_words;
@@ -12,7 +13,7 @@ mod set_words;
 mod topo_words;
 mod words;
 
-pub use asked::{Asked, Calculation, Depths, Distribution, Question, Selection};
+pub use asked::{Asked, Calculation, Depths, Distribution, Question, Running, Selection};
 pub use fault::WordsFault;
 pub use words::read_words;
 

@@ -1,12 +1,13 @@
 // The words of `run`.
-ghost use Rattle.std.specs.Prelude.{◌≡◌, ◌⊎◌, None, Some, map, string_bytes, IfOk, IfErr, option_map};
-ghost use Rattle.clap.specs.Words.{found_of, rows_of};
+ghost use Rattle.std.specs.Prelude.{◌≡◌, ◌⊎◌, ◌^◌, true, nat_lt, length, None, Some, map, string_bytes, IfOk, IfErr, option_map, unwrap_or};
+ghost use Rattle.std.specs.Option.{option_map_or};
+ghost use Rattle.clap.specs.Words.{first_of, found_of, rows_of};
 ghost use Rattle.command_words.specs.Commands.{rule_of};
 ghost use Rattle.command_words.specs.Plain.{plain};
 ghost use Rattle.command_words.specs.RunWords.{run_rules, run_of, run_asked};
 
-use crate::asked::Asked;
-use crate::command::{Argument, matches, value};
+use crate::asked::{Asked, Running};
+use crate::command::{Argument, is_given, matches, value};
 use crate::fault::WordsFault;
 use clap::ArgMatches;
 use std::alloc::Global;
@@ -30,16 +31,57 @@ pub(crate) fn read_run<'a>(alloc: Global, words: &'a [String]) -> Result<Asked<'
 fn arguments() -> &'static [Argument]
     ensures { map rule_of result.now ≡ run_rules }
 {
-    &[Argument::Optional("DESCRIPTION")]
+    &[
+        Argument::Valued("levels", None),
+        Argument::Valued("locks", None),
+        Argument::Valued("keep", None),
+        Argument::Flag("walk", None),
+        Argument::Optional("DESCRIPTION"),
+    ]
 }
 
-// What the matches ask for: a run on the topology of a description, or of one PU.
+// What the matches ask for: a run under a lock over the whole machine and on the topology of one PU, where nothing else is given.
 fn asked_of<'a>(matches: &ArgMatches<'a>) -> Option<Asked<'a>>
     ensures { option_map plain result ≡ run_of (rows_of (found_of matches.now)) }
 {
-    let description = match value(matches, "DESCRIPTION") {
-        Some(description) => description,
-        None => b"PU:1",
-    };
-    Some(Asked::Run { description })
+    let levels = value_or(matches, "levels", b"machine");
+    let locks = value(matches, "locks");
+    let keep = value_or(matches, "keep", b"128");
+    if !is_short(levels) || !is_short_where_given(locks) || !is_short(keep) {
+        return None;
+    }
+    Some(Asked::Run(Running {
+        levels,
+        locks,
+        keep,
+        walk: is_given(matches, "walk"),
+        description: value_or(matches, "DESCRIPTION", b"PU:1"),
+    }))
+}
+
+// The value of an argument, or another text where it has none.
+fn value_or<'a>(matches: &ArgMatches<'a>, name: &str, other: &'static [u8]) -> &'a [u8]
+    ensures { result.now ≡ unwrap_or (first_of name.now (rows_of (found_of matches.now))) other.now }
+{
+    match value(matches, name) {
+        Some(text) => text,
+        None => other,
+    }
+}
+
+// Whether a text has fewer than 2^32 bytes.
+fn is_short(text: &[u8]) -> bool
+    ensures { result ≡ nat_lt (length text.now) (2 ^ 32) }
+{
+    text.len() < 4_294_967_296
+}
+
+// Whether a text has fewer than 2^32 bytes, where there is one.
+fn is_short_where_given(text: Option<&[u8]>) -> bool
+    ensures { result ≡ option_map_or (λ given. nat_lt (length given.now) (2 ^ 32)) text.entry true }
+{
+    match text {
+        Some(text) => is_short(text),
+        None => true,
+    }
 }

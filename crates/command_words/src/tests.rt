@@ -1,6 +1,7 @@
 // Words, read.
-use crate::{Asked, Depths, Question, WordsFault, read_words};
+use crate::{Asked, Depths, Question, Running, WordsFault, read_words};
 use std::alloc::Global;
+use std::process::Abort;
 use std::test::Fail;
 
 fn strings(alloc: Global, words: &[&str]) -> Result<Vec<String>, Fail> {
@@ -63,7 +64,7 @@ fn reads_a_choice(rt: HostRuntime) -> Result<(), Fail> {
 }
 
 #[test]
-fn reads_sets_topologies_and_runs(rt: HostRuntime) -> Result<(), Fail> {
+fn reads_sets_and_topologies(rt: HostRuntime) -> Result<(), Fail> {
     let alloc = rt.alloc();
     let words = strings(alloc, &["set", "--list", "--", "-1"])?;
     assert!(rt;
@@ -85,34 +86,136 @@ fn reads_sets_topologies_and_runs(rt: HostRuntime) -> Result<(), Fail> {
             })
         )
     );
-    let words = strings(alloc, &["run"])?;
-    assert!(rt;
-        matches!(
-            read_words(alloc, &words),
-            Ok(Asked::Run {
-                description: b"PU:1"
-            })
-        )
-    );
-    let words = strings(alloc, &["run", "--", "-1"])?;
-    assert!(rt;
-        matches!(
-            read_words(alloc, &words),
-            Ok(Asked::Run { description: b"-1" })
-        )
-    );
+    Ok(())
+}
+
+// Checks which run words ask for.
+fn asks_for<R: Abort>(
+    rt: &R,
+    alloc: Global,
+    words: &[&str],
+    wanted: Running<'_>,
+) -> Result<(), Fail> {
+    let words = strings(alloc, words)?;
+    match read_words(alloc, &words) {
+        Ok(Asked::Run(asked)) => {
+            assert_eq!(rt; asked.levels, wanted.levels);
+            assert_eq!(rt; asked.locks, wanted.locks);
+            assert_eq!(rt; asked.keep, wanted.keep);
+            assert_eq!(rt; asked.walk, wanted.walk);
+            assert_eq!(rt; asked.description, wanted.description);
+        }
+        _ => panic!(rt; "no run"),
+    }
+    Ok(())
+}
+
+#[test]
+fn reads_runs_without_a_plan(rt: HostRuntime) -> Result<(), Fail> {
+    let alloc = rt.alloc();
+    let plain = Running {
+        levels: b"machine",
+        locks: None,
+        keep: b"128",
+        walk: false,
+        description: b"PU:1",
+    };
+    asks_for(&rt, alloc, &["run"], plain)?;
+    let below_zero = Running {
+        levels: b"machine",
+        locks: None,
+        keep: b"128",
+        walk: false,
+        description: b"-1",
+    };
+    asks_for(&rt, alloc, &["run", "--", "-1"], below_zero)?;
+    let walked = Running {
+        levels: b"machine",
+        locks: None,
+        keep: b"128",
+        walk: true,
+        description: b"PU:2",
+    };
+    asks_for(&rt, alloc, &["run", "PU:2", "--walk"], walked)
+}
+
+#[test]
+fn reads_runs_with_a_plan(rt: HostRuntime) -> Result<(), Fail> {
+    let alloc = rt.alloc();
+    let words: &[&str] = &[
+        "run",
+        "--levels",
+        "core,machine",
+        "--locks",
+        "clh-tkt",
+        "--keep",
+        "7",
+        "Core:2 PU:1",
+    ];
+    let composed = Running {
+        levels: b"core,machine",
+        locks: Some(b"clh-tkt"),
+        keep: b"7",
+        walk: false,
+        description: b"Core:2 PU:1",
+    };
+    asks_for(&rt, alloc, words, composed)?;
+    let words: &[&str] = &["run", "--keep=", "--walk", "--levels=", "--locks=", ""];
+    let empty = Running {
+        levels: b"",
+        locks: Some(b""),
+        keep: b"",
+        walk: true,
+        description: b"",
+    };
+    asks_for(&rt, alloc, words, empty)?;
+    let words: &[&str] = &["run", "--levels=--walk", "--keep=a=b", "--", "--walk"];
+    let dashed = Running {
+        levels: b"--walk",
+        locks: None,
+        keep: b"a=b",
+        walk: false,
+        description: b"--walk",
+    };
+    asks_for(&rt, alloc, words, dashed)
+}
+
+#[test]
+fn reads_drills(rt: HostRuntime) -> Result<(), Fail> {
+    let alloc = rt.alloc();
+    let rows = [
+        ("0", 0),
+        ("007", 7),
+        ("4294967295", u32::MAX),
+        ("0000000004294967295", u32::MAX),
+    ];
+    for (word, wanted) in rows {
+        let words = strings(alloc, &["drill", word])?;
+        match read_words(alloc, &words) {
+            Ok(Asked::Drill(number)) => assert_eq!(rt; number, wanted),
+            _ => panic!(rt; "no drill"),
+        }
+    }
+    Ok(())
+}
+
+// Checks that lists of words are usage errors.
+fn refuses<R: Abort>(rt: &R, alloc: Global, cases: &[&[&str]]) -> Result<(), Fail> {
+    for words in cases {
+        match read_words(alloc, &strings(alloc, words)?) {
+            Err(fault) => assert_eq!(rt; fault, WordsFault::Usage),
+            Ok(_) => panic!(rt; "words that ask for something"),
+        }
+    }
     Ok(())
 }
 
 #[test]
 fn refuses_words(rt: HostRuntime) -> Result<(), Fail> {
-    let alloc = rt.alloc();
-    let cases: [&[&str]; 25] = [
+    let cases: [&[&str]; 23] = [
         &[],
         &[""],
         &["Set", "0x1"],
-        &["run", "PU:1", "PU:1"],
-        &["run", "--walk"],
         &["set"],
         &["set", "1", "2"],
         &["set", "--list", "--list", "1"],
@@ -134,13 +237,34 @@ fn refuses_words(rt: HostRuntime) -> Result<(), Fail> {
         &["select", "--walk", "PU:1"],
         &["distrib", "--at", "pu", "--to", "pu", "1", "PU:1"],
     ];
-    for words in cases {
-        match read_words(alloc, &strings(alloc, words)?) {
-            Err(fault) => assert_eq!(rt; fault, WordsFault::Usage),
-            Ok(_) => panic!(rt; "words that ask for something"),
-        }
-    }
-    Ok(())
+    refuses(&rt, rt.alloc(), &cases)
+}
+
+#[test]
+fn refuses_words_of_runs_and_drills(rt: HostRuntime) -> Result<(), Fail> {
+    let cases: [&[&str]; 20] = [
+        &["run", "PU:1", "PU:1"],
+        &["run", "--walk", "--walk"],
+        &["run", "--walk=true"],
+        &["run", "--levels"],
+        &["run", "--levels", "--walk"],
+        &["run", "--levels", "pu", "--levels", "pu"],
+        &["run", "--levels=pu", "PU:1", "--levels="],
+        &["run", "--locks", "mcs", "--locks", "mcs"],
+        &["run", "--keep", "1", "--keep", "1"],
+        &["run", "--list"],
+        &["run", "--help"],
+        &["drill"],
+        &["drill", ""],
+        &["drill", "1", "1"],
+        &["drill", "+5"],
+        &["drill", "-5"],
+        &["drill", "--", "-5"],
+        &["drill", "4294967296"],
+        &["drill", "1x"],
+        &["drill", "--walk", "1"],
+    ];
+    refuses(&rt, rt.alloc(), &cases)
 }
 
 // Each fault has its words.

@@ -6,6 +6,7 @@ ghost use Rattle.command_words.specs.Words.{are_short, command_asked, asked_of, 
 use crate::asked::Asked;
 use crate::calc_words::read_calc;
 use crate::distrib_words::read_distrib;
+use crate::drill_words::read_drill;
 use crate::fault::WordsFault;
 use crate::run_words::read_run;
 use crate::select_words::read_select;
@@ -69,6 +70,8 @@ fn read_command<'a>(alloc: Global, words: &'a [String]) -> Result<Asked<'a>, Wor
         read_distrib(alloc, words)
     } else if name == b"select".as_slice() {
         read_select(alloc, words)
+    } else if name == b"drill".as_slice() {
+        read_drill(alloc, words)
     } else {
         Err(WordsFault::Usage)
     }

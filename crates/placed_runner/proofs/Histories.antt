@@ -80,21 +80,21 @@ in_parts : (t n c w p u l a s b f k z : List ℕ)
 in_parts t n c w p u l a s b f k z = simp append_assoc
 
 -- what stands behind the tests of a turn, behind its climb, and behind its PU
-abbrev behind_tests : Told → List ℕ → List ℕ
+abbrev pub behind_tests : Told → List ℕ → List ℕ
 behind_tests one more =
     codes " left " ++ (decimal one.turn.left ++ ((quoted one.command ++ (quoted one.reply ++ codes "\n")) ++ more))
 
-abbrev behind_climb : Told → List ℕ → List ℕ
+abbrev pub behind_climb : Told → List ℕ → List ℕ
 behind_climb one more = codes " tests " ++ (decimal one.turn.tests ++ behind_tests one more)
 
-abbrev behind_pu : Told → List ℕ → List ℕ
+abbrev pub behind_pu : Told → List ℕ → List ℕ
 behind_pu one more = codes " climb " ++ (decimal one.turn.climb ++ behind_climb one more)
 
 -- the same without its space
 abbrev at_left : Told → List ℕ → List ℕ
 at_left one more = codes "left " ++ (decimal one.turn.left ++ ((quoted one.command ++ (quoted one.reply ++ codes "\n")) ++ more))
 
-line_parts : (sections : List Placed) (n : ℕ) (one : Told) (more : List ℕ)
+pub line_parts : (sections : List Placed) (n : ℕ) (one : Told) (more : List ℕ)
     → turn_line sections n one ++ more
     ≡ codes "turn "
     ++ (decimal n
@@ -164,14 +164,14 @@ behind_first command None all is = cc
 behind_first command (Some more) all is = (more, refl, cc)
 
 -- the commands of a first hold and of others
-record Gives (sections : List Placed) (before : List ℕ) (caller : ℕ) (callers : List ℕ) (all : List WholeCommand) : Type 0 where
-  command : WholeCommand
-  more : List WholeCommand
-  next : next_command sections before caller ≡ Some command
-  rest : commands_behind sections (before ++ caller ∷ []) callers ≡ Some more
-  all_are : all ≡ command ∷ more
+pub record Gives (sections : List Placed) (before : List ℕ) (caller : ℕ) (callers : List ℕ) (all : List WholeCommand) : Type 0 where
+  pub command : WholeCommand
+  pub more : List WholeCommand
+  pub next : next_command sections before caller ≡ Some command
+  pub rest : commands_behind sections (before ++ caller ∷ []) callers ≡ Some more
+  pub all_are : all ≡ command ∷ more
 
-gives : (sections : List Placed) (before : List ℕ) (caller : ℕ) (callers : List ℕ) (all : List WholeCommand)
+pub gives : (sections : List Placed) (before : List ℕ) (caller : ℕ) (callers : List ℕ) (all : List WholeCommand)
     → commands_behind sections before (caller ∷ callers) ≡ Some all → Gives sections before caller callers all
 gives sections before caller callers all is =
     option_and_then_some

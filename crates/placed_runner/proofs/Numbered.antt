@@ -12,7 +12,7 @@ views_more view xs place x d within is =
     ∙ map-append view (take place xs) (get_or xs place d ∷ [])
     ∙ ap (λ y. map view (take place xs) ++ (view y ∷ [])) (sym is)
 
-enumerate_push : {A : Type 0} (n : ℕ) (xs : List A) (x : A)
+pub enumerate_push : {A : Type 0} (n : ℕ) (xs : List A) (x : A)
     → enumerate_from n (xs ++ x ∷ []) ≡ enumerate_from n xs ++ (n + length xs, x) ∷ []
 enumerate_push n [] x = let same : n ≡ n + 0 = omega arith in ap (λ k. (k, x) ∷ []) same
 enumerate_push n (first ∷ xs) x =

@@ -51,7 +51,7 @@ unfolding turns_text run_text
 text_of_run sections shape turns lawful =
     λ i. text_of sections (sym (turns_are shape [] turns lawful) i) (commands_behind sections [] (sym (callers_held turns) i))
 
-count-held : (caller : ℕ) (turns : List Turn)
+pub count-held : (caller : ℕ) (turns : List Turn)
     → count_by (λ (hold : Hold). hold.caller == caller) (map hold_of turns) ≡ turns_of caller turns
 count-held caller [] = refl
 count-held caller (turn ∷ turns) =
@@ -123,7 +123,7 @@ given sections before (caller ∷ callers) within few =
     (next.0 ∷ later.0, rw (next_is, later.1) refl)
 
 -- a number whose bits stand below a place is small
-below_power : (k m n : ℕ) → ((level : ℕ) → bit_at n level ≡ 1 → level < k) → n < 2 ^ m → n < 2 ^ k
+pub below_power : (k m n : ℕ) → ((level : ℕ) → bit_at n level ≡ 1 → level < k) → n < 2 ^ m → n < 2 ^ k
 below_power k zero n bits small = omega (arith, small, pow_mono {i = 0} {j = k} (omega arith))
 below_power k (suc m) n bits small =
     elim (cases_lt n (2 ^ m)) [
@@ -140,7 +140,7 @@ below_power k (suc m) n bits small =
         ap (λ (k : ℕ). k / w) is ∙ div-mul-add 1 w (n - w) (omega arith)
 
 -- a number is below as high a power of two
-below_own_power : (n : ℕ) → n < 2 ^ n
+pub below_own_power : (n : ℕ) → n < 2 ^ n
 below_own_power zero = omega arith
 below_own_power (suc n) = omega (arith, below_own_power n, pow-suc 2 n)
 
@@ -157,7 +157,7 @@ small_holds shape before (hold ∷ holds) callers few low within follow = (
   small_holds shape (before ++ turn_after shape before hold.caller hold.tests ∷ []) holds callers few low within.1 follow.1,
 )
 
-count-callers : (caller : ℕ) (holds : List Hold)
+pub count-callers : (caller : ℕ) (holds : List Hold)
     → count_by (λ other. other == caller) (map (λ (hold : Hold). hold.caller) holds)
     ≡ count_by (λ (hold : Hold). hold.caller == caller) holds
 count-callers caller [] = refl
@@ -166,7 +166,7 @@ count-callers caller (hold ∷ holds) =
     ∙ ap (λ n. cond (hold.caller == caller) 1 0 + n) (count-callers caller holds)
     ∙ sym (sum_by-cons (λ (h : Hold). cond (h.caller == caller) 1 0) hold holds)
 
-can_be_held : (sections : List Placed) (shape : Shape) (printed : List ℕ) → length sections ≤ 2 ^ 32 → top_of shape ≤ 32
+pub can_be_held : (sections : List Placed) (shape : Shape) (printed : List ℕ) → length sections ≤ 2 ^ 32 → top_of shape ≤ 32
     → (run : IsRun sections shape printed) → CanBeHeld sections run.holds
 can_be_held sections shape printed few low run =
     let n = length sections in

@@ -95,7 +95,7 @@ next_there sections log done more entry printed parts =
     own_entry entry more = rw (eq-eqb entry.caller entry.caller refl) refl
 
 -- the commands of the entries behind others
-commands_from : (sections : List Placed) (log : Log) (done more : List Logged) → IsPrinted sections log → log.entries ≡ done ++ more
+pub commands_from : (sections : List Placed) (log : Log) (done more : List Logged) → IsPrinted sections log → log.entries ≡ done ++ more
     → commands_behind sections (callers done) (callers more) ≡ Some (commands more)
 commands_from sections log done [] printed parts = refl
 commands_from sections log done (entry ∷ more) printed parts =

@@ -16,6 +16,7 @@ mod spreading;
 pub use fault::SectionFault;
 pub use gate::{Gate, OpenGate};
 pub use laws::{one_answer, one_history};
+pub use lines::{Line, push_caller, push_turn};
 pub use printing::text;
 pub use sections::{Section, read_sections};
 pub use spreading::spread;

@@ -12,15 +12,18 @@ use std::alloc::AllocError;
 
 /// A turn, with its command and its reply.
 #[derive(Clone, Copy)]
-pub(crate) struct Line<'a> {
+pub struct Line<'a> {
+    /// How the caller found and left the lock.
     pub turn: Turn,
+    /// The bytes of the command.
     pub command: &'a [u8],
+    /// The bytes of its reply.
     pub reply: &'a [u8],
 }
 
-/// Appends the line of a turn.
+/// Appends the line of a turn, which has this number. The one error is that memory was refused; some of the line may be appended then.
 #[tactic(auto, unfolding(crate::specs::Text::turn_line))]
-pub(crate) fn push_turn(
+pub fn push_turn(
     out: &mut Vec<u8>,
     sections: &[Section<'_>],
     number: u32,
@@ -72,9 +75,10 @@ fn pu_of(sections: &[Section<'_>], caller: u32) -> u32
     }
 }
 
-/// Appends the line of a caller: its number, its PU, how many commands it gave and how many bytes stand behind them.
+/// Appends the line of a caller: its number, its PU, how many commands its section has and how many bytes stand behind them. The journal
+/// is one of the callers' sections. The one error is that memory was refused; some of the line may be appended then.
 #[tactic(auto, unfolding(crate::specs::Text::caller_line))]
-pub(crate) fn push_caller(
+pub fn push_caller(
     out: &mut Vec<u8>,
     caller: usize,
     section: &Section<'_>,

@@ -28,6 +28,8 @@ use Rattle.placed_runner.specs.Views.{section_view}
 use Rattle.placed_runner.specs.declared.sections.Section.{Section}
 use Rattle.placed_runner.proofs.Printed.{is_run}
 use Rattle.placed_runner.proofs.Texts.{bytes_of}
+use Rattle.threaded_runner.specs.Books.{book_calls}
+use Rattle.threaded_runner.specs.declared.book.Book.{Book}
 use Rattle.threaded_runner.specs.Crews.{IsCrew}
 use Rattle.threaded_runner.specs.declared.crew.Crew.{Crew}
 use Rattle.threaded_runner.specs.Done.{AreDone}
@@ -39,17 +41,6 @@ blank = record {
   caller = 0;
   made = 0;
   quota = 0;
-}
-
-no_run : IsRun [] (one_lock 0) []
-unfolding run_text
-no_run = record {
-  holds = [];
-  callers = All-nil (λ (hold : Hold). hold.caller < 0);
-  each_own = λ caller section at. absurd (cc);
-  printed_is = refl;
-  lawful = tt;
-  ends = tt;
 }
 
 -- each caller has made as many turns as its section has commands
@@ -86,13 +77,13 @@ pub all_closed : (s : TrailState) → s.current ≡ None → all_turns s ≡ s.c
 all_closed s closed = ap (λ (o : Option Turn). s.closed ++ option_list o) closed ∙ append-nil s.closed
 
 -- what callers leave who have made all their turns, none of which found no memory
-pub finished : (root : Root Log) (shares : List ShareState) → IsFit calls root
-    → root.trail.quotas ≡ map (λ (one : List ℕ). length (commands_of one)) root.payload.sections → All (IsShareOf root.trail) shares
-    → AreDone root.trail.name root.trail.quotas shares → length shares ≡ length root.payload.sections → EachOwnFirst root.payload
-    → NoneVoid root.payload.entries → IsFinished root.trail root.payload
+pub finished : (root : Root Book) (shares : List ShareState) → IsFit book_calls root
+    → root.trail.quotas ≡ map (λ (one : List ℕ). length (commands_of one)) root.payload.journal.sections → All (IsShareOf root.trail) shares
+    → AreDone root.trail.name root.trail.quotas shares → length shares ≡ length root.payload.journal.sections → EachOwnFirst root.payload.journal
+    → NoneVoid root.payload.journal.entries → IsFinished root.trail root.payload.journal
 finished root shares fit quotas counted done many first whole =
-    let made = subst (EachMadeAll root.payload.sections) (all_closed root.trail fit.settled.closed)
-    (turns_made root.trail shares root.payload.sections counted done many quotas) in
+    let made = subst (EachMadeAll root.payload.journal.sections) (all_closed root.trail fit.settled.closed)
+    (turns_made root.trail shares root.payload.journal.sections counted done many quotas) in
     record {
       closed = fit.settled.closed;
       lawful = fit.settled.trail.lawful.0;
@@ -100,7 +91,7 @@ finished root shares fit quotas counted done many first whole =
       called = fit.settled.calls_are;
       whole = whole;
       each_made = made;
-      each_gave = each_gave root.payload root.trail.closed first fit.settled.calls_are made;
+      each_gave = each_gave root.payload.journal root.trail.closed first fit.settled.calls_are made;
     }
 
 -- and the same of equal parts
@@ -148,9 +139,3 @@ done_after rest has level count tag crew is fine name quotas name_is quotas_are 
       caller_is = own.caller_is;
       made = made ∙ own.quota ∙ ap (λ (l : List ℕ). slice_index l k) quotas_are;
     }
-
--- the text of no sections is that of a run
-pub none_run : (sections : List Section) (printed : List ℕ) → length sections ≡ 0 → printed ≡ []
-    → IsRun (map section_view sections) (one_lock (length sections)) printed
-none_run [] printed none empty = subst (IsRun [] (one_lock 0)) (sym empty) no_run
-none_run (section ∷ sections) printed none empty = absurd (omega (arith, none))

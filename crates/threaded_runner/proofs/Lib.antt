@@ -1,7 +1,6 @@
 pub mod Commands
 pub mod Crews
 pub mod Dealt
-pub mod OneLevel
 pub mod Done
 pub mod Items
 pub mod Told

@@ -4,7 +4,7 @@ use Rattle.std.specs.Prelude.{Option, slice_get, ◌==◌}
 use Rattle.std.proofs.lemmas.Bool.{eq-eqb}
 use Rattle.std.proofs.lemmas.List.Sums.{sum_by-append, sum_by-cons}
 use Rattle.lock_rules.specs.Tag.{Tag}
-use Rattle.lock_rules.specs.Trees.{lists_in, tree_of_lists}
+use Rattle.lock_rules.specs.Trees.{lists_in}
 use Rattle.lock_rules.proofs.Trees.{lists_in-tree_of_lists}
 use Rattle.keep_local.specs.declared.turn.Turn.{Turn}
 use Rattle.keep_local.specs.States.{ShareState, all_turns, option_list}
@@ -19,11 +19,10 @@ use Rattle.clof_compose.specs.declared.root.Root.{Root}
 use Rattle.clof_compose.proofs.Tops.{course_is}
 use Rattle.mc_text.specs.Request.{WholeCommand}
 use Rattle.mc_text.specs.Reading.{commands_of}
-use Rattle.kv_history.specs.Log.{Log, IsNext, calls}
+use Rattle.kv_history.specs.Log.{IsNext, calls}
+use Rattle.threaded_runner.specs.Books.{book_calls, book_tag}
 use Rattle.threaded_runner.specs.Jobs.{IsCommandAt}
-
-abbrev pub log_tag : Log → Tag
-log_tag log = tree_of_lists log.sections
+use Rattle.threaded_runner.specs.declared.book.Book.{Book}
 
 -- a caller's turns with one more of it
 one_more : (caller : ℕ) (turns : List Turn) (t : Turn) → t.caller ≡ caller → turns_of caller (turns ++ t ∷ []) ≡ turns_of caller turns + 1
@@ -35,22 +34,22 @@ one_more caller turns t own =
     omega (arith, cut, last, one)
 
 -- the sections of a journal at the root are those that the lock's tag tells
-pub sections_told : (t : Tag) (r : Root Log) → course_of t ≡ root_course log_tag r
-    → lists_in (course_of t).payload ≡ r.payload.sections
-sections_told t r is = ap (λ (c : Course). lists_in c.payload) is ∙ lists_in-tree_of_lists r.payload.sections
+pub sections_told : (t : Tag) (r : Root Book) → course_of t ≡ root_course book_tag r
+    → lists_in (course_of t).payload ≡ r.payload.journal.sections
+sections_told t r is = ap (λ (c : Course). lists_in c.payload) is ∙ lists_in-tree_of_lists r.payload.journal.sections
 
 -- the command at the place of the turns made before is the one that the journal takes next
-pub takes_next : (t : Tag) (level made : ℕ) (share : ShareState) (r : Root Log) (command : WholeCommand)
-    → HasOpened calls log_tag t level share r → share.made ≡ made + 1 → IsCommandAt (course_of t).payload share.caller made command
-    → IsNext r.payload.sections (calls r.payload) share.caller command
+pub takes_next : (t : Tag) (level made : ℕ) (share : ShareState) (r : Root Book) (command : WholeCommand)
+    → HasOpened book_calls book_tag t level share r → share.made ≡ made + 1 → IsCommandAt (course_of t).payload share.caller made command
+    → IsNext r.payload.journal.sections (calls r.payload.journal) share.caller command
 takes_next t level made share r command opened more at =
-    let is = course_is calls log_tag t r opened.tagged in
+    let is = course_is book_calls book_tag t r opened.tagged in
     let turn = opened.is_open.turn in
     let all : all_turns r.trail ≡ r.trail.closed ++ turn ∷ [] = ap (λ (o : Option Turn). r.trail.closed ++ option_list o) opened.is_open.now in
     let count = opened.share_is.made ∙ ap (turns_of share.caller) all ∙ one_more share.caller r.trail.closed turn opened.is_open.caller_is in
-    let called : times share.caller (calls r.payload) ≡ turns_of share.caller r.trail.closed =
+    let called : times share.caller (calls r.payload.journal) ≡ turns_of share.caller r.trail.closed =
     ap (times share.caller) opened.calls_are ∙ times_callers share.caller r.trail.closed in
-    let here : made ≡ times share.caller (calls r.payload) = omega (arith, count, called, more) in record {
+    let here : made ≡ times share.caller (calls r.payload.journal) = omega (arith, count, called, more) in record {
       section = at.section;
       place = ap (λ (l : List (List ℕ)). slice_get l share.caller) (sym (sections_told t r is)) ∙ at.is_section;
       next = ap (λ (n : ℕ). slice_get (commands_of at.section) n) (sym here) ∙ at.is_command;

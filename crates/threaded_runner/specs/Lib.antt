@@ -1,3 +1,4 @@
+pub mod Books
 pub mod Jobs
 pub mod Crews
 pub mod Ready

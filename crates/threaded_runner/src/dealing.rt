@@ -8,15 +8,15 @@ ghost use Rattle.mc_text.specs.Commands.{commands_left};
 ghost use Rattle.mc_text.specs.Reading.{commands_of};
 ghost use Rattle.threaded_runner.specs.Jobs.{IsJob};
 
+use crate::book::Book;
 use crate::job::Job;
 use clof_compose::{Composed, Resting};
 use keep_local::Share;
-use kv_history::Journal;
 use mc_text::Commands;
 use placed_runner::Section;
 
 /// A job for each pass, each share and each section, in order, and the emptied lists of the passes and of the shares.
-pub(crate) fn deal<'a, C: Composed<Journal<'a>>>(
+pub(crate) fn deal<'a, C: Composed<Book<'a>>>(
     _lock: &C,
     mut passes: Vec<C::Pass>,
     mut shares: Vec<Share>,

@@ -5,13 +5,15 @@ ghost use Rattle.keep_local.specs.States.{IsShareOf};
 ghost use Rattle.clof_compose.specs.Courses.{course_of};
 ghost use Rattle.clof_compose.specs.Roots.{IsFit};
 ghost use Rattle.mc_text.specs.Reading.{commands_of};
-ghost use Rattle.kv_history.specs.Log.{NoneVoid, calls};
+ghost use Rattle.kv_history.specs.Log.{NoneVoid};
 ghost use Rattle.placed_runner.specs.Printed.{IsRun};
 ghost use Rattle.placed_runner.specs.Views.{section_view};
+ghost use Rattle.threaded_runner.specs.Books.{book_calls};
 ghost use Rattle.threaded_runner.specs.Crews.{IsCrew};
 ghost use Rattle.threaded_runner.specs.Done.{AreDone};
 ghost use Rattle.threaded_runner.specs.Finished.{IsFinished};
 
+use crate::book::Book;
 use crate::crew::Crew;
 use clof_compose::{Composed, Resting, Root};
 use keep_local::{Share, Trail};
@@ -29,7 +31,7 @@ pub struct Finished<'a> {
 
 /// Takes a lock apart whose callers have come back, and gives what they leave. Some caller that stopped, or some command that was refused,
 /// is answered as want of memory, which is the cause of both.
-pub fn close_run<'a, C: Composed<Journal<'a>> + Drop>(
+pub fn close_run<'a, C: Composed<Book<'a>> + Drop>(
     lock: C,
     crew: Crew<C::Pass>,
 ) -> Result<Finished<'a>, OutOfMemory>
@@ -56,17 +58,17 @@ pub fn close_run<'a, C: Composed<Journal<'a>> + Drop>(
 
 /// What a run leaves, from the root of its lock and the shares of its callers, each of which has made all its turns. Where some command was
 /// refused memory, that is the answer.
-pub fn finish<'a>(root: Root<Journal<'a>>, shares: Vec<Share>) -> Result<Finished<'a>, OutOfMemory>
-    requires fit { IsFit calls root }
-    requires quotas { root.trail.quotas ≡ map (λ section. length (commands_of section)) root.payload.sections }
+pub fn finish<'a>(root: Root<Book<'a>>, shares: Vec<Share>) -> Result<Finished<'a>, OutOfMemory>
+    requires fit { IsFit book_calls root }
+    requires quotas { root.trail.quotas ≡ map (λ section. length (commands_of section)) root.payload.journal.sections }
     requires shares { AreDone root.trail.name root.trail.quotas shares.items }
-    requires many { length shares.items ≡ length root.payload.sections }
+    requires many { length shares.items ≡ length root.payload.journal.sections }
     ensures finished { IfOk result (λ left. IsFinished left.trail left.journal) }
     ensures trail { IfOk result (λ left. left.trail ≡ root.entry.trail) }
-    ensures journal { IfOk result (λ left. left.journal ≡ root.entry.payload) }
-    ensures void { OnErr result (¬ NoneVoid root.entry.payload.entries) }
+    ensures journal { IfOk result (λ left. left.journal ≡ root.entry.payload.journal) }
+    ensures void { OnErr result (¬ NoneVoid root.entry.payload.journal.entries) }
 {
-    let (mut trail, journal) = root.into_parts();
+    let (mut trail, Book { journal, .. }) = root.into_parts();
     agree(&mut trail, shares);
     journal.facts();
     if !journal.whole() {

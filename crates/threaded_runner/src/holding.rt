@@ -6,18 +6,18 @@ ghost use Rattle.kv_history.specs.Log.{IsNext, calls};
 ghost use Rattle.mc_text.specs.Request.{view};
 ghost use Rattle.threaded_runner.specs.Jobs.{HasServed, IsCommandAt, IsJob};
 
+use crate::book::Book;
 use crate::job::Job;
 use crate::waiting::acquire;
 use clof_compose::{Composed, Resting, Root, Standing};
 use keep_local::Share;
-use kv_history::Journal;
 use mc_text::Command;
 use placed_runner::Gate;
 use std::sync::Wait;
 
 /// Holds the lock once for each command that a caller has left, and applies the command to the journal at the root. The caller stops
 /// before its commands end where one was refused, which is for want of memory.
-pub fn serve<'a, C: Composed<Journal<'a>>, G: Gate, R: Wait>(
+pub fn serve<'a, C: Composed<Book<'a>>, G: Gate, R: Wait>(
     rt: &R,
     lock: &C,
     gate: &G,
@@ -39,7 +39,7 @@ pub fn serve<'a, C: Composed<Journal<'a>>, G: Gate, R: Wait>(
 }
 
 // Holds the lock for the next command of a caller that has one left. The caller stops where it was refused.
-fn give_next<'a, C: Composed<Journal<'a>>, G: Gate, R: Wait>(
+fn give_next<'a, C: Composed<Book<'a>>, G: Gate, R: Wait>(
     rt: &R,
     lock: &C,
     gate: &G,
@@ -72,7 +72,7 @@ fn give_next<'a, C: Composed<Journal<'a>>, G: Gate, R: Wait>(
 }
 
 // Holds the lock once and applies a command. The answer has the pass, and whether the command was refused.
-fn hold<'a, C: Composed<Journal<'a>>, G: Gate, R: Wait>(
+fn hold<'a, C: Composed<Book<'a>>, G: Gate, R: Wait>(
     rt: &R,
     lock: &C,
     gate: &G,
@@ -96,11 +96,11 @@ fn hold<'a, C: Composed<Journal<'a>>, G: Gate, R: Wait>(
 }
 
 /// Applies a caller's next command to the journal of a root. The answer is whether it was refused, which is for want of memory.
-pub fn apply<'a>(root: &mut Root<Journal<'a>>, caller: u32, command: Command<'a>) -> bool
-    requires next { IsNext root.old.payload.sections (calls root.old.payload) caller (view command) }
+pub fn apply<'a>(root: &mut Root<Book<'a>>, caller: u32, command: Command<'a>) -> bool
+    requires next { IsNext root.old.payload.journal.sections (calls root.old.payload.journal) caller (view command) }
     ensures trail { root.new.trail ≡ root.old.trail }
-    ensures sections { root.new.payload.sections ≡ root.old.payload.sections }
-    ensures called { calls root.new.payload ≡ calls root.old.payload ++ caller ∷ [] }
+    ensures sections { root.new.payload.journal.sections ≡ root.old.payload.journal.sections }
+    ensures called { calls root.new.payload.journal ≡ calls root.old.payload.journal ++ caller ∷ [] }
 {
-    root.payload_mut().apply(caller, command).is_err()
+    root.payload_mut().journal.apply(caller, command).is_err()
 }

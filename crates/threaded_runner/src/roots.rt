@@ -4,14 +4,14 @@ ghost use Rattle.keep_local.specs.Shapes.{IsWellFormed, callers_of};
 ghost use Rattle.keep_local.specs.States.{new_trail};
 ghost use Rattle.clof_compose.specs.Courses.{course_of};
 ghost use Rattle.clof_compose.specs.Roots.{IsFit, root_tag};
-ghost use Rattle.kv_history.specs.Log.{calls};
 ghost use Rattle.mc_text.specs.Reading.{commands_of};
+ghost use Rattle.threaded_runner.specs.Books.{book_calls, book_tag};
 ghost use Rattle.threaded_runner.specs.Ready.{IsDealt};
 
+use crate::book::Book;
 use clof_compose::Root;
 use keep_local::{Shape, Share, Trail};
 use kv_history::Journal;
-use lock_rules::Payload;
 use out_of_memory::OutOfMemory;
 use placed_runner::Section;
 use std::alloc::{AllocError, Global};
@@ -22,24 +22,25 @@ pub fn root_of<'a>(
     alloc: Global,
     sections: &[Section<'a>],
     shape: Shape,
-) -> Result<(Root<Journal<'a>>, Vec<Share>), OutOfMemory>
+) -> Result<(Root<Book<'a>>, Vec<Share>), OutOfMemory>
     requires shaped { IsWellFormed shape }
     requires callers { callers_of shape ≡ length sections.now }
     requires few { length sections.now < 2 ^ 32 }
     requires small { sum_by (λ section. length section.bytes.now) sections.now < 2 ^ 32 }
-    ensures fit { IfOk result (λ made. IsFit calls made.0) }
-    ensures dealt { IfOk result (λ made. IsDealt (course_of (root_tag ⟦<Journal<'a> as Payload>⟧.tag made.0))
+    ensures fit { IfOk result (λ made. IsFit book_calls made.0) }
+    ensures dealt { IfOk result (λ made. IsDealt (course_of (root_tag book_tag made.0))
         (map (λ section. section.bytes.now) sections.now) made.1.items) }
     ensures trail { IfOk result (λ made. made.0.trail ≡ new_trail made.0.trail.name made.0.trail.receipts shape
         (map (λ section. length (commands_of section.bytes.now)) sections.now)) }
-    ensures sections { IfOk result (λ made. made.0.payload.sections ≡ map (λ section. section.bytes.now) sections.now) }
-    ensures entries { IfOk result (λ made. made.0.payload.entries ≡ []) }
+    ensures sections { IfOk result (λ made. made.0.payload.journal.sections ≡ map (λ section. section.bytes.now) sections.now) }
+    ensures entries { IfOk result (λ made. made.0.payload.journal.entries ≡ []) }
 {
     let journal = journal_of(alloc, sections)?;
     journal.facts();
     let quotas = quotas_of(alloc, &journal, sections.len())?;
     let (trail, shares) = Trail::reserve(alloc, shape, &quotas)?;
-    Ok((Root::new(trail, journal), shares))
+    let book = Book::new(journal);
+    Ok((Root::new(trail, book), shares))
 }
 
 /// A journal for these sections, without entries.

@@ -7,12 +7,12 @@ ghost use Rattle.threaded_runner.specs.Crews.{HasRoom, IsCrew};
 ghost use Rattle.threaded_runner.specs.Jobs.{IsJob, IsServed};
 ghost use Rattle.threaded_runner.specs.Ready.{IsDealt};
 
+use crate::book::Book;
 use crate::crew::Crew;
 use crate::dealing::{deal, stops, take_apart};
 use crate::job::Job;
 use clof_compose::{Composed, Resting};
 use keep_local::Share;
-use kv_history::Journal;
 use placed_runner::Section;
 use std::alloc::Global;
 
@@ -26,7 +26,7 @@ pub struct Prepared<'a, Q> {
 }
 
 /// Makes the jobs of all callers. Without memory it gives back what a run gives back that didn't start.
-pub fn prepare<'a, C: Composed<Journal<'a>>>(
+pub fn prepare<'a, C: Composed<Book<'a>>>(
     alloc: Global,
     lock: &C,
     passes: Vec<C::Pass>,
@@ -69,7 +69,7 @@ fn rooms<'a, Q: Drop>(alloc: Global, count: usize) -> Option<(Vec<Job<'a, Q>>, V
 }
 
 /// What comes back of a run that doesn't start, for want of memory. It is called for a lock as `prepare` is.
-pub fn not_started<'a, C: Composed<Journal<'a>>>(
+pub fn not_started<'a, C: Composed<Book<'a>>>(
     alloc: Global,
     _lock: &C,
     passes: Vec<C::Pass>,
@@ -92,7 +92,7 @@ pub fn not_started<'a, C: Composed<Journal<'a>>>(
 }
 
 /// What comes back of a run whose jobs are these. The lists are empty and have room for what the jobs have.
-pub fn crew_of<'a, C: Composed<Journal<'a>>>(
+pub fn crew_of<'a, C: Composed<Book<'a>>>(
     _lock: &C,
     jobs: Vec<Job<'a, C::Pass>>,
     passes: Vec<C::Pass>,

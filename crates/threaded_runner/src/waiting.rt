@@ -2,16 +2,17 @@
 ghost use Rattle.std.specs.Prelude.{◌≡◌, ◌+◌, IsSomeAnd};
 ghost use Rattle.clof_compose.specs.Calls.{HasOpened, MayTurn};
 ghost use Rattle.clof_compose.specs.Courses.{course_of};
+ghost use Rattle.threaded_runner.specs.Books.{book_calls, book_tag};
 
+use crate::book::Book;
 use clof_compose::{Climbing, Composed, Resting, Standing};
 use keep_local::Share;
-use kv_history::Journal;
-use lock_rules::{Pauses, Payload, Step};
+use lock_rules::{Pauses, Step};
 use placed_runner::Gate;
 use std::sync::Wait;
 
 /// Enters the queue, tells the gate that the caller is queued, and waits until it holds.
-pub(crate) fn acquire<'a, C: Composed<Journal<'a>>, G: Gate, R: Wait>(
+pub(crate) fn acquire<'a, C: Composed<Book<'a>>, G: Gate, R: Wait>(
     rt: &R,
     lock: &C,
     gate: &G,
@@ -24,8 +25,7 @@ pub(crate) fn acquire<'a, C: Composed<Journal<'a>>, G: Gate, R: Wait>(
     ensures held { (C.Held.stand result).context ≡ (C.Pass.rest pass).context }
     ensures stands { C.Held.stands result }
     ensures made { share.new ≡ record share.old { made = share.old.made + 1 } }
-    ensures opened { IsSomeAnd (C.Held.stand result).root (HasOpened ⟦<Journal<'a> as Payload>⟧.calls ⟦<Journal<'a> as Payload>⟧.tag
-        (C.tag lock.now) (C.level lock.now) share.new) }
+    ensures opened { IsSomeAnd (C.Held.stand result).root (HasOpened book_calls book_tag (C.tag lock.now) (C.level lock.now) share.new) }
 {
     let caller = share.caller();
     let begun = lock.begin(pass, share);
@@ -37,7 +37,7 @@ pub(crate) fn acquire<'a, C: Composed<Journal<'a>>, G: Gate, R: Wait>(
 }
 
 // Polls until the pass holds, with the pauses of a waiting call.
-fn wait<'a, C: Composed<Journal<'a>>, R: Wait>(
+fn wait<'a, C: Composed<Book<'a>>, R: Wait>(
     rt: &R,
     lock: &C,
     queue: C::Queue,
@@ -50,8 +50,7 @@ fn wait<'a, C: Composed<Journal<'a>>, R: Wait>(
     ensures held { (C.Held.stand result).context ≡ (C.Queue.climb queue).context }
     ensures stands { C.Held.stands result }
     ensures made { share.new ≡ record share.old { made = share.old.made + 1 } }
-    ensures opened { IsSomeAnd (C.Held.stand result).root (HasOpened ⟦<Journal<'a> as Payload>⟧.calls ⟦<Journal<'a> as Payload>⟧.tag
-        (C.tag lock.now) (C.level lock.now) share.new) }
+    ensures opened { IsSomeAnd (C.Held.stand result).root (HasOpened book_calls book_tag (C.tag lock.now) (C.level lock.now) share.new) }
 {
     let mut queue = queue;
     let mut pauses = Pauses::new();

@@ -16,10 +16,10 @@ use Rattle.clof_compose.specs.Shares.{IsShareIn}
 use Rattle.clof_compose.specs.declared.root.Root.{Root}
 use Rattle.mc_text.specs.Commands.{commands_left}
 use Rattle.mc_text.specs.Request.{WholeCommand}
-use Rattle.kv_history.specs.Log.{Log, calls}
+use Rattle.threaded_runner.specs.Books.{book_calls, book_tag}
+use Rattle.threaded_runner.specs.declared.book.Book.{Book}
 use Rattle.threaded_runner.specs.Jobs.{HasLeft, IsCommandAt, IsJob, IsServed}
 use Rattle.threaded_runner.specs.declared.job.Job.{Job}
-use Rattle.threaded_runner.proofs.Turns.{log_tag}
 use Rattle.threaded_runner.proofs.Commands.{left_behind, next_command, not_empty}
 use Rattle.walked_runner.specs.Walkers.{HasBegun, IsDone, IsWalker, Stands}
 use Rattle.walked_runner.specs.declared.walker.State.{State}
@@ -70,8 +70,8 @@ module _ (payload : Tag) (share : ShareState) (commands : List WholeCommand) (be
       (left_behind payload before commands begun.left command behind cut)
 
 -- a holder that has changed the payload alone still stands
-pub kept_trail : (tag : Tag) (level above : ℕ) (share : ShareState) (old new : Root Log) → HasOpened calls log_tag tag level share old
-    → new.trail ≡ old.trail → IsKept calls above old new
+pub kept_trail : (tag : Tag) (level above : ℕ) (share : ShareState) (old new : Root Book) → HasOpened book_calls book_tag tag level share old
+    → new.trail ≡ old.trail → IsKept book_calls above old new
 kept_trail tag level above share old new opened same = record {
   name = ap (λ (s : TrailState). s.name) same;
   receipts = ap (λ (s : TrailState). s.receipts) same;
@@ -90,7 +90,7 @@ kept_trail tag level above share old new opened same = record {
 pub lowest_context : (shape : Shape) (caller number : ℕ) → number ≡ caller → IsContextOf shape 0 caller number
 lowest_context shape caller number is = record { lowest = λ e. is; higher = λ j e. absurd (omega (arith, e)) }
 
-module _ {P Q H L : Type 0} (rest : P → Rest) (climb : Q → Climb) (climbs : Q → Type 0) (stand : H → Stand (Root Log))
+module _ {P Q H L : Type 0} (rest : P → Rest) (climb : Q → Climb) (climbs : Q → Type 0) (stand : H → Stand (Root Book))
     (stands : H → Type 0) (descent : L → Descent) (descends : L → Type 0) (has : Context → Type 0) (level : ℕ) (tag : Tag) where
   -- the caller of a job, idle
   pub seated : (k : ℕ) (j : Job P) (w : Walker P Q H L) → IsJob rest has level tag k j → w.state ≡ Idle j.pass → w.task.share ≡ j.share

@@ -1,7 +1,6 @@
 -- Where the callers of a walk stand.
 use Rattle.std.specs.Prelude.{◌≡◌, ℕ, ◌+◌, ◌<◌, List, false, IsSomeAnd}
 use Rattle.lock_rules.specs.Tag.{Tag}
-use Rattle.lock_rules.specs.Trees.{tree_of_lists}
 use Rattle.keep_local.specs.States.{ShareState}
 use Rattle.clof_compose.specs.Calls.{HasOpened}
 use Rattle.clof_compose.specs.Contexts.{Context}
@@ -12,7 +11,8 @@ use Rattle.clof_compose.specs.Shares.{IsShareIn}
 use Rattle.clof_compose.specs.declared.root.Root.{Root}
 use Rattle.mc_text.specs.Commands.{commands_left}
 use Rattle.mc_text.specs.Request.{WholeCommand}
-use Rattle.kv_history.specs.Log.{Log, calls}
+use Rattle.threaded_runner.specs.Books.{book_calls, book_tag}
+use Rattle.threaded_runner.specs.declared.book.Book.{Book}
 use Rattle.threaded_runner.specs.Jobs.{HasLeft}
 use Rattle.walked_runner.specs.declared.walker.State.{State}
 use Rattle.walked_runner.specs.declared.walker.State.TheVariants.{Idle, Queued, Holding, Leaving, Stepping}
@@ -26,7 +26,7 @@ pub record HasBegun (payload : Tag) (share : ShareState) (commands : List WholeC
   pub within : before < share.quota
   pub left : HasLeft payload (record share { made = before }) commands
 
-module _ {P Q H L : Type 0} (rest : P → Rest) (climb : Q → Climb) (climbs : Q → Type 0) (stand : H → Stand (Root Log))
+module _ {P Q H L : Type 0} (rest : P → Rest) (climb : Q → Climb) (climbs : Q → Type 0) (stand : H → Stand (Root Book))
     (stands : H → Type 0) (descent : L → Descent) (descends : L → Type 0) (has : Context → Type 0) (level : ℕ) (tag : Tag) where
   -- The token is that of the caller with this task, and says no more than its contract allows. The commands left are those behind the turns
   -- made; a holder has that of its turn left too
@@ -36,7 +36,7 @@ module _ {P Q H L : Type 0} (rest : P → Rest) (climb : Q → Climb) (climbs : 
   Stands (Queued q) t = IsNumber has level tag t.share.caller (climb q).context × climbs q × (t.share.made < t.share.quota)
       × HasLeft (course_of tag).payload t.share (commands_left t.commands)
   Stands (Holding h) t = IsNumber has level tag t.share.caller (stand h).context × stands h
-      × IsSomeAnd (stand h).root (HasOpened calls (λ (log : Log). tree_of_lists log.sections) tag level t.share)
+      × IsSomeAnd (stand h).root (HasOpened book_calls book_tag tag level t.share)
       × HasBegun (course_of tag).payload t.share (commands_left t.commands)
   Stands (Leaving l) t = IsNumber has level tag t.share.caller (descent l).context × descends l
       × HasLeft (course_of tag).payload t.share (commands_left t.commands)

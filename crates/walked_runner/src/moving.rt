@@ -5,19 +5,19 @@ ghost use Rattle.clof_compose.specs.Courses.{course_of};
 ghost use Rattle.clof_compose.specs.Passes.{IsNumber};
 ghost use Rattle.clof_compose.specs.Shares.{IsShareIn};
 ghost use Rattle.mc_text.specs.Commands.{commands_left};
+ghost use Rattle.threaded_runner.specs.Books.{book_calls, book_tag};
 ghost use Rattle.threaded_runner.specs.Jobs.{HasLeft};
 ghost use Rattle.walked_runner.specs.Steps.{FromHolding, FromIdle, FromLeaving, FromQueued, HasStepped};
 ghost use Rattle.walked_runner.specs.Walkers.{HasBegun, Stands};
 
 use crate::walker::{State, StateIn, Task, WalkerIn};
 use clof_compose::{Composed, Standing};
-use kv_history::Journal;
-use lock_rules::{Payload, Step};
+use lock_rules::Step;
 use std::mem;
-use threaded_runner::apply;
+use threaded_runner::{Book, apply};
 
 // Begins to take the lock, where a command is left.
-fn enter<'a, C: Composed<Journal<'a>>>(
+fn enter<'a, C: Composed<Book<'a>>>(
     lock: &C,
     pass: C::Pass,
     task: &mut Task<'a>,
@@ -42,7 +42,7 @@ fn enter<'a, C: Composed<Journal<'a>>>(
 }
 
 // Asks whether the lock is had now.
-fn wait<'a, C: Composed<Journal<'a>>>(
+fn wait<'a, C: Composed<Book<'a>>>(
     lock: &C,
     queue: C::Queue,
     task: &mut Task<'a>,
@@ -66,7 +66,7 @@ fn wait<'a, C: Composed<Journal<'a>>>(
 }
 
 // Applies the next command, and begins to leave the lock. The caller stops where the command was refused.
-fn leave<'a, C: Composed<Journal<'a>>>(
+fn leave<'a, C: Composed<Book<'a>>>(
     lock: &C,
     mut held: C::Held,
     task: &mut Task<'a>,
@@ -75,8 +75,8 @@ fn leave<'a, C: Composed<Journal<'a>>>(
     requires lowest { C.level lock.now ≡ 0 }
     requires held { IsNumber (C.has lock.now) (C.level lock.now) (C.tag lock.now) task.old.share.caller (C.Held.stand held).context }
     requires stands { C.Held.stands held }
-    requires opened { IsSomeAnd (C.Held.stand held).root (HasOpened ⟦<Journal<'a> as Payload>⟧.calls ⟦<Journal<'a> as Payload>⟧.tag
-        (C.tag lock.now) (C.level lock.now) task.old.share) }
+    requires opened { IsSomeAnd (C.Held.stand held).root (HasOpened book_calls book_tag (C.tag lock.now) (C.level lock.now)
+        task.old.share) }
     requires begun { HasBegun (course_of (C.tag lock.now)).payload task.old.share (commands_left task.old.commands) }
     ensures stands { Stands C.Pass.rest C.Queue.climb C.Queue.climbs C.Held.stand C.Held.stands C.Leave.descent C.Leave.descends
         (C.has lock.now) (C.level lock.now) (C.tag lock.now) result task.new }
@@ -95,7 +95,7 @@ fn leave<'a, C: Composed<Journal<'a>>>(
 }
 
 // Asks whether the lock is left now.
-fn go<'a, C: Composed<Journal<'a>>>(lock: &C, leave: C::Leave, task: &Task<'a>) -> StateIn<'a, C>
+fn go<'a, C: Composed<Book<'a>>>(lock: &C, leave: C::Leave, task: &Task<'a>) -> StateIn<'a, C>
     requires sound { C.sound lock.now }
     requires leave { IsNumber (C.has lock.now) (C.level lock.now) (C.tag lock.now) task.now.share.caller (C.Leave.descent leave).context }
     requires descends { C.Leave.descends leave }
@@ -112,7 +112,7 @@ fn go<'a, C: Composed<Journal<'a>>>(lock: &C, leave: C::Leave, task: &Task<'a>) 
 
 /// Makes the caller's step of a round: an idle caller with a command left begins to take the lock, a queued one asks again, a holder
 /// applies its next command and begins to leave, and one that leaves asks again.
-pub(crate) fn step<'a, C: Composed<Journal<'a>>>(lock: &C, walker: &mut WalkerIn<'a, C>)
+pub(crate) fn step<'a, C: Composed<Book<'a>>>(lock: &C, walker: &mut WalkerIn<'a, C>)
     requires sound { C.sound lock.now }
     requires lowest { C.level lock.now ≡ 0 }
     requires share { IsShareIn (course_of (C.tag lock.now)) walker.old.task.share.caller walker.old.task.share }

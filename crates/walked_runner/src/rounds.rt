@@ -6,11 +6,11 @@ ghost use Rattle.walked_runner.specs.Walkers.{IsDone, IsWalker};
 use crate::moving::step;
 use crate::walker::{State, Walker, WalkerIn};
 use clof_compose::Composed;
-use kv_history::Journal;
 use std::sync::Wait;
+use threaded_runner::Book;
 
 /// Makes rounds until every caller is idle with no command left.
-pub(crate) fn make_rounds<'a, C: Composed<Journal<'a>>, R: Wait>(
+pub(crate) fn make_rounds<'a, C: Composed<Book<'a>>, R: Wait>(
     rt: &R,
     lock: &C,
     walkers: Vec<WalkerIn<'a, C>>,
@@ -30,7 +30,7 @@ pub(crate) fn make_rounds<'a, C: Composed<Journal<'a>>, R: Wait>(
 }
 
 // Makes these rounds.
-fn step_on<'a, C: Composed<Journal<'a>>, R: Wait>(rt: &R, lock: &C, walkers: &mut [WalkerIn<'a, C>])
+fn step_on<'a, C: Composed<Book<'a>>, R: Wait>(rt: &R, lock: &C, walkers: &mut [WalkerIn<'a, C>])
     requires sound { C.sound lock.now }
     requires lowest { C.level lock.now ≡ 0 }
     requires each { (k : ℕ) (w : _) → slice_get walkers.old k ≡ Some w → IsWalker C.Pass.rest C.Queue.climb C.Queue.climbs C.Held.stand
@@ -48,7 +48,7 @@ fn step_on<'a, C: Composed<Journal<'a>>, R: Wait>(rt: &R, lock: &C, walkers: &mu
 }
 
 // A step of each caller, in ascending order.
-fn make_round<'a, C: Composed<Journal<'a>>>(lock: &C, walkers: &mut [WalkerIn<'a, C>])
+fn make_round<'a, C: Composed<Book<'a>>>(lock: &C, walkers: &mut [WalkerIn<'a, C>])
     requires sound { C.sound lock.now }
     requires lowest { C.level lock.now ≡ 0 }
     requires each { (k : ℕ) (w : _) → slice_get walkers.old k ≡ Some w → IsWalker C.Pass.rest C.Queue.climb C.Queue.climbs C.Held.stand

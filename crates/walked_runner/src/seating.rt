@@ -6,11 +6,10 @@ ghost use Rattle.walked_runner.specs.Walkers.{IsDone, IsWalker};
 
 use crate::walker::{State, Task, Walker, WalkerIn};
 use clof_compose::{Composed, Resting};
-use kv_history::Journal;
-use threaded_runner::Job;
+use threaded_runner::{Book, Job};
 
 /// A caller for each job, all idle, and the emptied list of the jobs.
-pub(crate) fn seat<'a, C: Composed<Journal<'a>>>(
+pub(crate) fn seat<'a, C: Composed<Book<'a>>>(
     _lock: &C,
     mut jobs: Vec<Job<'a, C::Pass>>,
     mut walkers: Vec<WalkerIn<'a, C>>,
@@ -33,7 +32,7 @@ pub(crate) fn seat<'a, C: Composed<Journal<'a>>>(
 }
 
 // The caller of a job, idle.
-fn walker_of<'a, C: Composed<Journal<'a>>>(job: Job<'a, C::Pass>) -> WalkerIn<'a, C>
+fn walker_of<'a, C: Composed<Book<'a>>>(job: Job<'a, C::Pass>) -> WalkerIn<'a, C>
     ensures state { result.state ≡ State.Idle job.entry.pass }
     ensures share { result.task.share ≡ job.entry.share }
     ensures commands { commands_left result.task.commands ≡ commands_left job.entry.commands }
@@ -55,7 +54,7 @@ fn walker_of<'a, C: Composed<Journal<'a>>>(job: Job<'a, C::Pass>) -> WalkerIn<'a
 }
 
 /// The jobs of callers that are done, in a list that has room for them.
-pub(crate) fn rise<'a, C: Composed<Journal<'a>>>(
+pub(crate) fn rise<'a, C: Composed<Book<'a>>>(
     _lock: &C,
     mut walkers: Vec<WalkerIn<'a, C>>,
     mut jobs: Vec<Job<'a, C::Pass>>,

@@ -1,8 +1,8 @@
 //! A caller of a walk.
 use clof_compose::Composed;
 use keep_local::Share;
-use kv_history::Journal;
 use mc_text::Commands;
+use threaded_runner::Book;
 
 /// Where a caller stands, with its token. It is stepping only inside a step.
 #[derive(Drop)]
@@ -32,17 +32,17 @@ pub struct Walker<'a, P, Q, H, L> {
 
 // The state of a caller of C.
 pub(crate) type StateIn<'a, C> = State<
-    <C as Composed<Journal<'a>>>::Pass,
-    <C as Composed<Journal<'a>>>::Queue,
-    <C as Composed<Journal<'a>>>::Held,
-    <C as Composed<Journal<'a>>>::Leave,
+    <C as Composed<Book<'a>>>::Pass,
+    <C as Composed<Book<'a>>>::Queue,
+    <C as Composed<Book<'a>>>::Held,
+    <C as Composed<Book<'a>>>::Leave,
 >;
 
 // A caller of C.
 pub(crate) type WalkerIn<'a, C> = Walker<
     'a,
-    <C as Composed<Journal<'a>>>::Pass,
-    <C as Composed<Journal<'a>>>::Queue,
-    <C as Composed<Journal<'a>>>::Held,
-    <C as Composed<Journal<'a>>>::Leave,
+    <C as Composed<Book<'a>>>::Pass,
+    <C as Composed<Book<'a>>>::Queue,
+    <C as Composed<Book<'a>>>::Held,
+    <C as Composed<Book<'a>>>::Leave,
 >;

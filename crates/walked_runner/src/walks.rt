@@ -10,18 +10,17 @@ use crate::rounds::make_rounds;
 use crate::seating::{rise, seat};
 use clof_compose::{Composed, Resting};
 use keep_local::Share;
-use kv_history::Journal;
 use out_of_memory::OutOfMemory;
 use placed_runner::Section;
 use std::alloc::Global;
 use std::sync::Wait;
-use threaded_runner::{Crew, Finished, Prepared, close_run, crew_of, not_started, prepare};
+use threaded_runner::{Book, Crew, Finished, Prepared, close_run, crew_of, not_started, prepare};
 
 /// Has each caller of a lock give its commands, all on the calling thread, in rounds: a round makes a step of each caller, in ascending
 /// order. The lock is one whose payload is a journal for these sections; there is a pass and a share for each of them, in order, and each
 /// may hold as often as its section has commands. All passes and shares come back. A caller stops before its commands end, and a run
 /// doesn't start, for want of memory alone.
-pub fn run_walk<'a, C: Composed<Journal<'a>>, R: Wait>(
+pub fn run_walk<'a, C: Composed<Book<'a>>, R: Wait>(
     rt: &R,
     alloc: Global,
     lock: &C,
@@ -58,7 +57,7 @@ pub fn run_walk<'a, C: Composed<Journal<'a>>, R: Wait>(
 
 /// Has the callers of a lock that is ready walk, as `run_walk` does, takes the lock apart, and gives what they leave. Without memory for
 /// the run, or for a command in it, nothing is given.
-pub fn walk_under<'a, C: Composed<Journal<'a>> + Drop, R: Wait>(
+pub fn walk_under<'a, C: Composed<Book<'a>> + Drop, R: Wait>(
     rt: &R,
     alloc: Global,
     lock: C,

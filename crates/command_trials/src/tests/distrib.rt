@@ -9,7 +9,11 @@ use std::test::Fail;
 const TREE: &str = "Package:2 Core:2 PU:2";
 
 // The words of a row, between which a space stands. A `*` stands for the description.
-fn listed<'a>(alloc: Global, row: &'a str, description: &'a str) -> Result<Vec<&'a str>, Fail> {
+pub(super) fn listed<'a>(
+    alloc: Global,
+    row: &'a str,
+    description: &'a str,
+) -> Result<Vec<&'a str>, Fail> {
     let mut words = Vec::new(alloc);
     for word in row.split(' ') {
         words.push(if word == "*" { description } else { word })?;
@@ -127,7 +131,12 @@ fn refuses_words(rt: HostRuntime) -> Result<(), Fail> {
 }
 
 // Checks how words are refused. A line of the table has words, and behind a `|` the status's code and its line.
-fn refuses<R: Abort>(rt: &R, alloc: Global, description: &str, table: &str) -> Result<(), Fail> {
+pub(super) fn refuses<R: Abort>(
+    rt: &R,
+    alloc: Global,
+    description: &str,
+    table: &str,
+) -> Result<(), Fail> {
     for row in table.split('\n') {
         let (words, wanted) = row.split_once('|').ok_or("a row without an end")?;
         let (code, told) = wanted.split_once(' ').ok_or("a row without a line")?;

@@ -4,7 +4,7 @@ use Rattle.command_words.specs.declared.asked.Asked.{Asked}
 use Rattle.clof_tool.specs.Answered.{AnswersUnrefused}
 use Rattle.clof_tool.specs.Outcome.{WordsRefused}
 use Rattle.command_texts.specs.declared.status.Status.{Status}
-use Rattle.clof_tool.proofs.Words.{calc_complete, distrib_complete, set_complete, topo_complete}
+use Rattle.clof_tool.proofs.Words.{calc_complete, distrib_complete, drill_complete, set_complete, topo_complete}
 use Rattle.clof_tool.proofs.answer.answer.Goals as goal
 
 pub returns-in-Set-clause-complete : goal.returns-in-Set-clause-complete
@@ -38,3 +38,6 @@ returns-in-Select-clause-complete g c =
     let source = g.S.Source in
     subst (λ (a : Asked). AnswersUnrefused (plain a) (source.left c.args.source.now) (source.faults c.args.source.now)
     (source.faults c.select_on.new.source) c.select_on.result) (sym c.in-Select.is) c.select_on.ensures.complete
+
+pub returns-in-Drill-clause-complete : goal.returns-in-Drill-clause-complete
+returns-in-Drill-clause-complete g c words accepted calm = drill_complete c.drill_text.result c.drill_text.ensures.err

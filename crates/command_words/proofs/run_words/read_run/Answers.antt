@@ -1,5 +1,5 @@
-use Rattle.std.proofs.Common.{◌≡◌, ◌∙◌, ap, sym, map, codes, true, string_bytes, inr, refl}
-use Rattle.clap.specs.Words.{App, is_simple_and_free}
+use Rattle.std.proofs.Common.{◌∙◌, ap, map, string_bytes, inr, refl}
+use Rattle.clap.specs.Words.{is_simple_and_free}
 use Rattle.command_words.specs.Commands.{rule_of}
 use Rattle.command_words.specs.RunWords.{run_of}
 use Rattle.command_words.proofs.Reading.{asked-some, asked-none, asked-refused}

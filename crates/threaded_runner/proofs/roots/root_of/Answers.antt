@@ -4,6 +4,7 @@ use Rattle.keep_local.specs.States.{new_trail}
 use Rattle.kv_history.specs.Log.{Log}
 use Rattle.mc_text.specs.Reading.{commands_of}
 use Rattle.placed_runner.specs.declared.sections.Section.{Section}
+use Rattle.threaded_runner.specs.declared.book.Book.{Book}
 use Rattle.threaded_runner.proofs.Dealt.{counts}
 use Rattle.threaded_runner.proofs.Told.{dealt}
 use Rattle.threaded_runner.proofs.roots.root_of.Goals as goal
@@ -11,7 +12,8 @@ use Rattle.threaded_runner.proofs.roots.root_of.Goals as goal
 pub returns-clause-dealt : goal.returns-clause-dealt
 returns-clause-dealt c =
     let trail = c.in_ok-trail.trail in
-    let told = ap (λ (j : Log). j.sections) c.new.ensures.payload ∙ c.in_ok-journal.ensures.sections in
+    let told = ap (λ (b : Book). b.journal.sections) c.new.ensures.payload
+    ∙ ap (λ (l : Log). l.sections) c.new-book.ensures ∙ c.in_ok-journal.ensures.sections in
     let each = c.deref.ensures.value ∙ c.in_ok-quotas.ensures
     ∙ ap (map (λ (one : List ℕ). length (commands_of one))) c.in_ok-journal.ensures.sections in
     dealt trail.name trail.receipts c.args.shape c.deref.result.now c.new.result _ _ (c.new.ensures.trail ∙ c.in_ok-trail.ensures.trail)

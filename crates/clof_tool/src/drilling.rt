@@ -1,0 +1,89 @@
+// What `drill` prints.
+ghost use Rattle.std.specs.Prelude.{◌≡◌, ◌≤◌, length, IfOk, IfErr};
+ghost use Rattle.lock_plan.specs.Plans.{IsPlanFor};
+ghost use Rattle.drill_text.specs.Drill.{drill_text};
+ghost use Rattle.clof_tool.specs.Drilling.{drilled_machine};
+ghost use Rattle.clof_tool.specs.LockPlan.{level_limit};
+
+use crate::Status;
+use crate::running::shape_for;
+use command_texts::topology::tree;
+use drill_text::{KEEPS, LEVELS, LOCKS, MACHINE, sections, summary};
+use lock_plan::{Plan, PlanFault};
+use out_of_memory::OutOfMemory;
+use placed_runner::{Gate, spread};
+use planned_runner::run;
+use std::alloc::Global;
+use std::sync::Wait;
+use std::thread::Threads;
+use topo_tree::Tree;
+
+/// The text of the drill of a number: its callers work on threads, and what their keys hold then is told.
+pub(crate) fn drill_text<R: Threads + Wait + Sync, G: Gate + Sync>(
+    rt: &R,
+    alloc: Global,
+    number: u32,
+    gate: &G,
+) -> Result<Vec<u8>, Status>
+    ensures ok { IfOk result (λ printed. printed.items ≡ drill_text number) }
+    ensures err { IfErr result (λ status. status ≡ Status.OutOfMemory) }
+{
+    match drilled(rt, alloc, number, gate) {
+        Ok(printed) => Ok(printed),
+        Err(OutOfMemory) => Err(Status::OutOfMemory),
+    }
+}
+
+// The text of a drill.
+fn drilled<R: Threads + Wait + Sync, G: Gate + Sync>(
+    rt: &R,
+    alloc: Global,
+    number: u32,
+    gate: &G,
+) -> Result<Vec<u8>, OutOfMemory>
+    ensures { IfOk result (λ printed. printed.items ≡ drill_text number) }
+{
+    let tree = machine(alloc)?;
+    let plan = plan_on(alloc, &tree)?;
+    let bytes = sections(alloc, number)?;
+    let sections = spread(alloc, &tree, &bytes)?;
+    let shape = shape_for(alloc, &tree, &plan, &sections)?;
+    let left = run(rt, alloc, &plan, &shape, &sections, false, gate)?;
+    summary(alloc, number, &left.journal)
+}
+
+// The machine of a drill.
+fn machine(alloc: Global) -> Result<Tree, OutOfMemory>
+    ensures { IfOk result (λ tree. tree ≡ drilled_machine) }
+{
+    match tree(alloc, MACHINE) {
+        Ok(tree) => Ok(tree),
+        Err(status) => Err(only_memory(status)),
+    }
+}
+
+// The one status with which the description is refused: it describes a machine that is built.
+fn only_memory(_status: Status) -> OutOfMemory
+    requires { _status ≡ Status.OutOfMemory }
+{
+    OutOfMemory
+}
+
+// The plan of a drill's lock.
+fn plan_on(alloc: Global, tree: &Tree) -> Result<Plan, OutOfMemory>
+    requires { tree.now ≡ drilled_machine }
+    ensures plan { IfOk result (IsPlanFor tree.now) }
+    ensures few { IfOk result (λ plan. length plan.depths ≤ level_limit) }
+{
+    match Plan::read(alloc, tree, LEVELS, Some(LOCKS), KEEPS) {
+        Ok(plan) => Ok(plan),
+        Err(fault) => Err(only_memory_for_plan(fault)),
+    }
+}
+
+// The one fault with which the plan is refused: its texts break no rule.
+fn only_memory_for_plan(_fault: PlanFault) -> OutOfMemory
+    requires { _fault ≡ PlanFault.OutOfMemory }
+{
+    OutOfMemory
+}

@@ -1,0 +1,40 @@
+// The plan of the lock of a run.
+ghost use Rattle.std.specs.Prelude.{◌≡◌, ◌⊎◌, IfOk, IfErr, IsOk};
+ghost use Rattle.lock_plan.specs.Plans.{IsPlanFor};
+ghost use Rattle.command_words.specs.Plain.{plain_running};
+ghost use Rattle.command_texts.specs.declared.status.Status.{Status as AnyStatus};
+ghost use Rattle.command_texts.specs.RunPlan.{plan_status, PlanOf, HasPlan, RefusesPlan};
+ghost use Rattle.command_texts.specs.Ends.{EndsEarly};
+
+use crate::{Fault, Status};
+use command_words::Running;
+use lock_plan::{Plan, PlanFault};
+use std::alloc::Global;
+use topo_tree::Tree;
+
+/// The plan that is asked for on a topology, or the status with which its texts are refused for the first rule that they break.
+pub fn read_plan(alloc: Global, tree: &Tree, asked: Running<'_>) -> Result<Plan, Status>
+    ensures ok { IfOk result (PlanOf tree.now (plain_running asked.entry)) }
+    ensures usable { IfOk result (IsPlanFor tree.now) }
+    ensures err { IfErr result (λ status. (status ≡ Status.OutOfMemory) ⊎ RefusesPlan tree.now (plain_running asked.entry) status) }
+    ensures refused { (status : AnyStatus) → RefusesPlan tree.now (plain_running asked.entry) status →
+        (result ≡ Err status) ⊎ (result ≡ Err Status.OutOfMemory) }
+    ensures complete { HasPlan tree.now (plain_running asked.entry) → IsOk result ⊎ (result ≡ Err Status.OutOfMemory) }
+    ensures early { IfErr result EndsEarly }
+{
+    match Plan::read(alloc, tree, asked.levels, asked.locks, asked.keep) {
+        Ok(plan) => Ok(plan),
+        Err(fault) => Err(plan_status(fault)),
+    }
+}
+
+// The status of a fault.
+fn plan_status(fault: PlanFault) -> Status
+    ensures status { result ≡ plan_status fault }
+    ensures early { EndsEarly result }
+{
+    match fault {
+        PlanFault::OutOfMemory => Status::OutOfMemory,
+        _ => Status::Malformed(Fault::Plan(fault)),
+    }
+}

@@ -1,0 +1,17 @@
+pub mod Bytes
+pub mod Comings
+pub mod Counters
+pub mod Endings
+pub mod Fronts
+pub mod Givings
+pub mod Heads
+pub mod Lined
+pub mod Makings
+pub mod Moves
+pub mod Once
+pub mod Passing
+pub mod RunLines
+pub mod Settling
+pub mod Tellings
+pub mod Verdicts
+pub mod Walked

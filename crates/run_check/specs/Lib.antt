@@ -1,0 +1,9 @@
+pub mod Pairs
+pub mod Lines
+pub mod Made
+pub mod Broken
+pub mod Readings
+pub mod Turns
+pub mod Replays
+pub mod Runs
+pub mod Laws

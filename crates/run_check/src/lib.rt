@@ -1,0 +1,21 @@
+//! Whether a printed text is that of a run of some sections under a lock of a shape, and else the first line that can't be one's.
+#![tactic(auto)]
+
+mod checking;
+mod fault;
+mod laws;
+mod pair;
+mod reading;
+mod replay;
+mod run;
+mod turns;
+mod verdict;
+
+pub use checking::check;
+pub use fault::CheckFault;
+pub use laws::one_verdict;
+pub use pair::read_pair;
+pub use verdict::Verdict;
+
+#[cfg(test)]
+mod tests;
