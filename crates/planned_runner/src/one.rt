@@ -10,8 +10,8 @@ ghost use Rattle.threaded_runner.specs.Finished.{IsFinished};
 ghost use Rattle.threaded_runner.specs.Jobs.{HasServed, MayServe};
 ghost use Rattle.threaded_runner.specs.Ready.{IsDealt};
 
-use clof_compose::{Composed, Resting, Root, TopPass};
 use crate::shift::{Serves, serve_all};
+use clof_compose::{Composed, Resting, Root, TopPass};
 use keep_local::{Shape, Share};
 use lock_rules::{Pass, passes_are_shared};
 use lock_tree::{Lock1, Plan, make_1};

@@ -10,8 +10,8 @@ ghost use Rattle.threaded_runner.specs.Finished.{IsFinished};
 ghost use Rattle.threaded_runner.specs.Jobs.{HasServed, MayServe};
 ghost use Rattle.threaded_runner.specs.Ready.{IsDealt};
 
-use clof_compose::{Composed, Resting, Root};
 use crate::shift::{Serves, serve_all};
+use clof_compose::{Composed, Resting, Root};
 use keep_local::{Shape, Share, receipts_are_shared};
 use lock_rules::passes_are_shared;
 use lock_tree::{Lock2, LowPass, Plan, make_2};

@@ -17,11 +17,7 @@ use std::mem;
 use threaded_runner::{Book, apply};
 
 // Begins to take the lock, where a command is left.
-fn enter<'a, C: Composed<Book<'a>>>(
-    lock: &C,
-    pass: C::Pass,
-    task: &mut Task<'a>,
-) -> StateIn<'a, C>
+fn enter<'a, C: Composed<Book<'a>>>(lock: &C, pass: C::Pass, task: &mut Task<'a>) -> StateIn<'a, C>
     requires sound { C.sound lock.now }
     requires lowest { C.level lock.now ≡ 0 }
     requires pass { IsNumber (C.has lock.now) (C.level lock.now) (C.tag lock.now) task.old.share.caller (C.Pass.rest pass).context }
@@ -42,11 +38,7 @@ fn enter<'a, C: Composed<Book<'a>>>(
 }
 
 // Asks whether the lock is had now.
-fn wait<'a, C: Composed<Book<'a>>>(
-    lock: &C,
-    queue: C::Queue,
-    task: &mut Task<'a>,
-) -> StateIn<'a, C>
+fn wait<'a, C: Composed<Book<'a>>>(lock: &C, queue: C::Queue, task: &mut Task<'a>) -> StateIn<'a, C>
     requires sound { C.sound lock.now }
     requires lowest { C.level lock.now ≡ 0 }
     requires queue { IsNumber (C.has lock.now) (C.level lock.now) (C.tag lock.now) task.old.share.caller (C.Queue.climb queue).context }
