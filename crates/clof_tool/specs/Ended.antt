@@ -82,14 +82,14 @@ IsComplete words source source_now out out_now status =
 
 -- how a call on words ends
 pub record Ended (words : List (String Global)) (source source_now : Reads) (out out_now err err_now : Writes) (status : Status) : Type 0 where
-  pub words : ByWords words source source_now status
-  pub input : ByInput words source source_now status
-  pub output : ByOutput words source source_now out out_now status
-  pub line : ByLine err err_now status
+  pub by_words : ByWords words source source_now status
+  pub by_input : ByInput words source source_now status
+  pub by_output : ByOutput words source source_now out out_now status
+  pub by_line : ByLine err err_now status
   pub complete : IsComplete words source source_now out out_now status
 
 -- how a call ends where its words can't be had: nothing is read or printed, and standard error is told why
 pub record EndedWordless (source source_now : Reads) (out out_now err err_now : Writes) (status : Status) : Type 0 where
   pub unread : source_now ≡ source
   pub unwritten : out_now ≡ out
-  pub line : ByLine err err_now status
+  pub by_line : ByLine err err_now status
