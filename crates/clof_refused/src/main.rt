@@ -5,5 +5,6 @@ use clof_tool::Process;
 use std::process::ExitCode;
 
 fn main(rt: HostRuntime) -> ExitCode {
-    Process::new(&rt).serve(&rt, rt.alloc())
+    let mut process = Process::new(&rt);
+    process.serve(&rt, rt.alloc())
 }

@@ -2,6 +2,7 @@ pub mod Drilling
 pub mod LockPlan
 pub mod Outcome
 pub mod Answered
+pub mod Ended
 pub mod Process
 pub mod Run
 pub mod Selecting

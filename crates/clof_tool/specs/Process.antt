@@ -1,21 +1,42 @@
 -- The process that the program runs in.
-use Rattle.std.specs.Prelude.{◌≡◌, Result}
+use Rattle.std.specs.Prelude.{◌≡◌, ℕ, Result}
+use Rattle.std.specs.declared.option.Option.{Option}
 use Rattle.std.specs.declared.vec.Vec.{Vec}
 use Rattle.std.specs.declared.string.String.{String}
 use Rattle.std.specs.declared.alloc.Global.{Global}
 use Rattle.std.specs.declared.io.Error.{Error}
-use Rattle.edge_io.specs.Standard.{reader_given, reader_faults, writer_faults, writer_stalls}
+use Rattle.std.specs.Prelude.{List}
 use Rattle.clof_tool.specs.declared.process.Process.{Process}
+use Rattle.clof_tool.specs.Ended.{Reads, Writes}
 
 -- the words behind the program's name, or why they can't be had
-abbrev pub words_of_process : Process → Result (Vec (String Global) Global) Error
+abbrev pub words_of_process : {S K E : Type 0} → Process S K E → Result (Vec (String Global) Global) Error
 words_of_process process = process.words
 
--- no stream has been read or written yet
-pub record IsUnused (process : Process) : Type 0 where
-  pub given : reader_given process.input ≡ 0
-  pub read_faults : reader_faults process.input ≡ 0
-  pub write_faults : writer_faults process.output ≡ 0
-  pub write_stalls : writer_stalls process.output ≡ 0
-  pub error_faults : writer_faults process.errors ≡ 0
-  pub error_stalls : writer_stalls process.errors ≡ 0
+-- where its input comes from, and where its output and its errors go
+abbrev pub input_of : {S K E : Type 0} → Process S K E → S
+input_of process = process.input
+
+abbrev pub output_of : {S K E : Type 0} → Process S K E → K
+output_of process = process.output
+
+abbrev pub errors_of : {S K E : Type 0} → Process S K E → E
+errors_of process = process.errors
+
+-- what a source tells of itself, by what its kind of source tells
+abbrev pub reads : {S : Type 0} → (S → Option (List ℕ)) → (S → ℕ) → (S → ℕ) → S → Reads
+reads left given faults source = record { left = left source; given = given source; faults = faults source }
+
+-- what a sink tells of itself, by what its kind of sink tells
+abbrev pub writes : {K : Type 0} → (K → Option (List ℕ)) → (K → Option ℕ) → (K → ℕ) → (K → ℕ) → K → Writes
+writes held room faults stalls sink = record { held = held sink; room = room sink; faults = faults sink; stalls = stalls sink }
+
+-- a source has given nothing and no read of it has failed
+pub record IsUnread (source : Reads) : Type 0 where
+  pub given : source.given ≡ 0
+  pub faults : source.faults ≡ 0
+
+-- no write to a sink has failed or taken nothing
+pub record IsUnwritten (sink : Writes) : Type 0 where
+  pub faults : sink.faults ≡ 0
+  pub stalls : sink.stalls ≡ 0

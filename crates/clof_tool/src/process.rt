@@ -3,12 +3,11 @@ ghost use Rattle.std.specs.Prelude.{◌≡◌, ◌≢◌, ◌⊎◌, IfErr, IfOk
 ghost use Rattle.std.specs.IoError.{error_kind};
 ghost use Rattle.std.specs.Process.{exit_status};
 ghost use Rattle.command_texts.specs.declared.status.Status.{Status as AnyStatus};
-ghost use Rattle.clof_tool.specs.Process.{words_of_process, IsUnused};
+ghost use Rattle.clof_tool.specs.Process.{words_of_process, input_of, output_of, errors_of, reads, writes, IsUnread, IsUnwritten};
+ghost use Rattle.clof_tool.specs.Ended.{Ended, EndedWordless};
 ghost use Rattle.command_texts.specs.Status.{code_of};
-ghost use Rattle.command_texts.specs.Line.{line_of};
 ghost use Rattle.command_words.specs.Words.{IsTabled, IsUsage};
-ghost use Rattle.edge_io.specs.Counts.{Rose};
-ghost use Rattle.edge_io.specs.Contents.{Gains};
+ghost use Rattle.edge_io.specs.Standard.{reader_left, reader_given, reader_faults, writer_held, writer_room, writer_faults, writer_stalls};
 
 use crate::report::report;
 use crate::{Status, top};
@@ -20,19 +19,25 @@ use std::sync::Wait;
 use std::thread::Threads;
 use std::{env, io};
 
-/// The process that the program runs in: the words behind its name, and its standard streams.
+#[cfg(test)]
+mod tests;
+
+/// The process that the program runs in: the words behind its name, where its input comes from, and where its output and
+/// what it tells of errors go.
 #[derive(Drop)]
-pub struct Process {
+pub struct Process<S, K, E> {
     words: io::Result<Vec<String>>,
-    input: StdSource<Stdin>,
-    output: StdSink<Stdout>,
-    errors: StdSink<Stderr>,
+    input: S,
+    output: K,
+    errors: E,
 }
 
-impl Process {
-    /// The process of the runtime, whose streams haven't been read or written yet.
-    pub fn new(rt: &HostRuntime) -> Process
-        ensures { IsUnused result }
+impl Process<StdSource<Stdin>, StdSink<Stdout>, StdSink<Stderr>> {
+    /// The process of the runtime, whose standard streams haven't been read or written yet.
+    pub fn new(rt: &HostRuntime) -> Process<StdSource<Stdin>, StdSink<Stdout>, StdSink<Stderr>>
+        ensures input { IsUnread (reads reader_left reader_given reader_faults (input_of result)) }
+        ensures output { IsUnwritten (writes writer_held writer_room writer_faults writer_stalls (output_of result)) }
+        ensures errors { IsUnwritten (writes writer_held writer_room writer_faults writer_stalls (errors_of result)) }
     {
         Process {
             words: words(rt),
@@ -41,53 +46,62 @@ impl Process {
             errors: StdSink::new(rt.stderr()),
         }
     }
+}
 
-    /// Makes the top call, and answers the exit status of its code. Words that aren't text are taken as none, which is
-    /// Usage.
-    pub fn serve<R: Threads + Wait + Sync>(self, rt: &R, alloc: Global) -> ExitCode
-        ensures code { (status : AnyStatus) × (exit_status result ≡ code_of status) }
-        ensures usage { IfOk (words_of_process self) (λ words. exit_status result ≡ 2 → IsUsage words.items) }
-        ensures usage_else { IfOk (words_of_process self) (λ words. IsUsage words.items →
+impl<S: Source, K: Sink, E: Sink> Process<S, K, E> {
+    /// Makes the top call on the process's words and streams, and answers the exit status of its code. Words that aren't
+    /// text are taken as none, which is Usage.
+    pub fn serve<R: Threads + Wait + Sync>(&mut self, rt: &R, alloc: Global) -> ExitCode
+        ensures ended { IfOk (words_of_process self.old) (λ words. (status : AnyStatus) × (exit_status result ≡ code_of status)
+            × Ended words.items
+            (reads S.left S.given S.faults (input_of self.old)) (reads S.left S.given S.faults (input_of self.new))
+            (writes K.held K.room K.faults K.stalls (output_of self.old)) (writes K.held K.room K.faults K.stalls (output_of self.new))
+            (writes E.held E.room E.faults E.stalls (errors_of self.old)) (writes E.held E.room E.faults E.stalls (errors_of self.new))
+            status) }
+        ensures wordless { IfErr (words_of_process self.old) (λ _. (status : AnyStatus) × (exit_status result ≡ code_of status)
+            × EndedWordless
+            (reads S.left S.given S.faults (input_of self.old)) (reads S.left S.given S.faults (input_of self.new))
+            (writes K.held K.room K.faults K.stalls (output_of self.old)) (writes K.held K.room K.faults K.stalls (output_of self.new))
+            (writes E.held E.room E.faults E.stalls (errors_of self.old)) (writes E.held E.room E.faults E.stalls (errors_of self.new))
+            status) }
+        ensures usage { IfOk (words_of_process self.old) (λ words. exit_status result ≡ 2 → IsUsage words.items) }
+        ensures usage_else { IfOk (words_of_process self.old) (λ words. IsUsage words.items →
             (exit_status result ≡ 2) ⊎ ((exit_status result ≡ 7) × IsTabled words.items)) }
-        ensures no_words { IfErr (words_of_process self) (λ error. error_kind error ≢ ErrorKind.OutOfMemory → exit_status result ≡ 2) }
-        ensures no_memory { IfErr (words_of_process self) (λ error. error_kind error ≡ ErrorKind.OutOfMemory → exit_status result ≡ 7) }
+        ensures no_words { IfErr (words_of_process self.old) (λ error. error_kind error ≢ ErrorKind.OutOfMemory → exit_status result ≡ 2) }
+        ensures no_memory { IfErr (words_of_process self.old) (λ error. error_kind error ≡ ErrorKind.OutOfMemory → exit_status result ≡ 7) }
+    {
+        ExitCode::from(self.end(rt, alloc).code())
+    }
+
+    // Makes the top call on the words. Where they can't be had, nothing is read or printed, and standard error is told why.
+    fn end<R: Threads + Wait + Sync>(&mut self, rt: &R, alloc: Global) -> Status
+        ensures ended { IfOk (words_of_process self.old) (λ words. Ended words.items
+            (reads S.left S.given S.faults (input_of self.old)) (reads S.left S.given S.faults (input_of self.new))
+            (writes K.held K.room K.faults K.stalls (output_of self.old)) (writes K.held K.room K.faults K.stalls (output_of self.new))
+            (writes E.held E.room E.faults E.stalls (errors_of self.old)) (writes E.held E.room E.faults E.stalls (errors_of self.new))
+            result) }
+        ensures wordless { IfErr (words_of_process self.old) (λ _. EndedWordless
+            (reads S.left S.given S.faults (input_of self.old)) (reads S.left S.given S.faults (input_of self.new))
+            (writes K.held K.room K.faults K.stalls (output_of self.old)) (writes K.held K.room K.faults K.stalls (output_of self.new))
+            (writes E.held E.room E.faults E.stalls (errors_of self.old)) (writes E.held E.room E.faults E.stalls (errors_of self.new))
+            result) }
+        ensures no_words { IfErr (words_of_process self.old) (λ error. error_kind error ≢ ErrorKind.OutOfMemory → result ≡ Status.Usage) }
+        ensures no_memory { IfErr (words_of_process self.old) (λ error. error_kind error ≡ ErrorKind.OutOfMemory →
+            result ≡ Status.OutOfMemory) }
     {
         let Process {
             words,
-            mut input,
-            mut output,
-            mut errors,
+            input,
+            output,
+            errors,
         } = self;
-        let status = ended(rt, alloc, words, &mut input, &mut output, &mut errors);
-        ExitCode::from(status.code())
-    }
-}
-
-// Makes the top call on the words. Where they can't be had, nothing is read or printed, and standard error is told why.
-fn ended<R: Threads + Wait + Sync, S: Source, K: Sink, E: Sink>(
-    rt: &R,
-    alloc: Global,
-    words: io::Result<Vec<String>>,
-    source: &mut S,
-    out: &mut K,
-    err: &mut E,
-) -> Status
-    ensures usage { IfOk words (λ words. result ≡ Status.Usage → IsUsage words.items) }
-    ensures usage_else { IfOk words (λ words. IsUsage words.items →
-        (result ≡ Status.Usage) ⊎ ((result ≡ Status.OutOfMemory) × IsTabled words.items)) }
-    ensures no_words { IfErr words (λ error. error_kind error ≢ ErrorKind.OutOfMemory → result ≡ Status.Usage) }
-    ensures no_memory { IfErr words (λ error. error_kind error ≡ ErrorKind.OutOfMemory → result ≡ Status.OutOfMemory) }
-    ensures unread { IfErr words (λ _. source.new ≡ source.old) }
-    ensures unwritten { IfErr words (λ _. out.new ≡ out.old) }
-    ensures told { IfErr words (λ _. (Rose (E.faults err.old) (E.faults err.new) → ⊥) →
-        (Rose (E.stalls err.old) (E.stalls err.new) → ⊥) → Gains (E.held err.old) (E.held err.new) (line_of result)) }
-{
-    match words {
-        Ok(words) => top(rt, alloc, &words, source, out, err),
-        Err(error) => {
-            let status = status_of(error.kind());
-            report(err, &status);
-            status
+        match words {
+            Ok(words) => top(rt, alloc, words, input, output, errors),
+            Err(error) => {
+                let status = status_of(error.kind());
+                report(errors, &status);
+                status
+            }
         }
     }
 }

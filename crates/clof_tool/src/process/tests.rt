@@ -1,0 +1,103 @@
+// The process over sources and sinks in memory.
+use super::Process;
+use crate::{Fault, Status};
+use edge_io::{MemSink, MemSource, Sink, Source, SureSink, SureSource};
+use placed_runner::SectionFault;
+use std::alloc::Global;
+use std::test::Fail;
+
+// A process with words, an input and room for its output.
+fn process<S: Source + Drop, K: Sink + Drop>(
+    alloc: Global,
+    words: &str,
+    input: S,
+    output: K,
+) -> Result<Process<S, K, SureSink>, Fail> {
+    let mut owned = Vec::new(alloc);
+    for word in words.split('|') {
+        owned.push(String::from_str(alloc, word)?)?;
+    }
+    Ok(Process {
+        words: Ok(owned),
+        input,
+        output,
+        errors: SureSink::new(alloc, 100)?,
+    })
+}
+
+// A source with these bytes.
+fn source(alloc: Global, input: &[u8]) -> Result<SureSource, Fail> {
+    Ok(SureSource::new(input.to_vec(alloc)?))
+}
+
+#[test]
+fn runs_on_a_description(rt: HostRuntime) -> Result<(), Fail> {
+    let alloc = rt.alloc();
+    let input = source(alloc, b"worker core:1 7\nget a\r\n\n")?;
+    let mut run = process(alloc, "run|Core:2 PU:1", input, SureSink::new(alloc, 200)?)?;
+    assert_eq!(&rt; run.end(&rt, alloc), Status::Ok);
+    let text =
+        b"turn 0 caller 0 pu 1 climb 0 tests 0 left 0 \"get a\\r\\n\" \"END\\r\\n\"\ncaller 0 pu 1 commands 1 rest 0\n";
+    assert_eq!(&rt; run.output.bytes(), text.as_slice());
+    assert_eq!(&rt; run.errors.bytes().len(), 0);
+    Ok(())
+}
+
+#[test]
+fn reads_each_of_twenty_words(rt: HostRuntime) -> Result<(), Fail> {
+    let alloc = rt.alloc();
+    let words =
+        "calc|--taskset|PU:20|pu:0|pu:1|pu:2|pu:3|pu:4|pu:5|pu:6|pu:7|pu:8|pu:9|pu:10|pu:11|pu:12|pu:13|pu:14|pu:15|~pu:0";
+    let mut calc = process(
+        alloc,
+        words,
+        source(alloc, b"")?,
+        SureSink::new(alloc, 100)?,
+    )?;
+    assert_eq!(&rt; calc.end(&rt, alloc), Status::Ok);
+    assert_eq!(&rt; calc.output.bytes(), b"0xfffe\n".as_slice());
+    assert_eq!(&rt; calc.errors.bytes().len(), 0);
+    Ok(())
+}
+
+#[test]
+fn tells_of_a_refused_section(rt: HostRuntime) -> Result<(), Fail> {
+    let alloc = rt.alloc();
+    let input = source(alloc, b"walker * 0\n\n")?;
+    let mut run = process(alloc, "run|PU:1", input, SureSink::new(alloc, 100)?)?;
+    let status = run.end(&rt, alloc);
+    assert_eq!(&rt;
+        status,
+        Status::Malformed(Fault::Section(SectionFault::BadHead { at: 0 }))
+    );
+    assert_eq!(&rt; status.code(), 3);
+    assert_eq!(&rt; run.output.bytes().len(), 0);
+    assert_eq!(&rt; run.errors.bytes(), b"clof: section BadHead 0\n".as_slice());
+    Ok(())
+}
+
+#[test]
+fn tells_of_a_full_output(rt: HostRuntime) -> Result<(), Fail> {
+    let alloc = rt.alloc();
+    let output = MemSink::new(alloc, 5, 2, Vec::new(alloc))?;
+    let mut set = process(alloc, "set|0x1", source(alloc, b"")?, output)?;
+    let status = set.end(&rt, alloc);
+    assert_eq!(&rt; status, Status::WriteFault { written: 5 });
+    assert_eq!(&rt; status.code(), 6);
+    assert_eq!(&rt; set.output.bytes(), b"0x000".as_slice());
+    assert_eq!(&rt; set.errors.bytes(), b"clof: write fault 5\n".as_slice());
+    Ok(())
+}
+
+#[test]
+fn tells_of_an_input_that_fails(rt: HostRuntime) -> Result<(), Fail> {
+    let alloc = rt.alloc();
+    let input = MemSource::new(b"worker * 0\n\n".to_vec(alloc)?, 8, [1].to_vec(alloc)?);
+    let mut run = process(alloc, "run", input, SureSink::new(alloc, 100)?)?;
+    let status = run.end(&rt, alloc);
+    assert_eq!(&rt; status, Status::ReadFault);
+    assert_eq!(&rt; status.code(), 5);
+    assert_eq!(&rt; run.output.bytes().len(), 0);
+    assert_eq!(&rt; run.errors.bytes(), b"clof: read fault\n".as_slice());
+    Ok(())
+}
