@@ -474,6 +474,9 @@ fn answers_of_this_profile(rt: HostRuntime) -> Result<(), Fail> {
     // It reads locations from standard input.
     prints(&rt, rt.alloc(), &["calc", "PU:2"], Status::Ok, "0x0\n", "")?;
     let cases = [
+        // 0x4, and 2: an option holds for the words behind it.
+        ("Core:4 PU:2(indexes=2*4:1*2)", "pu:4 -p=0x00000010"),
+        ("Core:4 PU:2(indexes=2*4:1*2)", "-I pu pu:4 -p=4"),
         ("PU:4", "pu:2-0=0x0"), // 0xc
         ("PU:4", "pu:5-=0x0"), // no end
         ("PU:4", "pu:4:2=0x0"), // 0x3
