@@ -474,6 +474,9 @@ fn answers_of_this_profile(rt: HostRuntime) -> Result<(), Fail> {
     // It reads locations from standard input.
     prints(&rt, rt.alloc(), &["calc", "PU:2"], Status::Ok, "0x0\n", "")?;
     let cases = [
+        // 0x4, and 2: an option holds for the words behind it.
+        ("Core:4 PU:2(indexes=2*4:1*2)", "pu:4 -p=0x00000010"),
+        ("Core:4 PU:2(indexes=2*4:1*2)", "-I pu pu:4 -p=4"),
         ("PU:4", "pu:2-0=0x0"), // 0xc
         ("PU:4", "pu:5-=0x0"), // no end
         ("PU:4", "pu:4:2=0x0"), // 0x3
@@ -503,6 +506,36 @@ fn answers_of_this_profile(rt: HostRuntime) -> Result<(), Fail> {
         answers(&rt, rt.alloc(), description, row)?;
     }
     Ok(())
+}
+
+// The answers and refusals of docs/HWLOC.md that no other table has.
+#[test]
+fn examples_of_the_page_on_hwloc(rt: HostRuntime) -> Result<(), Fail> {
+    let alloc = rt.alloc();
+    let plain = "core:1=0x0000000c
+package:1 ~PU:even=0x000000a0
+-N core all=4
+-I PU package:1=4,5,6,7
+-H package.core 0xf0=Package:1.Core:0 Package:1.Core:1
+--largest 0xf3=Core:0 Package:1
+--taskset package:1=0xf0
+core:3-1=0x0
+core:4:1=0x0
+all x0x0f=0x0000000f";
+    answers(&rt, alloc, PLAIN, plain)?;
+    let loops = "-p -I PU all=0,4,1,5,2,6,3,7
+-I pu 0x00000010=1
+core:all.pu:0=0x0000000f";
+    answers(&rt, alloc, "Core:4 PU:2(indexes=2*4:1*2)", loops)?;
+    answers(&rt, alloc, "2 3 2", "-N group all=2")?;
+    answers(&rt, alloc, "PU:010", "all=0x000003ff")?;
+    let groups = "Group:2 Package:1 Group:2 PU:2";
+    answers(&rt, alloc, groups, "group0:1=0x000000f0")?;
+    let refused = "core:0 foo:0=3 clof: location NoSuchType 1
+core:x=3 clof: location Location 0 0
+0x123456789=3 clof: location Location 0 0
+-I foo all=3 clof: type -I";
+    refusals(&rt, alloc, PLAIN, refused)
 }
 
 const USAGE: &str = "clof: usage\n";

@@ -69,6 +69,12 @@ distrib --from numa 2 *|0x00000003 0x0000000c";
         "L1i:3 PU:5",
         "distrib 5 *|0x00000003 0x0000001c 0x00000060 0x00000380 0x00007c00",
     )?;
+    shares(
+        &rt,
+        rt.alloc(),
+        "PU:4(indexes=3,2,1,0)",
+        "distrib 2 *|0x0000000c 0x00000003",
+    )?;
     Ok(())
 }
 
