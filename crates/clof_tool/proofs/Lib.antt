@@ -1,10 +1,13 @@
+pub mod Checks
 pub mod Codes
 pub mod Drills
+pub mod Judgements
+pub mod LockPlans
 pub mod Machine
+pub mod Pairs
 pub mod Places
 pub mod Plans
 pub mod Runs
 pub mod SectionRuns
 pub mod Stops
 pub mod Words
-pub mod LockPlans

@@ -13,7 +13,7 @@ use Rattle.lock_plan.specs.Shapes.{IsShapeOf}
 use Rattle.clof_tool.specs.Run.{RunsUnder}
 
 -- the PUs of the callers
-pus_of : (sections : List Section)
+pub pus_of : (sections : List Section)
     → map (λ (section : Section). section.pu) sections ≡ map (λ (section : Placed). section.pu) (map section_view sections)
 pus_of [] = refl
 pus_of (section ∷ sections) = ap (λ (rest : List ℕ). section.pu ∷ rest) (pus_of sections)

@@ -64,14 +64,14 @@ only_memory described input fault found none =
 -- ---- one history, or one refusal
 
 -- a text describes one topology
-described_once : (text : List ℕ) (one other : Description) → Describes text one → Describes text other → one ≡ other
+pub described_once : (text : List ℕ) (one other : Description) → Describes text one → Describes text other → one ≡ other
 described_once text one other first second =
     let items = same_items text 0 first.items second.items first.cut second.cut in
     let both : ◌≡◌ {A = Result Description SynthRule} (Ok one) (Ok other) = sym first.said ∙ ap (meaning text) items ∙ second.said in
     cc
 
 -- an input is one list of sections
-sections_same : (described : Description) (input : List ℕ) (one other : List Placed) → Sections described input one
+pub sections_same : (described : Description) (input : List ℕ) (one other : List Placed) → Sections described input one
     → Sections described input other → one ≡ other
 sections_same described input one other first second =
     first.placed_are
@@ -79,7 +79,7 @@ sections_same described input one other first second =
     ∙ sym second.placed_are
 
 -- sections are as many as are written
-few_sections : (described : Description) (input : List ℕ) (sections : List Placed) → Sections described input sections
+pub few_sections : (described : Description) (input : List ℕ) (sections : List Placed) → Sections described input sections
     → length sections ≤ caller_limit
 unfolding placed
 few_sections described input sections are =

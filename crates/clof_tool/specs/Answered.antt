@@ -10,8 +10,7 @@ use Rattle.command_texts.specs.declared.status.Status.{Status}
 use Rattle.command_texts.specs.declared.status.Status.TheVariants as statuses
 use Rattle.command_texts.specs.Ends.{IsRefusal, HasWritten}
 use Rattle.command_words.specs.Asked.{Asked}
-use Rattle.clof_tool.specs.Run.{input_limit}
-use Rattle.clof_tool.specs.Outcome.{ReadsInput, HasRead, IsAccepted, IsAnswer, WordsRefused, InputRefused, HasCause}
+use Rattle.clof_tool.specs.Outcome.{ReadsInput, limit_of, HasRead, IsAccepted, IsAnswer, WordsRefused, InputRefused, HasCause}
 
 pub record Answered (asked : Asked) (left left_now : Option (List ℕ)) (given given_now faults faults_now : ℕ)
     (result : Result (Vec ℕ Global) Status)
@@ -22,7 +21,7 @@ pub record Answered (asked : Asked) (left left_now : Option (List ℕ)) (given g
   pub silent : IfErr result (λ status. HasWritten status → ⊥)
   pub not_usage : result ≢ Err statuses.Usage
   pub read_fault : result ≡ Err statuses.ReadFault → ReadsInput asked × Rose faults faults_now
-  pub read_in_part : result ≡ Err statuses.ReadFault → HasGiven input_limit left left_now given given_now
+  pub read_in_part : result ≡ Err statuses.ReadFault → HasGiven (limit_of asked) left left_now given given_now
   pub read_calm : result ≢ Err statuses.ReadFault → faults_now ≡ faults
   pub words_refused : (status : Status) → WordsRefused asked status → (result ≡ Err status) ⊎ (result ≡ Err statuses.OutOfMemory)
   pub input_refused : (input : List ℕ) (status : Status) → left ≡ Some input → InputRefused asked input status

@@ -1,3 +1,4 @@
+pub mod Checking
 pub mod Drilling
 pub mod LockPlan
 pub mod Outcome

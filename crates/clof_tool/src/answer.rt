@@ -1,5 +1,5 @@
 // The text that is printed, all of it before the first write.
-ghost use Rattle.std.specs.Prelude.{◌≡◌, ◌≢◌, ◌≤◌, ◌⊎◌, length, IfErr, IfOk, OnOk};
+ghost use Rattle.std.specs.Prelude.{◌≡◌, ◌≢◌, ◌≤◌, ◌<◌, ◌⊎◌, length, IfErr, IfOk, OnOk};
 ghost use Rattle.edge_io.specs.Counts.{Rose};
 ghost use Rattle.edge_io.specs.Contents.{IsDrained};
 ghost use Rattle.edge_io.specs.Reading.{HasGiven};
@@ -10,6 +10,7 @@ ghost use Rattle.clof_tool.specs.Run.{input_limit};
 ghost use Rattle.clof_tool.specs.Outcome.{ReadsInput, WasRead, WasTooLong, WordsRefused};
 ghost use Rattle.clof_tool.specs.Answered.{Answered, AnswersUnrefused};
 
+use crate::checking::check_on;
 use crate::drilling::drill_text;
 use crate::selecting::select_on;
 use crate::serving::run_on;
@@ -47,6 +48,7 @@ pub(crate) fn answer<R: Threads + Wait + Sync, S: Source, G: Gate + Sync>(
         Asked::Distrib(asked) => distrib_text(alloc, &asked),
         Asked::Select(asked) => select_on(alloc, &asked, source),
         Asked::Drill(number) => drill_text(rt, alloc, number, gate),
+        Asked::Check(asked) => check_on(alloc, asked, source),
     }
 }
 
@@ -57,13 +59,36 @@ pub(crate) fn read_input<S: Source>(alloc: Global, source: &mut S) -> Result<Vec
     ensures at_end { OnOk result (IsDrained (S.left source.old) (S.left source.new)) }
     ensures refused { IfErr result (λ status.
         (status ≡ Status.ReadFault) ⊎ (status ≡ Status.Limit InputOf) ⊎ (status ≡ Status.OutOfMemory)) }
-    ensures too_long { result ≡ Err (Status.Limit InputOf) → WasTooLong (S.left source.old) (S.given source.old) (S.given source.new) }
+    ensures too_long { result ≡ Err (Status.Limit InputOf) →
+        WasTooLong input_limit (S.left source.old) (S.given source.old) (S.given source.new) }
     ensures read_fault { result ≡ Err Status.ReadFault → Rose (S.faults source.old) (S.faults source.new) }
     ensures read_in_part { result ≡ Err Status.ReadFault →
         HasGiven input_limit (S.left source.old) (S.left source.new) (S.given source.old) (S.given source.new) }
     ensures read_calm { result ≢ Err Status.ReadFault → S.faults source.new ≡ S.faults source.old }
 {
-    read_all(alloc, source, INPUT_LIMIT).map_err(|fault| match fault {
+    read_up_to(alloc, source, INPUT_LIMIT)
+}
+
+/// All that the source has left, at most `limit` bytes.
+pub(crate) fn read_up_to<S: Source>(
+    alloc: Global,
+    source: &mut S,
+    limit: usize,
+) -> Result<Vec<u8>, Status>
+    requires { limit < usize.MAX }
+    ensures read { IfOk result (λ input. WasRead (S.left source.old) (S.given source.old) (S.given source.new) input.items) }
+    ensures within { IfOk result (λ input. length input.items ≤ limit) }
+    ensures at_end { OnOk result (IsDrained (S.left source.old) (S.left source.new)) }
+    ensures refused { IfErr result (λ status.
+        (status ≡ Status.ReadFault) ⊎ (status ≡ Status.Limit InputOf) ⊎ (status ≡ Status.OutOfMemory)) }
+    ensures too_long { result ≡ Err (Status.Limit InputOf) →
+        WasTooLong limit (S.left source.old) (S.given source.old) (S.given source.new) }
+    ensures read_fault { result ≡ Err Status.ReadFault → Rose (S.faults source.old) (S.faults source.new) }
+    ensures read_in_part { result ≡ Err Status.ReadFault →
+        HasGiven limit (S.left source.old) (S.left source.new) (S.given source.old) (S.given source.new) }
+    ensures read_calm { result ≢ Err Status.ReadFault → S.faults source.new ≡ S.faults source.old }
+{
+    read_all(alloc, source, limit).map_err(|fault| match fault {
         ReadAllFault::Fault => Status::ReadFault,
         ReadAllFault::TooLong => Status::Limit(Fault::Input),
         ReadAllFault::OutOfMemory => Status::OutOfMemory,

@@ -2,7 +2,9 @@
 #![tactic(auto)]
 
 mod answer;
+mod checking;
 mod drilling;
+mod judging;
 mod laws;
 mod planning;
 mod process;
@@ -13,7 +15,7 @@ mod serving;
 mod top_call;
 
 pub use command_texts::{Fault, OptionName, Status};
-pub use laws::one_run;
+pub use laws::{one_check, one_run};
 pub use process::Process;
 pub use top_call::{top, top_with};
 

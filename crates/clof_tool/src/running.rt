@@ -107,8 +107,8 @@ fn pus(alloc: Global, sections: &[Section<'_>]) -> Result<Vec<u32>, AllocError>
     Ok(pus)
 }
 
-// The status of a fault of the sections: one of them is a limit.
-fn section_status(fault: SectionFault) -> Status
+/// The status of a fault of the sections: one of them is a limit.
+pub(crate) fn section_status(fault: SectionFault) -> Status
     ensures status { result ≡ section_status fault }
     ensures early { EndsEarly result }
 {

@@ -8,9 +8,8 @@ ghost use Rattle.command_texts.specs.Line.{line_of};
 ghost use Rattle.command_words.specs.Asked.{Asked as PlainAsked};
 ghost use Rattle.command_words.specs.Plain.{plain};
 ghost use Rattle.command_words.specs.Words.{Says, IsTabled, IsUsage};
-ghost use Rattle.clof_tool.specs.Run.{input_limit};
 ghost use Rattle.command_texts.specs.Ends.{IsRefusal};
-ghost use Rattle.clof_tool.specs.Outcome.{ReadsInput, HasRead, IsAccepted, IsAnswer, WordsRefused, InputRefused, HasCause};
+ghost use Rattle.clof_tool.specs.Outcome.{ReadsInput, limit_of, HasRead, IsAccepted, IsAnswer, WordsRefused, InputRefused, HasCause};
 ghost use Rattle.command_texts.specs.Ends.{HasWritten};
 
 use crate::Status;
@@ -28,9 +27,9 @@ use std::thread::Threads;
 ///
 /// Ok: the whole text was written, and the source, where it is asked for, is at its end. Usage: the words ask for nothing
 /// that the program does; nothing was read. Malformed: the input or a word is refused. Limit: the input is longer than
-/// 16,777,216 bytes, or a description has too many levels or objects. ReadFault and WriteFault: a read or a write failed,
-/// or the output took no more. OutOfMemory: memory was wanting. Nothing is written to `out` on a status other than Ok and
-/// WriteFault.
+/// 16,777,216 bytes, or 67,108,864 for `check`, or a description has too many levels or objects. ReadFault and WriteFault: a
+/// read or a write failed, or the output took no more. OutOfMemory: memory was wanting. Nothing is written to `out` on a
+/// status other than Ok and WriteFault.
 pub fn top<R: Threads + Wait + Sync, S: Source, K: Sink, E: Sink>(
     rt: &R,
     alloc: Global,
@@ -74,8 +73,8 @@ pub fn top<R: Threads + Wait + Sync, S: Source, K: Sink, E: Sink>(
     // Faults of the source.
     ensures read_fault { result ≡ Status.ReadFault → Rose (S.faults source.old) (S.faults source.new) }
     ensures read_fault_input { (asked : PlainAsked) → Says words.now asked → result ≡ Status.ReadFault → ReadsInput asked }
-    ensures read_in_part { result ≡ Status.ReadFault →
-        HasGiven input_limit (S.left source.old) (S.left source.new) (S.given source.old) (S.given source.new) }
+    ensures read_in_part { (asked : PlainAsked) → Says words.now asked → result ≡ Status.ReadFault →
+        HasGiven (limit_of asked) (S.left source.old) (S.left source.new) (S.given source.old) (S.given source.new) }
     ensures read_calm { result ≢ Status.ReadFault → S.faults source.new ≡ S.faults source.old }
 
     // The output: faults and stalls, what they leave, and calm where all goes well.
@@ -145,8 +144,8 @@ pub fn top_with<R: Threads + Wait + Sync, S: Source, K: Sink, E: Sink, G: Gate +
     // Faults of the source.
     ensures read_fault { result ≡ Status.ReadFault → Rose (S.faults source.old) (S.faults source.new) }
     ensures read_fault_input { (asked : PlainAsked) → Says words.now asked → result ≡ Status.ReadFault → ReadsInput asked }
-    ensures read_in_part { result ≡ Status.ReadFault →
-        HasGiven input_limit (S.left source.old) (S.left source.new) (S.given source.old) (S.given source.new) }
+    ensures read_in_part { (asked : PlainAsked) → Says words.now asked → result ≡ Status.ReadFault →
+        HasGiven (limit_of asked) (S.left source.old) (S.left source.new) (S.given source.old) (S.given source.new) }
     ensures read_calm { result ≢ Status.ReadFault → S.faults source.new ≡ S.faults source.old }
 
     // The output: faults and stalls, what they leave, and calm where all goes well.

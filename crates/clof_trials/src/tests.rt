@@ -1,4 +1,5 @@
 // The top call over sources and sinks in memory.
+mod checks;
 mod drills;
 mod faults;
 mod plans;

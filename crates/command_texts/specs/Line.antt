@@ -12,6 +12,8 @@ use Rattle.lock_select.specs.declared.fault.SelectFault.{SelectFault}
 use Rattle.lock_select.specs.declared.fault.SelectFault.TheVariants as select
 use Rattle.placed_runner.specs.declared.fault.SectionFault.{SectionFault}
 use Rattle.placed_runner.specs.declared.fault.SectionFault.TheVariants as section
+use Rattle.run_check.specs.declared.fault.CheckFault.{CheckFault}
+use Rattle.run_check.specs.declared.fault.CheckFault.TheVariants as check
 use Rattle.synth_text.specs.declared.fault.SynthFault.{SynthFault}
 use Rattle.synth_text.specs.declared.fault.SynthFault.TheVariants as synth
 use Rattle.topo_tree.specs.declared.fault.BuildFault.{BuildFault}
@@ -94,6 +96,10 @@ select_message (select.Place at) = with_number (codes "select Place") at
 select_message select.TooManyTurns = codes "select TooManyTurns"
 select_message select.OutOfMemory = codes "out of memory"
 
+abbrev pub check_message : CheckFault → List ℕ
+check_message check.BadHead = codes "check BadHead"
+check_message check.Short = codes "check Short"
+
 -- the area, the name of the fault and its numbers
 abbrev pub fault_message : Fault → List ℕ
 fault_message (faults.Set fault) = set_message fault
@@ -106,6 +112,7 @@ fault_message (faults.Plan fault) = plan_message fault
 fault_message (faults.Section fault) = section_message fault
 fault_message (faults.Select fault) = select_message fault
 fault_message faults.Input = codes "input"
+fault_message (faults.Check fault) = check_message fault
 
 -- what the line says; of Ok there is no line
 abbrev pub message : Status → List ℕ

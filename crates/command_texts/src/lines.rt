@@ -3,7 +3,7 @@ ghost use Rattle.std.specs.Prelude.{◌≡◌, ◌≤◌, ◌+◌, ◌++◌, cod
 ghost use Rattle.arrayvec.specs.ArrayString.{array_string_len};
 ghost use Rattle.command_texts.specs.Line.{with_number, set_message, synth_message, build_message, calc_message, type_message};
 ghost use Rattle.command_texts.specs.Line.{distrib_message};
-ghost use Rattle.command_texts.specs.Line.{plan_message, section_message, select_message};
+ghost use Rattle.command_texts.specs.Line.{plan_message, section_message, select_message, check_message};
 ghost use Rattle.command_texts.specs.Line.{fault_message, line_with, line_of};
 
 use crate::{Fault, OptionName, Status};
@@ -15,6 +15,7 @@ use itoa::Buffer;
 use lock_plan::PlanFault;
 use lock_select::SelectFault;
 use placed_runner::SectionFault;
+use run_check::CheckFault;
 use synth_text::SynthFault;
 use topo_tree::BuildFault;
 
@@ -54,6 +55,7 @@ fn fault_line(fault: &Fault) -> Line
         Fault::Section(fault) => section_line(fault),
         Fault::Select(fault) => select_line(fault),
         Fault::Input => saying("input"),
+        Fault::Check(fault) => check_line(fault),
     }
 }
 
@@ -89,6 +91,15 @@ fn select_line(fault: &SelectFault) -> Line
         SelectFault::Place { at } => saying_number("select Place", *at as u64),
         SelectFault::TooManyTurns => saying("select TooManyTurns"),
         SelectFault::OutOfMemory => saying("out of memory"),
+    }
+}
+
+fn check_line(fault: &CheckFault) -> Line
+    ensures { result.bytes ≡ line_with (check_message fault.now) }
+{
+    match fault {
+        CheckFault::BadHead => saying("check BadHead"),
+        CheckFault::Short => saying("check Short"),
     }
 }
 

@@ -7,6 +7,7 @@ use distrib_rules::DistribFault;
 use lock_plan::PlanFault;
 use lock_select::SelectFault;
 use placed_runner::SectionFault;
+use run_check::CheckFault;
 use synth_text::SynthFault;
 use thiserror::Error;
 use topo_tree::BuildFault;
@@ -58,9 +59,12 @@ pub enum Fault {
     /// The weights, the keep or the trace of a choice.
     #[error("the choice: {0}")]
     Select(SelectFault),
-    /// The input is longer than 16,777,216 bytes.
+    /// The input is longer than its command allows: 67,108,864 bytes for `check`, and 16,777,216 for the others.
     #[error("the input is too long")]
     Input,
+    /// The input and the printed text of a check.
+    #[error("the check: {0}")]
+    Check(CheckFault),
 }
 
 /// How a call of the program ends.

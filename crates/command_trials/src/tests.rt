@@ -17,6 +17,7 @@ use lock_plan::PlanFault;
 use lock_select::SelectFault;
 use out_of_memory::OutOfMemory;
 use placed_runner::SectionFault;
+use run_check::CheckFault;
 use std::alloc::Global;
 use std::process::Abort;
 use std::test::Fail;
@@ -33,6 +34,7 @@ fn answered(alloc: Global, words: &[&str]) -> Result<Result<Vec<u8>, Status>, Fa
         Ok(Asked::Run(asked)) => plan::of(alloc, asked).map(|_| Vec::new(alloc)),
         Ok(Asked::Select(_)) => Err(Status::Usage),
         Ok(Asked::Drill(_)) => Err(Status::Usage),
+        Ok(Asked::Check(asked)) => plan::of(alloc, asked.as_run()).map(|_| Vec::new(alloc)),
         Ok(Asked::Set { list, text }) => set_text(alloc, list, text),
         Ok(Asked::Topo { export, text }) => topo_text(alloc, export, text),
         Ok(Asked::Calc(asked)) => calc_text(alloc, &asked),
@@ -104,6 +106,10 @@ fn tells_each_fault(rt: HostRuntime) -> Result<(), Fail> {
         ),
         (Fault::Select(SelectFault::Keep), "the choice: the keep"),
         (Fault::Input, "the input is too long"),
+        (
+            Fault::Check(CheckFault::BadHead),
+            "the check: the head of the input",
+        ),
     ];
     for (fault, wanted) in rows {
         let told = format!(in rt.alloc(); "{fault}")?;

@@ -4,6 +4,7 @@ use Rattle.clap.specs.Words.{Rule, is_simple_and_free}
 use Rattle.clap.proofs.OnLiterals.{clap_on_literals}
 use Rattle.command_words.specs.Commands.{command_of}
 use Rattle.command_words.specs.CalcWords.{calc_rules, calc_command}
+use Rattle.command_words.specs.CheckWords.{check_rules, check_command}
 use Rattle.command_words.specs.DistribWords.{distrib_rules, distrib_command}
 use Rattle.command_words.specs.DrillWords.{drill_rules, drill_command}
 use Rattle.command_words.specs.RunWords.{run_rules, run_command}
@@ -66,3 +67,11 @@ drill_made rules is = ap (command_of (codes "drill")) is
 pub drill_simple : is_simple_and_free drill_command ≡ true
 unfolding drill_command clap_on_literals
 drill_simple = refl
+
+pub check_made : (rules : List Rule) → rules ≡ check_rules → command_of (codes "check") rules ≡ check_command
+unfolding check_command
+check_made rules is = ap (command_of (codes "check")) is
+
+pub check_simple : is_simple_and_free check_command ≡ true
+unfolding check_command clap_on_literals
+check_simple = refl

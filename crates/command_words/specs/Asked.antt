@@ -1,5 +1,5 @@
 -- What words ask for.
-use Rattle.std.specs.Prelude.{ℕ, Bool, List, Option}
+use Rattle.std.specs.Prelude.{ℕ, Bool, false, List, Option, None}
 use Rattle.clap.specs.Words.{Text}
 
 -- what is asked of a set: itself, the objects of a type that meet it, how many these are, the chains of objects of types
@@ -52,6 +52,16 @@ pub record Running : Type 0 where
   pub walk : Bool
   pub description : Text
 
+-- the run whose printed text is checked: one of `run` with these levels, this keep and its own locks, on this topology
+pub record Checking : Type 0 where
+  pub levels : Text
+  pub keep : Text
+  pub description : Text
+
+-- the run as the words of `run` ask for it
+abbrev pub as_run : Checking → Running
+as_run asked = record { levels = asked.levels; locks = None; keep = asked.keep; walk = false; description = asked.description }
+
 pub data Asked : Type 0 where
   Run : (asked : Running) → Asked
   Set : (list : Bool) (text : Text) → Asked
@@ -60,3 +70,4 @@ pub data Asked : Type 0 where
   Distrib : (asked : Distribution) → Asked
   Select : (asked : Selection) → Asked
   Drill : (number : ℕ) → Asked
+  Check : (asked : Checking) → Asked

@@ -1,5 +1,6 @@
 pub mod Asked
 pub mod CalcWords
+pub mod CheckWords
 pub mod Commands
 pub mod DistribWords
 pub mod DrillWords

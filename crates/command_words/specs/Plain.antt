@@ -11,6 +11,7 @@ use Rattle.command_words.specs.declared.asked.Depths.TheVariants as depths
 use Rattle.command_words.specs.declared.asked.Distribution.{Distribution}
 use Rattle.command_words.specs.declared.asked.Running.{Running}
 use Rattle.command_words.specs.declared.asked.Selection.{Selection}
+use Rattle.command_words.specs.declared.asked.Checking.{Checking}
 use Rattle.command_words.specs.Asked as words
 
 abbrev pub plain_text : Option (Bor (List ℕ)) → Option (List ℕ)
@@ -60,6 +61,9 @@ plain_running given = record {
   description = given.description.now;
 }
 
+abbrev pub plain_checking : Checking → words.Checking
+plain_checking given = record { levels = given.levels.now; keep = given.keep.now; description = given.description.now }
+
 abbrev pub plain : Asked → words.Asked
 plain (asked.Run given) = words.Run (plain_running given)
 plain (asked.Set list text) = words.Set list text.now
@@ -68,3 +72,4 @@ plain (asked.Calc given) = words.Calc (plain_calculation given)
 plain (asked.Distrib given) = words.Distrib (plain_distribution given)
 plain (asked.Select given) = words.Select (plain_selection given)
 plain (asked.Drill number) = words.Drill number
+plain (asked.Check given) = words.Check (plain_checking given)

@@ -8,6 +8,7 @@ use Rattle.std.specs.declared.alloc.Global.{Global}
 use Rattle.clap.specs.Words.{Text}
 use Rattle.command_words.specs.Asked.{Asked}
 use Rattle.command_words.specs.CalcWords.{calc_asked}
+use Rattle.command_words.specs.CheckWords.{check_asked}
 use Rattle.command_words.specs.DistribWords.{distrib_asked}
 use Rattle.command_words.specs.DrillWords.{drill_asked}
 use Rattle.command_words.specs.RunWords.{run_asked}
@@ -29,7 +30,8 @@ command_asked (name ∷ words) =
     else (if bytes_eq name (codes "calc") then calc_asked (name ∷ words)
     else (if bytes_eq name (codes "distrib") then distrib_asked (name ∷ words)
     else (if bytes_eq name (codes "select") then select_asked (name ∷ words)
-    else (if bytes_eq name (codes "drill") then drill_asked (name ∷ words) else None))))))
+    else (if bytes_eq name (codes "drill") then drill_asked (name ∷ words)
+    else (if bytes_eq name (codes "check") then check_asked (name ∷ words) else None)))))))
 
 -- what words ask for
 unfoldable pub asked_of : List Text → Option Asked
@@ -45,7 +47,8 @@ IsUsage words = asked_of (map string_bytes words) ≡ None
 -- the names of the commands whose words `clap` reads
 abbrev pub tabled_names : List Text
 tabled_names =
-    codes "run" ∷ codes "set" ∷ codes "topo" ∷ codes "calc" ∷ codes "distrib" ∷ codes "select" ∷ codes "drill" ∷ []
+    codes "run" ∷ codes "set" ∷ codes "topo" ∷ codes "calc" ∷ codes "distrib" ∷ codes "select" ∷ codes "drill"
+    ∷ codes "check" ∷ []
 
 abbrev pub is_tabled : List Text → Bool
 is_tabled [] = false

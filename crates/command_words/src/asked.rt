@@ -19,6 +19,8 @@ pub enum Asked<'a> {
     Select(Selection<'a>),
     /// Serve the sections of the load test of a number.
     Drill(u32),
+    /// Tell whether the text behind an input is that of a run.
+    Check(Checking<'a>),
 }
 
 /// A run of the sections of the input.
@@ -112,4 +114,36 @@ pub struct Selection<'a> {
     pub keep: &'a [u8],
     /// The description of the topology.
     pub description: &'a [u8],
+}
+
+/// The run whose printed text is checked: one of `run` with the same levels, keep and description, and its own locks.
+#[derive(Clone, Copy)]
+pub struct Checking<'a> {
+    /// The levels of the lock, the lowest first: `machine` where none are given.
+    pub levels: &'a [u8],
+    /// How often a level below the top keeps the lock: 128 where nothing is given.
+    pub keep: &'a [u8],
+    /// The description of the topology: `PU:1` where none is given.
+    pub description: &'a [u8],
+    pub ghost short_levels: { length levels.now < 2 ^ 32 },
+    pub ghost short_keep: { length keep.now < 2 ^ 32 },
+}
+
+impl<'a> Checking<'a> {
+    ghost use Rattle.std.specs.Prelude.{◌≡◌};
+    ghost use Rattle.command_words.specs.Asked.{as_run};
+    ghost use Rattle.command_words.specs.Plain.{plain_checking, plain_running};
+
+    /// The run as the words of `run` ask for it.
+    pub fn as_run(self) -> Running<'a>
+        ensures { plain_running result ≡ as_run (plain_checking self.entry) }
+    {
+        Running {
+            levels: self.levels,
+            locks: None,
+            keep: self.keep,
+            walk: false,
+            description: self.description,
+        }
+    }
 }

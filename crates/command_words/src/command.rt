@@ -1,5 +1,6 @@
 // A command's words, read by clap.
-ghost use Rattle.std.specs.Prelude.{◌≡◌, ◌≢◌, ◌⊎◌, [], false, true, map, string_bytes, None, Some, IfOk, IfErr, option_map};
+ghost use Rattle.std.specs.Prelude.{◌≡◌, ◌≢◌, ◌⊎◌, ◌^◌, [], false, true, nat_lt, length, map, string_bytes, None, Some, IfOk, IfErr};
+ghost use Rattle.std.specs.Prelude.{option_map, unwrap_or};
 ghost use Rattle.clap.specs.Words.{app_of, first_of, found_of, is_simple_and_free, rows_of, rule_of as clap_rule};
 ghost use Rattle.command_words.specs.Commands.{command_of, rule_of, with_short, matched, is_given, taken_by};
 
@@ -120,6 +121,23 @@ pub(crate) fn value<'a>(matches: &ArgMatches<'a>, name: &str) -> Option<&'a [u8]
         Some(text) => Some(text.as_bytes()),
         None => None,
     }
+}
+
+/// The value of an argument, or another text where it has none.
+pub(crate) fn value_or<'a>(matches: &ArgMatches<'a>, name: &str, other: &'static [u8]) -> &'a [u8]
+    ensures { result.now ≡ unwrap_or (first_of name.now (rows_of (found_of matches.now))) other.now }
+{
+    match value(matches, name) {
+        Some(text) => text,
+        None => other,
+    }
+}
+
+/// Whether a text has fewer than 2^32 bytes.
+pub(crate) fn is_short(text: &[u8]) -> bool
+    ensures { result ≡ nat_lt (length text.now) (2 ^ 32) }
+{
+    text.len() < 4_294_967_296
 }
 
 /// The words that an argument took.

@@ -3,6 +3,7 @@
 
 mod asked;
 mod calc_words;
+mod check_words;
 mod command;
 mod distrib_words;
 mod drill_words;
@@ -13,7 +14,7 @@ mod set_words;
 mod topo_words;
 mod words;
 
-pub use asked::{Asked, Calculation, Depths, Distribution, Question, Running, Selection};
+pub use asked::{Asked, Calculation, Checking, Depths, Distribution, Question, Running, Selection};
 pub use fault::WordsFault;
 pub use words::read_words;
 

@@ -1,13 +1,13 @@
 // The words of `run`.
-ghost use Rattle.std.specs.Prelude.{◌≡◌, ◌⊎◌, ◌^◌, true, nat_lt, length, None, Some, map, string_bytes, IfOk, IfErr, option_map, unwrap_or};
+ghost use Rattle.std.specs.Prelude.{◌≡◌, ◌⊎◌, ◌^◌, true, nat_lt, length, None, Some, map, string_bytes, IfOk, IfErr, option_map};
 ghost use Rattle.std.specs.Option.{option_map_or};
-ghost use Rattle.clap.specs.Words.{first_of, found_of, rows_of};
+ghost use Rattle.clap.specs.Words.{found_of, rows_of};
 ghost use Rattle.command_words.specs.Commands.{rule_of};
 ghost use Rattle.command_words.specs.Plain.{plain};
 ghost use Rattle.command_words.specs.RunWords.{run_rules, run_of, run_asked};
 
 use crate::asked::{Asked, Running};
-use crate::command::{Argument, is_given, matches, value};
+use crate::command::{Argument, is_given, is_short, matches, value, value_or};
 use crate::fault::WordsFault;
 use clap::ArgMatches;
 use std::alloc::Global;
@@ -57,23 +57,6 @@ fn asked_of<'a>(matches: &ArgMatches<'a>) -> Option<Asked<'a>>
         walk: is_given(matches, "walk"),
         description: value_or(matches, "DESCRIPTION", b"PU:1"),
     }))
-}
-
-// The value of an argument, or another text where it has none.
-fn value_or<'a>(matches: &ArgMatches<'a>, name: &str, other: &'static [u8]) -> &'a [u8]
-    ensures { result.now ≡ unwrap_or (first_of name.now (rows_of (found_of matches.now))) other.now }
-{
-    match value(matches, name) {
-        Some(text) => text,
-        None => other,
-    }
-}
-
-// Whether a text has fewer than 2^32 bytes.
-fn is_short(text: &[u8]) -> bool
-    ensures { result ≡ nat_lt (length text.now) (2 ^ 32) }
-{
-    text.len() < 4_294_967_296
 }
 
 // Whether a text has fewer than 2^32 bytes, where there is one.

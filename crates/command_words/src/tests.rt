@@ -1,5 +1,5 @@
 // Words, read.
-use crate::{Asked, Depths, Question, Running, WordsFault, read_words};
+use crate::{Asked, Checking, Depths, Question, Running, WordsFault, read_words};
 use std::alloc::Global;
 use std::process::Abort;
 use std::test::Fail;
@@ -199,6 +199,50 @@ fn reads_drills(rt: HostRuntime) -> Result<(), Fail> {
     Ok(())
 }
 
+// Checks which check words ask for.
+fn asks_to_check<R: Abort>(
+    rt: &R,
+    alloc: Global,
+    words: &[&str],
+    wanted: Checking<'_>,
+) -> Result<(), Fail> {
+    let words = strings(alloc, words)?;
+    match read_words(alloc, &words) {
+        Ok(Asked::Check(asked)) => {
+            assert_eq!(rt; asked.levels, wanted.levels);
+            assert_eq!(rt; asked.keep, wanted.keep);
+            assert_eq!(rt; asked.description, wanted.description);
+        }
+        _ => panic!(rt; "no check"),
+    }
+    Ok(())
+}
+
+#[test]
+fn reads_checks(rt: HostRuntime) -> Result<(), Fail> {
+    let alloc = rt.alloc();
+    let plain = Checking {
+        levels: b"machine",
+        keep: b"128",
+        description: b"PU:1",
+    };
+    asks_to_check(&rt, alloc, &["check"], plain)?;
+    let words: &[&str] = &["check", "--keep=7", "Core:2 PU:1", "--levels", "core"];
+    let composed = Checking {
+        levels: b"core",
+        keep: b"7",
+        description: b"Core:2 PU:1",
+    };
+    asks_to_check(&rt, alloc, words, composed)?;
+    let empty = Checking {
+        levels: b"",
+        keep: b"",
+        description: b"--keep",
+    };
+    let words: &[&str] = &["check", "--keep=", "--levels=", "--", "--keep"];
+    asks_to_check(&rt, alloc, words, empty)
+}
+
 // Checks that lists of words are usage errors.
 fn refuses<R: Abort>(rt: &R, alloc: Global, cases: &[&[&str]]) -> Result<(), Fail> {
     for words in cases {
@@ -263,6 +307,23 @@ fn refuses_words_of_runs_and_drills(rt: HostRuntime) -> Result<(), Fail> {
         &["drill", "4294967296"],
         &["drill", "1x"],
         &["drill", "--walk", "1"],
+    ];
+    refuses(&rt, rt.alloc(), &cases)
+}
+
+#[test]
+fn refuses_words_of_checks(rt: HostRuntime) -> Result<(), Fail> {
+    let cases: [&[&str]; 10] = [
+        &["Check"],
+        &["checks"],
+        &["check", "PU:1", "PU:1"],
+        &["check", "--levels"],
+        &["check", "--levels", "pu", "--levels", "pu"],
+        &["check", "--keep", "1", "--keep=1"],
+        &["check", "--locks", "mcs"],
+        &["check", "--walk"],
+        &["check", "--help"],
+        &["check", "-1"],
     ];
     refuses(&rt, rt.alloc(), &cases)
 }

@@ -5,6 +5,7 @@ ghost use Rattle.command_words.specs.Words.{are_short, command_asked, asked_of, 
 
 use crate::asked::Asked;
 use crate::calc_words::read_calc;
+use crate::check_words::read_check;
 use crate::distrib_words::read_distrib;
 use crate::drill_words::read_drill;
 use crate::fault::WordsFault;
@@ -72,6 +73,8 @@ fn read_command<'a>(alloc: Global, words: &'a [String]) -> Result<Asked<'a>, Wor
         read_select(alloc, words)
     } else if name == b"drill".as_slice() {
         read_drill(alloc, words)
+    } else if name == b"check".as_slice() {
+        read_check(alloc, words)
     } else {
         Err(WordsFault::Usage)
     }

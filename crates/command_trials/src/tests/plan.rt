@@ -129,3 +129,12 @@ run --keep 1,x *|3 clof: plan KeepRange 1";
     let row = "run --levels core *|3 clof: synth BadArity 0";
     refuses(&rt, rt.alloc(), "PU:0", row)
 }
+
+// A check reads the plan of its run, with the locks that the run would have without any.
+#[test]
+fn refuses_plans_of_checks(rt: HostRuntime) -> Result<(), Fail> {
+    let table = "check --keep 65536|3 clof: plan KeepRange 0
+check --keep 1,2|3 clof: plan Lengths 1 2
+check --levels pu|3 clof: plan LevelOrder 0";
+    refuses(&rt, rt.alloc(), "PU:1", table)
+}

@@ -41,3 +41,9 @@ returns-in-Select-clause-complete g c =
 
 pub returns-in-Drill-clause-complete : goal.returns-in-Drill-clause-complete
 returns-in-Drill-clause-complete g c words accepted calm = drill_complete c.drill_text.result c.drill_text.ensures.err
+
+pub returns-in-Check-clause-complete : goal.returns-in-Check-clause-complete
+returns-in-Check-clause-complete g c =
+    let source = g.S.Source in
+    subst (λ (a : Asked). AnswersUnrefused (plain a) (source.left c.args.source.now) (source.faults c.args.source.now)
+    (source.faults c.check_on.new.source) c.check_on.result) (sym c.in-Check.is) c.check_on.ensures.complete

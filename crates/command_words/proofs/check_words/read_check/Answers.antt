@@ -1,0 +1,28 @@
+use Rattle.std.proofs.Common.{◌∙◌, ap, map, string_bytes, inr, refl}
+use Rattle.clap.specs.Words.{is_simple_and_free}
+use Rattle.command_words.specs.Commands.{rule_of}
+use Rattle.command_words.specs.CheckWords.{check_of}
+use Rattle.command_words.proofs.Reading.{asked-some, asked-none, asked-refused}
+use Rattle.command_words.proofs.Tables.{check_made, check_simple}
+use Rattle.command_words.proofs.check_words.read_check.Goals as goal
+
+pub matches-requires : goal.matches-requires
+matches-requires c = ap is_simple_and_free (check_made (map rule_of c.arguments.result.now) c.arguments.ensures) ∙ check_simple
+
+pub returns-in-Some-clause-asked : goal.returns-in-Some-clause-asked
+returns-in-Some-clause-asked c =
+    asked-some check_of _ _ (map string_bytes c.args.words.now) (check_made (map rule_of c.arguments.result.now) c.arguments.ensures)
+    _ _ c.in-Ok.ensures.read c.in-Some.ensures
+
+pub returns-in-Ok-clause-refused : goal.returns-in-Ok-clause-refused
+returns-in-Ok-clause-refused c =
+    inr (
+      refl,
+      asked-none check_of _ _ (map string_bytes c.args.words.now)
+          (check_made (map rule_of c.arguments.result.now) c.arguments.ensures) _ c.in-Ok.ensures.read c.in-None.ensures,
+    )
+
+pub returns-clause-refused : goal.returns-clause-refused
+returns-clause-refused c =
+    asked-refused check_of _ _ (map string_bytes c.args.words.now) (check_made (map rule_of c.arguments.result.now) c.arguments.ensures)
+    c.in-Err.fault c.in-Err.ensures.refused
