@@ -1,5 +1,5 @@
 -- Bytes have one answer of `check` or one refusal, and the answer is `yes` exactly where they hold the text of a run.
-use Rattle.std.proofs.Common.{◌≡◌, ◌≤◌, ◌⊎◌, ℕ, List, length, map, inl, inr, refl, sym, ap, ◌∙◌, subst, arith}
+use Rattle.std.proofs.Common.{◌≡◌, ◌≤◌, ℕ, List, [], ◌∷◌, length, map, inl, inr, refl, sym, ap, ◌∙◌, subst, arith}
 use Rattle.synth_text.specs.declared.description.Description.{Description}
 use Rattle.keep_local.specs.declared.shape.Shape.{Shape}
 use Rattle.lock_plan.specs.declared.plan.Plan.{Plan}
@@ -12,13 +12,12 @@ use Rattle.run_check.specs.Broken.{IsFirstBroken}
 use Rattle.run_check.specs.Pairs.{ArePair}
 use Rattle.run_check.proofs.Once.{broken_once}
 use Rattle.run_check.proofs.RunLines.{no_broken}
-use Rattle.command_words.specs.Asked.{Check, Checking, Run, as_run}
+use Rattle.command_words.specs.Asked.{Checking, as_run}
 use Rattle.command_texts.specs.declared.status.Status.{Status}
 use Rattle.command_texts.specs.RunPlan.{PlanOf}
 use Rattle.clof_tool.specs.Checking.{pair_limit, verdict_text, BreaksRun, BreaksUnder, Judges, RefusesPair, RefusesWhole}
 use Rattle.clof_tool.specs.Checking.{TellsChecked, TellsVerdict}
 use Rattle.clof_tool.specs.Laws.{OneCheckRefusal, OneText, TextOrRefusal, YesWhereRun}
-use Rattle.clof_tool.specs.Outcome.{IsAnswer}
 use Rattle.clof_tool.specs.Run.{PrintsSections, PrintsUnder, RefusesSections}
 use Rattle.clof_tool.proofs.Judgements.{form_only, parts_only, sections_refused_once}
 use Rattle.clof_tool.proofs.Pairs.{input_within, one_pair}
@@ -106,17 +105,21 @@ one_text asked bytes text other first second =
 
 -- ---- yes
 
+abbrev first_byte : List ℕ → ℕ
+first_byte [] = 0
+first_byte (byte ∷ bytes) = byte
+
 -- only one verdict is told as yes
 yes_alone : (verdict : Verdict) → verdict_text verdict ≡ verdict_text Yes → verdict ≡ Yes
 yes_alone Yes is = refl
-yes_alone (No line) is = absurd (cc)
+yes_alone (No line) is = let one : 110 ≡ 121 = ap first_byte is in absurd (omega (arith, one))
 
 -- where yes is told, the text is one that a run prints
 yes_runs : (described : Description) (asked : Checking) (bytes input printed text : List ℕ) → ArePair bytes input printed
     → TellsChecked described asked bytes text → text ≡ verdict_text Yes → PrintsSections described (as_run asked) input printed
-yes_runs described asked bytes input printed text pair told yes =
+yes_runs described asked bytes input printed text pair told says =
     let tells = told.tells in
-    let verdict : tells.verdict ≡ Yes = yes_alone tells.verdict (sym tells.text_is ∙ yes) in
+    let verdict : tells.verdict ≡ Yes = yes_alone tells.verdict (sym tells.text_is ∙ says) in
     let judges = moved described told.plan bytes tells.input tells.printed input printed tells.verdict tells.pair pair tells.judges in
     record { plan = told.plan; plan_is = told.plan_is; prints = subst (Judges described told.plan input printed) verdict judges }
 
@@ -135,12 +138,12 @@ runs_yes described asked bytes input printed text pair told prints =
 
 pub yes_where_run : YesWhereRun
 yes_where_run asked bytes input printed text pair told = (
-  λ yes. (
+  λ says. (
     input_within bytes input printed pair,
     record {
       described = told.1.described;
       built = told.1.built;
-      holds = yes_runs told.1.described asked bytes input printed text pair told.1.holds yes;
+      holds = yes_runs told.1.described asked bytes input printed text pair told.1.holds says;
     },
   ),
   λ prints.

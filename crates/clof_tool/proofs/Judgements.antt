@@ -1,5 +1,5 @@
 -- What is said of a printed text, by its sections, and why bytes are refused.
-use Rattle.std.proofs.Common.{◌≡◌, ◌⊎◌, ℕ, List, map, inl, inr, refl, sym, ap, ◌∙◌, subst}
+use Rattle.std.proofs.Common.{◌≡◌, ℕ, List, map, inl, inr, refl, sym, ap, ◌∙◌, subst}
 use Rattle.synth_text.specs.declared.description.Description.{Description}
 use Rattle.keep_local.specs.declared.shape.Shape.{Shape}
 use Rattle.lock_plan.specs.declared.plan.Plan.{Plan}
@@ -16,7 +16,7 @@ use Rattle.run_check.specs.Pairs.{ArePair, IsRefused}
 use Rattle.command_texts.specs.declared.status.Fault.TheVariants.{Check}
 use Rattle.command_texts.specs.declared.status.Status.{Status}
 use Rattle.command_texts.specs.declared.status.Status.TheVariants as statuses
-use Rattle.clof_tool.specs.Checking.{Judges, JudgesRun, RefusesForm, RefusesPair}
+use Rattle.clof_tool.specs.Checking.{Judges, JudgesRun, RefusesPair}
 use Rattle.clof_tool.specs.Run.{RefusesSections, section_status}
 use Rattle.clof_tool.proofs.Pairs.{one_fault, one_pair, pair_not}
 use Rattle.clof_tool.proofs.Runs.{pus_of, runs_under}

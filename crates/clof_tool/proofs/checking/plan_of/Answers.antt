@@ -1,4 +1,4 @@
-use Rattle.std.proofs.Common.{◌≡◌, ◌⊎◌, Err, subst, sym}
+use Rattle.std.proofs.Common.{◌≡◌, ◌⊎◌, subst, sym}
 use Rattle.std.specs.Prelude.{IfErr, IfOk}
 use Rattle.command_words.specs.Asked.{Running}
 use Rattle.command_texts.specs.declared.status.Status.TheVariants.{OutOfMemory}
