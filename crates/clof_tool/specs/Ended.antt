@@ -12,8 +12,7 @@ use Rattle.command_texts.specs.Ends.{IsRefusal, HasWritten}
 use Rattle.command_texts.specs.Line.{line_of}
 use Rattle.command_words.specs.Asked.{Asked}
 use Rattle.command_words.specs.Words.{Says, IsTabled, IsUsage}
-use Rattle.clof_tool.specs.Run.{input_limit}
-use Rattle.clof_tool.specs.Outcome.{ReadsInput, HasRead, IsAccepted, IsAnswer, WordsRefused, InputRefused, HasCause}
+use Rattle.clof_tool.specs.Outcome.{limit_of, ReadsInput, HasRead, IsAccepted, IsAnswer, WordsRefused, InputRefused, HasCause}
 
 -- what a source tells of itself: the bytes that it has left, how many it has given, how many reads have failed
 pub record Reads : Type 0 where
@@ -47,7 +46,8 @@ pub record ByInput (words : List (String Global)) (source source_now : Reads) (s
   pub at_end : (asked : Asked) → Says words asked → ReadsInput asked → status ≡ statuses.Ok → IsDrained source.left source_now.left
   pub read_fault : status ≡ statuses.ReadFault → Rose source.faults source_now.faults
   pub read_fault_input : (asked : Asked) → Says words asked → status ≡ statuses.ReadFault → ReadsInput asked
-  pub read_in_part : status ≡ statuses.ReadFault → HasGiven input_limit source.left source_now.left source.given source_now.given
+  pub read_in_part : (asked : Asked) → Says words asked → status ≡ statuses.ReadFault
+      → HasGiven (limit_of asked) source.left source_now.left source.given source_now.given
   pub read_calm : status ≢ statuses.ReadFault → source_now.faults ≡ source.faults
 
 -- the whole answer is written, or a part of it where the output fails or is full, or nothing
