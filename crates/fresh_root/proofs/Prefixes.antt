@@ -1,9 +1,8 @@
 -- Beginnings of lists.
-use Rattle.std.proofs.Common.{◌≡◌, ℕ, ◌≤◌, ◌⊎◌, inl, inr, Bool, true, false, cond, List, [], ◌∷◌, ◌++◌, length, get_or}
-use Rattle.std.proofs.Common.{nat_lt, refl, ap, sym, ◌∙◌, ⊎_elim, length-append, arith}
+use Rattle.std.proofs.Common.{◌≡◌, ℕ, ◌⊎◌, inl, inr, Bool, true, false, cond, List, [], ◌∷◌, ◌++◌, length, get_or}
+use Rattle.std.proofs.Common.{nat_lt, refl, ap, sym, ◌∙◌, ⊎_elim}
 use Rattle.std.specs.Prelude.{All}
 use Rattle.std.proofs.lemmas.List.{append-nil, append_assoc}
-use Rattle.std.proofs.lemmas.Bool.Decides.{nat_tests}
 use Rattle.fresh_root.specs.Prefixes.{IsPrefixOf}
 use Rattle.fresh_root.specs.Views.{longer, shorter}
 
@@ -22,16 +21,6 @@ still_prefix xs all more is = record {
 
 pub all_still : (xss : List (List ℕ)) (all more : List ℕ) → All (λ xs. IsPrefixOf xs all) xss → All (λ xs. IsPrefixOf xs (all ++ more)) xss
 all_still xss all more are = λ i d h. still_prefix (get_or xss i d) all more (are i d h)
-
-prefix_length : (xs all : List ℕ) → IsPrefixOf xs all → length xs ≤ length all
-prefix_length xs all is = let e = ap length is.all_are in omega (arith, e, length-append xs is.behind)
-
--- the longer of a beginning and the whole is the whole
-pub longer_whole : (xs all : List ℕ) → IsPrefixOf xs all → longer xs all ≡ all
-longer_whole xs all is =
-    let h = prefix_length xs all is in
-    let b : nat_lt (length all) (length xs) ≡ false = grind (arith, nat_tests) in
-    ap (λ (c : Bool). cond c xs all) b
 
 -- what holds of both lists holds of the longer and of the shorter
 of_one : (P : List ℕ → Type 0) (b : Bool) (xs ys : List ℕ) → P xs → P ys → P (cond b xs ys)

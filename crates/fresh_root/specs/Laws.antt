@@ -14,7 +14,8 @@ MarksStand = (seen history : List ℕ) (caller turn : ℕ) → IsPrefixOf seen h
 
 -- while the payload is out, the calls are no list of callers
 abbrev pub NoReleaseWhileOut : Type 0 → Type 0
-NoReleaseWhileOut P = (f : FreshState P) (callers : List ℕ) → f.payload ≡ None → All (λ caller. caller < no_caller) callers → fresh_calls f ≢ callers
+NoReleaseWhileOut P = (f : FreshState P) (callers : List ℕ) → f.payload ≡ None → All (λ caller. caller < no_caller) callers
+    → fresh_calls f ≢ callers
 
 -- a tag tells the name and the payload's tag
 abbrev pub TagsTell : Type 0 → Type 0

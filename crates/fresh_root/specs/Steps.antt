@@ -1,4 +1,5 @@
--- The two kinds of step on the word of a counted history, and what each tells the home seat. Splitting and joining seats are the table's own.
+-- The two kinds of step on the word of a counted history, and what each tells the home seat. Splitting and joining seats are the table's
+-- own.
 use Rattle.std.specs.Prelude.{◌≡◌, ℕ, [], ◌∷◌, ◌++◌, length, All}
 use Rattle.atomic_table.specs.Table.{Me, Step}
 use Rattle.fresh_root.specs.Prefixes.{IsPrefixOf}

@@ -18,7 +18,7 @@ pub struct Mark {
 
 /// A payload, and the word that counts its calls. It is a payload too, whose calls are those of the payload that it keeps.
 ///
-/// Contracts see its name, how many tokens it gave, `list`, the callers of all calls, the `payload` while it is in, and the payload's `tag`.
+/// Contracts see its name, how many tokens it gave, the callers of all calls (`list`), the `payload` while it is in, and its `tag`.
 #[derive(Drop)]
 pub struct Fresh<P: Payload> {
     payload: Option<P>,

@@ -19,8 +19,8 @@ type Counted = Table<(), View, u32, FreshRule, Global>;
 // The one word, which counts the calls.
 const COUNT: usize = 0;
 
-/// The table with its home seat, as a `Fresh` keeps it. Contracts see its name, how many tokens it gave, and the history, the callers of all
-/// calls.
+/// The table with its home seat, as a `Fresh` keeps it. Contracts see its name, how many tokens it gave, and the history, which is the
+/// callers of all calls.
 #[derive(Drop)]
 pub(crate) struct History {
     table: Counted,

@@ -2,8 +2,8 @@
 
 /// What a seat knows. It exists in proofs alone, and no value of it is made.
 ///
-/// The `home` seat is that of the `Fresh`: its list is the history. The list of any other is what it last saw of the history. `older` are the
-/// lists that a view had before, or that it was shown; a view that was joined into another is `spent`.
+/// The `home` seat is that of the `Fresh`: its list is the history. The list of any other is what it last saw of the history. `older` are
+/// the lists that it had before, or that it was shown. A view that was joined into another is `spent`.
 pub struct View {
     pub home: bool,
     pub spent: bool,

@@ -21,7 +21,7 @@ loop-caller-preserved c = record {
   seat = c.split_seat.ensures.2 ∙ c.loop-caller.invariant.seat;
   given = rw c.push_reserved.ensures.items (one_more_given _ _ _ _ c.loop-caller.invariant.given
       (new_token _ _ c.into_badge-badge.result c.split_seat.result.me c.loop-caller.home.me
-      (c.into_badge-badge.ensures.0 ∙ c.split_seat.ensures.3 ∙ c.loop-caller.invariant.own) c.into_badge-badge.ensures.2 c.split_seat.ensures.4
-      c.loop-caller.invariant.seat));
+      (c.into_badge-badge.ensures.0 ∙ c.split_seat.ensures.3 ∙ c.loop-caller.invariant.own) c.into_badge-badge.ensures.2
+      c.split_seat.ensures.4 c.loop-caller.invariant.seat));
   room = grind (arith, common_steps);
 }

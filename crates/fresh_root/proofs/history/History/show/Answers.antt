@@ -21,7 +21,8 @@ pub load-count-requires : goal.load-count-requires
 load-count-requires c =
     let home = home_shown c.self.inside.home.me c.join_seat.new.seat.me c.split_seat-copy.result.me.0 c.self.invariant.home
     c.join_seat.ensures.2 in
-    (search rules, search rules, looks _ _ _ (still_home c.self.inside.home.me c.join_seat.new.seat.me c.split_seat-copy.result.me.0 c.self.invariant.home home))
+    let at_home = still_home c.self.inside.home.me c.join_seat.new.seat.me c.split_seat-copy.result.me.0 c.self.invariant.home home in
+    (search rules, search rules, looks _ _ _ at_home)
 
 pub split_seat-copy-requires-2 : goal.split_seat-copy-requires-2
 split_seat-copy-requires-2 c = (search rules, search rules, copies _ _)
