@@ -1,0 +1,5 @@
+pub mod Prefixes
+pub mod Kept
+pub mod Shown
+pub mod Tokens
+pub mod Names

@@ -1,0 +1,9 @@
+pub mod Prefixes
+pub mod Views
+pub mod Rule
+pub mod Steps
+pub mod States
+pub mod Seens
+pub mod Histories
+pub mod Freshes
+pub mod Laws
