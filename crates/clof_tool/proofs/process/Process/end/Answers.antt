@@ -17,7 +17,7 @@ returns-in-Ok-clause-ended g c =
         unread = λ usage. ap source (e.unread usage);
         unread_else = λ asked says reads_none. ap source (e.unread_else asked says reads_none);
         refused = e.words_refused;
-        unread_refused = λ asked wanted says refused. ap source (e.unread_refused asked wanted says refused)
+        unread_refused = λ asked wanted says refused. ap source (e.unread_refused asked wanted says refused);
       };
       by_input = record {
         refused = e.input_refused;
@@ -26,7 +26,7 @@ returns-in-Ok-clause-ended g c =
         read_fault = e.read_fault;
         read_fault_input = e.read_fault_input;
         read_in_part = e.read_in_part;
-        read_calm = e.read_calm
+        read_calm = e.read_calm;
       };
       by_output = record {
         printed = e.printed;
@@ -35,12 +35,12 @@ returns-in-Ok-clause-ended g c =
         cut_short = e.cut_short;
         unwritten = λ none. ap out (e.unwritten none);
         no_write_fault = e.no_write_fault;
-        no_stall = e.no_stall
+        no_stall = e.no_stall;
       };
       by_line = record {
         silent = λ ok. ap err (e.silent ok);
         told = e.told;
-        told_in_part = e.told_in_part
+        told_in_part = e.told_in_part;
       };
-      complete = e.complete
+      complete = e.complete;
     }
