@@ -75,8 +75,8 @@ pub(crate) fn add_below<P: Payload, H: Composed<P> + Drop>(
     }
 }
 
-/// The two highest levels of a lock for a shape, around a root. For want of memory the levels that were made are closed, and the root comes
-/// back.
+/// The two highest levels of a lock for a shape, around a root. For want of memory the levels that were made are closed, and the
+/// root comes back.
 pub(crate) fn raise_2<P: Payload>(
     alloc: Global,
     plan: &Plan,
@@ -90,8 +90,8 @@ pub(crate) fn raise_2<P: Payload>(
     requires fit { IsFit P.calls root }
     requires shape { root.trail.shape ≡ shape.now }
     ensures raised { IfOk result (λ m. IsRaised ⟦<LowPass as Resting>⟧.rest (⟦<Upper2<P> as Composed<P>>⟧.has m.0)
-        (⟦<Upper2<P> as Composed<P>>⟧.sound m.0) (⟦<Upper2<P> as Composed<P>>⟧.level m.0) (⟦<Upper2<P> as Composed<P>>⟧.count m.0)
-        (⟦<Upper2<P> as Composed<P>>⟧.tag m.0) shape.now level (root_tag P.tag root) m.1.items) }
+        (⟦<Upper2<P> as Composed<P>>⟧.sound m.0) (⟦<Upper2<P> as Composed<P>>⟧.level m.0)
+        (⟦<Upper2<P> as Composed<P>>⟧.count m.0) (⟦<Upper2<P> as Composed<P>>⟧.tag m.0) shape.now level (root_tag P.tag root) m.1.items) }
     ensures fit { IfErr result (λ r. IsFit P.calls r.value) }
     ensures tagged { IfErr result (λ r. root_tag P.tag r.value ≡ root_tag P.tag root) }
 {
@@ -107,8 +107,8 @@ pub(crate) fn raise_2<P: Payload>(
     Ok((Upper2 { lock }, passes))
 }
 
-/// The three highest levels of a lock for a shape, around a root. For want of memory the levels that were made are closed, and the root comes
-/// back.
+/// The three highest levels of a lock for a shape, around a root. For want of memory the levels that were made are closed, and the
+/// root comes back.
 pub(crate) fn raise_3<P: Payload>(
     alloc: Global,
     plan: &Plan,
@@ -122,8 +122,8 @@ pub(crate) fn raise_3<P: Payload>(
     requires fit { IsFit P.calls root }
     requires shape { root.trail.shape ≡ shape.now }
     ensures raised { IfOk result (λ m. IsRaised ⟦<LowPass as Resting>⟧.rest (⟦<Upper3<P> as Composed<P>>⟧.has m.0)
-        (⟦<Upper3<P> as Composed<P>>⟧.sound m.0) (⟦<Upper3<P> as Composed<P>>⟧.level m.0) (⟦<Upper3<P> as Composed<P>>⟧.count m.0)
-        (⟦<Upper3<P> as Composed<P>>⟧.tag m.0) shape.now level (root_tag P.tag root) m.1.items) }
+        (⟦<Upper3<P> as Composed<P>>⟧.sound m.0) (⟦<Upper3<P> as Composed<P>>⟧.level m.0)
+        (⟦<Upper3<P> as Composed<P>>⟧.count m.0) (⟦<Upper3<P> as Composed<P>>⟧.tag m.0) shape.now level (root_tag P.tag root) m.1.items) }
     ensures fit { IfErr result (λ r. IsFit P.calls r.value) }
     ensures tagged { IfErr result (λ r. root_tag P.tag r.value ≡ root_tag P.tag root) }
 {
@@ -139,8 +139,8 @@ pub(crate) fn raise_3<P: Payload>(
     Ok((Upper3 { lock }, passes))
 }
 
-/// The four highest levels of a lock for a shape, around a root. For want of memory the levels that were made are closed, and the root comes
-/// back.
+/// The four highest levels of a lock for a shape, around a root. For want of memory the levels that were made are closed, and the
+/// root comes back.
 pub fn raise_4<P: Payload>(
     alloc: Global,
     plan: &Plan,
@@ -154,8 +154,8 @@ pub fn raise_4<P: Payload>(
     requires fit { IsFit P.calls root }
     requires shape { root.trail.shape ≡ shape.now }
     ensures raised { IfOk result (λ m. IsRaised ⟦<LowPass as Resting>⟧.rest (⟦<Upper4<P> as Composed<P>>⟧.has m.0)
-        (⟦<Upper4<P> as Composed<P>>⟧.sound m.0) (⟦<Upper4<P> as Composed<P>>⟧.level m.0) (⟦<Upper4<P> as Composed<P>>⟧.count m.0)
-        (⟦<Upper4<P> as Composed<P>>⟧.tag m.0) shape.now level (root_tag P.tag root) m.1.items) }
+        (⟦<Upper4<P> as Composed<P>>⟧.sound m.0) (⟦<Upper4<P> as Composed<P>>⟧.level m.0)
+        (⟦<Upper4<P> as Composed<P>>⟧.count m.0) (⟦<Upper4<P> as Composed<P>>⟧.tag m.0) shape.now level (root_tag P.tag root) m.1.items) }
     ensures fit { IfErr result (λ r. IsFit P.calls r.value) }
     ensures tagged { IfErr result (λ r. root_tag P.tag r.value ≡ root_tag P.tag root) }
 {
