@@ -1,0 +1,7 @@
+use Rattle.std.proofs.Common.{refl}
+use Rattle.cohort_desks.proofs.Rows.{changed}
+use Rattle.cohort_desks.proofs.dealing.add_place.Goals as goal
+
+pub returns : goal.returns
+returns g c = changed _ c.args.desks.items c.args.at c.index_mut.result.now _ c.requires.at c.index_mut.ensures.value
+    (refl, c.push_reserved.ensures.items, c.push_reserved.ensures.capacity)
