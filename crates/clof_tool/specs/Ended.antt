@@ -76,12 +76,13 @@ pub record ByLine (err err_now : Writes) (status : Status) : Type 0 where
 -- where nothing refuses what is asked for, and no stream fails, the call goes well, or memory is wanting
 abbrev pub IsComplete : List (String Global) → Reads → Reads → Writes → Writes → Status → Type 0
 IsComplete words source source_now out out_now status =
-    (asked : Asked) → Says words asked → ((wanted : Status) → WordsRefused asked wanted → ⊥) → (ReadsInput asked → IsAccepted asked source.left)
-    → (ReadsInput asked → Rose source.faults source_now.faults → ⊥) → (Rose out.faults out_now.faults → ⊥)
+    (asked : Asked) → Says words asked → ((wanted : Status) → WordsRefused asked wanted → ⊥)
+    → (ReadsInput asked → IsAccepted asked source.left) → (ReadsInput asked → Rose source.faults source_now.faults → ⊥) → (Rose out.faults out_now.faults → ⊥)
     → (Rose out.stalls out_now.stalls → ⊥) → (status ≡ statuses.Ok) ⊎ (status ≡ statuses.OutOfMemory)
 
 -- how a call on words ends
-pub record Ended (words : List (String Global)) (source source_now : Reads) (out out_now err err_now : Writes) (status : Status) : Type 0 where
+pub record Ended (words : List (String Global)) (source source_now : Reads) (out out_now err err_now : Writes) (status : Status)
+    : Type 0 where
   pub by_words : ByWords words source source_now status
   pub by_input : ByInput words source source_now status
   pub by_output : ByOutput words source source_now out out_now status
