@@ -77,8 +77,8 @@ pub record ByLine (err err_now : Writes) (status : Status) : Type 0 where
 abbrev pub IsComplete : List (String Global) → Reads → Reads → Writes → Writes → Status → Type 0
 IsComplete words source source_now out out_now status =
     (asked : Asked) → Says words asked → ((wanted : Status) → WordsRefused asked wanted → ⊥)
-    → (ReadsInput asked → IsAccepted asked source.left) → (ReadsInput asked → Rose source.faults source_now.faults → ⊥) → (Rose out.faults out_now.faults → ⊥)
-    → (Rose out.stalls out_now.stalls → ⊥) → (status ≡ statuses.Ok) ⊎ (status ≡ statuses.OutOfMemory)
+    → (ReadsInput asked → IsAccepted asked source.left) → (ReadsInput asked → Rose source.faults source_now.faults → ⊥)
+    → (Rose out.faults out_now.faults → ⊥) → (Rose out.stalls out_now.stalls → ⊥) → (status ≡ statuses.Ok) ⊎ (status ≡ statuses.OutOfMemory)
 
 -- how a call on words ends
 pub record Ended (words : List (String Global)) (source source_now : Reads) (out out_now err err_now : Writes) (status : Status)
