@@ -16,9 +16,9 @@ use std::sync::Wait;
 
 /// A lock that keeps one value and hands it to one of its passes at a time.
 ///
-/// `name` tells the lock from all others, `tag` is the tag of its value, and `count` is the number of passes that it was made with.
-/// A call that is handed a token asks that it is of this lock, and gives a token of the same lock, tag and number. Only `make` takes
-/// memory, and only `acquire` and `release` wait.
+/// `name` tells the lock from all others, `tag` is the tag of its value, `count` is the number of passes that it was made with, and `made`
+/// says that the lock is one that this recipe makes. A call that is handed a token asks that it is of this lock, and gives a token of the
+/// same lock, tag and number. Only `make` takes memory, and only `acquire` and `release` wait.
 ///
 /// The contract says what callers rely on, and not how a lock is made: a mutex round the value that is taken by `try_lock` could meet it
 /// with tokens that count its tries. That the four locks are the queue locks of their papers is said by the rules of their tables and by
@@ -40,6 +40,8 @@ pub trait Basic<V: Cargo>: Sized {
 
     ghost count: { Self → ℕ };
 
+    ghost made: { Self → Self.Recipe → Type 0 };
+
     /// A lock with its passes, in the order of their numbers from 0. It is refused for want of memory alone.
     fn make(
         alloc: Global,
@@ -50,6 +52,7 @@ pub trait Basic<V: Cargo>: Sized {
         requires some { 0 < passes }
         requires fit { V.fit value }
         requires unparked { V.parked value ≡ false }
+        ensures made { IfOk result (λ m. made m.0 recipe) }
         ensures tag { IfOk result (λ m. tag m.0 ≡ V.tag value) }
         ensures count { IfOk result (λ m. count m.0 ≡ passes) }
         ensures passes { IfOk result (λ m. AreAll Self.Pass.place (name m.0) (tag m.0) (count m.0) m.1.items) }

@@ -58,6 +58,8 @@ impl<B: Basic<Parcel>> Basic<Parcel> for Slow<B> {
 
     ghost count = { λ l. B.count l.lock };
 
+    ghost made = { λ l r. B.made l.lock r.0 };
+
     fn make(
         alloc: Global,
         recipe: (B::Recipe, u32),
