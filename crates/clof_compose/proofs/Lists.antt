@@ -3,7 +3,7 @@ use Rattle.std.proofs.Common.{◌≡◌, ◌≢◌, ℕ, zero, suc, ◌+◌, ◌
 use Rattle.std.proofs.Common.{drop, reverse, get_or, set, eqb, eq-eqb, refl, ap, sym, ◌∙◌, subst, arith, cond, Some, vec_capacity}
 use Rattle.std.proofs.Common.{length-append, add-zero, zero-add}
 use Rattle.std.specs.Prelude.{All, slice_get, option_map}
-use Rattle.std.proofs.lemmas.List.Elements.{All-nil, All-cons}
+use Rattle.std.proofs.lemmas.List.Elements.{All-nil, All-cons, All-append}
 use Rattle.std.specs.List.{count_by}
 use Rattle.std.proofs.Math.Seq.{take-length, map-set_same}
 use Rattle.std.proofs.lemmas.Bool.{ne_eqb}
@@ -19,7 +19,8 @@ use Rattle.lock_rules.proofs.Passes.{one_more, one_less}
 use Rattle.clof_compose.specs.Contexts.{Context, own_tag, root_tag_in}
 use Rattle.clof_compose.proofs.Contexts.{own_tag-tells, root_tag_in-own_tag}
 use Rattle.clof_compose.specs.Levels.{level_context}
-use Rattle.clof_compose.specs.Nodes.{AreFilled, AreFull, AreLocks, FallsTo, IsFilled, IsGiven, IsLockOf, IsOfLevel, locks_of, under}
+use Rattle.clof_compose.specs.Nodes.{AreFilled, AreFull, AreLocks, AreMade, FallsTo, IsFilled, IsGiven, IsLockOf, IsOfLevel, locks_of}
+use Rattle.clof_compose.specs.Nodes.{under}
 use Rattle.clof_compose.specs.Passes.{AreAll, AreFrom, IsNumber}
 use Rattle.clof_compose.specs.declared.level_tokens.LevelPass.{LevelPass}
 use Rattle.clof_compose.specs.declared.node.Node.{Node}
@@ -209,6 +210,14 @@ locks_more {B} {L} tag has level t nodes longer node cut are is n lock here =
     (λ (h : (n ≡ length (locks_of nodes)) × (node.lock ≡ lock)). subst (λ (b : B). IsLockOf tag has level t n b) h.1 (subst (λ (k : ℕ).
     IsLockOf tag has level t k node.lock) (sym (h.0 ∙ length-map nodes (λ (m : Node B L). m.lock))) is))
     (get_end (locks_of nodes) node.lock lock n (ap (λ (l : List B). slice_get l n) (sym same) ∙ here))
+
+pub made_more : {B L R : Type 0} (made : B → R → Type 0) (recipe : R) (nodes longer : List (Node B L)) (node : Node B L)
+    → longer ≡ nodes ++ node ∷ [] → AreMade made recipe nodes → made node.lock recipe → AreMade made recipe longer
+made_more {B} {L} made recipe nodes longer node cut are is =
+    let Q : B → Type 0 = λ lock. made lock recipe in
+    let same : locks_of longer ≡ locks_of nodes ++ node.lock ∷ [] = ap locks_of cut ∙ map-append (λ (m : Node B L). m.lock) nodes (node ∷
+    []) in
+    subst (λ (l : List B). All Q l) (sym same) (All-append Q (locks_of nodes) (node.lock ∷ []) are (All-cons Q node.lock [] is (All-nil Q)))
 
 pub filled_longer : {B L : Type 0} (name tag : B → Tag) (count : B → ℕ) (place : L → Place) (parents : List ℕ) (k : ℕ)
     (nodes longer : List (Node B L)) (node : Node B L) → longer ≡ nodes ++ node ∷ [] → AreFilled name tag count place parents k nodes

@@ -1,5 +1,5 @@
 -- How a level's locks belong together.
-use Rattle.std.specs.Prelude.{◌≡◌, ℕ, ◌+◌, ◌<◌, ◌≤◌, ◌==◌, List, [], map, slice_get, slice_index, Some, length, take, vec_capacity}
+use Rattle.std.specs.Prelude.{◌≡◌, ℕ, ◌+◌, ◌<◌, ◌≤◌, ◌==◌, List, [], All, map, slice_get, slice_index, Some, length, take, vec_capacity}
 use Rattle.std.specs.List.{count_by}
 use Rattle.lock_rules.specs.Tag.{Tag}
 use Rattle.lock_rules.specs.Meanings.{Place}
@@ -55,6 +55,10 @@ module _ {B : Type 0} (name tag : B → Tag) where
 module _ {B L : Type 0} where
   abbrev pub locks_of : List (Node B L) → List B
   locks_of nodes = map (λ n. n.lock) nodes
+
+  -- each node's basic lock is one that the recipe makes
+  abbrev pub AreMade : {R : Type 0} → (B → R → Type 0) → R → List (Node B L) → Type 0
+  AreMade made recipe nodes = All (λ lock. made lock recipe) (locks_of nodes)
 
 module _ {B L : Type 0} (name tag : B → Tag) (count : B → ℕ) (place : L → Place) where
   -- A node's basic lock has a pass for each context under the node. Its list has room for all of them, and has those that fall to the first

@@ -4,7 +4,7 @@ ghost use Rattle.lock_rules.specs.Passes.{AreAll as AreAllLow};
 ghost use Rattle.clof_compose.specs.Contexts.{AreContexts, own_tag};
 ghost use Rattle.clof_compose.specs.Courses.{course_of};
 ghost use Rattle.clof_compose.specs.Levels.{level_context};
-ghost use Rattle.clof_compose.specs.Nodes.{AreFilled, AreLocks, IsGiven, IsInShape, IsLevel, IsOfLevel, locks_of, under};
+ghost use Rattle.clof_compose.specs.Nodes.{AreFilled, AreLocks, AreMade, IsGiven, IsInShape, IsLevel, IsOfLevel, locks_of, under};
 ghost use Rattle.clof_compose.specs.Owns.{IsIdlePart};
 ghost use Rattle.clof_compose.specs.Passes.{AreAll};
 ghost use Rattle.clof_compose.specs.declared.own.High.TheVariants.{Idle};
@@ -54,6 +54,8 @@ pub fn make_level<
     requires nodes { AreContexts (course_of (H.tag high)).shape (level + 1) (H.count high) }
     requires few { length parents.now < 2 ^ 32 }
     ensures level { IfOk result (λ m. m.0.level ≡ level) }
+    ensures over { IfOk result (λ m. m.0.high ≡ high) }
+    ensures made { IfOk result (λ m. AreMade B.made recipe m.0.nodes.items) }
     ensures tag { IfOk result (λ m. H.tag m.0.high ≡ H.tag high) }
     ensures count { IfOk result (λ m. m.0.parents.items ≡ parents.now) }
     ensures sound { IfOk result (λ m. IsLevel B.name B.tag B.count B.Pass.place (H.has m.0.high) (H.sound m.0.high) (H.level m.0.high)
@@ -117,6 +119,7 @@ fn make_nodes<
     requires empty { nodes.items ≡ [] }
     requires room { length passes.items ≤ vec_capacity nodes }
     ensures locks { IfOk result (λ m. AreLocks B.tag (H.has high.now) (H.level high.now) (H.tag high.now) (locks_of m.0.items)) }
+    ensures made { IfOk result (λ m. AreMade B.made recipe m.0.items) }
     ensures filled { IfOk result (λ m. AreFilled B.name B.tag B.count B.Pass.place parents.now (length parents.now) m.0.items) }
     ensures many { IfOk result (λ m. length m.0.items ≡ length passes.items) }
     ensures emptied { IfOk result (λ m. m.1.items ≡ []) }
@@ -164,6 +167,7 @@ fn make_node<
     requires number { (Pass.rest pass).context.number ≡ number }
     requires above { 0 < (Pass.rest pass).context.level }
     requires fresh { (Pass.rest pass).report.tests ≡ 0 }
+    ensures made { IfOk result (λ n. B.made n.lock recipe) }
     ensures tag { IfOk result (λ n. B.tag n.lock ≡ own_tag number (Pass.rest pass).context) }
     ensures count { IfOk result (λ n. B.count n.lock ≡ contexts) }
     ensures lows { IfOk result (λ n. AreAllLow B.Pass.place (B.name n.lock) (B.tag n.lock) (B.count n.lock) n.list.items) }

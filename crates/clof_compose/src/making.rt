@@ -28,6 +28,7 @@ pub fn make_top<P: Payload, B: Basic<Root<P>, Held = Held<Root<P>>> + Drop>(
     requires some { 0 < contexts }
     requires contexts { AreContexts root.trail.shape level contexts }
     ensures level { IfOk result (λ m. m.0.level ≡ level) }
+    ensures made { IfOk result (λ m. B.made m.0.low recipe) }
     ensures tag { IfOk result (λ m. B.tag m.0.low ≡ root_tag P.tag root) }
     ensures count { IfOk result (λ m. B.count m.0.low ≡ contexts) }
     ensures sound { IfOk result (λ m. IsTop m.0.level (B.count m.0.low) (B.tag m.0.low) m.0.list.items (vec_capacity m.0.list)) }

@@ -6,7 +6,7 @@ ghost use Rattle.keep_local.specs.Shapes.{IsWellFormed, top_of, callers_of, node
 ghost use Rattle.clof_compose.specs.Contexts.{AreContexts, IsContextOf};
 ghost use Rattle.clof_compose.specs.Courses.{course_of};
 ghost use Rattle.clof_compose.specs.Levels.{level_context};
-ghost use Rattle.clof_compose.specs.Nodes.{IsInShape, IsLevel, IsOfLevel, locks_of};
+ghost use Rattle.clof_compose.specs.Nodes.{AreMade, IsInShape, IsLevel, IsOfLevel, locks_of};
 ghost use Rattle.clof_compose.specs.Passes.{AreAll};
 
 use clof_compose::{Composed, Level, LevelPass, Own, Payload, Resting, Returned, make_level};
@@ -98,6 +98,8 @@ pub fn add_level<
     requires same { (course_of (H.tag high)).shape ≡ shape.now }
     requires contexts { AreContexts shape.now (level + 1) (H.count high) }
     ensures level { IfOk result (λ m. m.0.level ≡ level) }
+    ensures over { IfOk result (λ m. m.0.high ≡ high) }
+    ensures made { IfOk result (λ m. AreMade B.made recipe m.0.nodes.items) }
     ensures tag { IfOk result (λ m. H.tag m.0.high ≡ H.tag high) }
     ensures contexts { IfOk result (λ m. AreContexts shape.now level (length m.0.parents.items)) }
     ensures sound { IfOk result (λ m. IsLevel B.name B.tag B.count B.Pass.place (H.has m.0.high) (H.sound m.0.high) (H.level m.0.high)

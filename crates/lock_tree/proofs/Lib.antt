@@ -1,2 +1,3 @@
+pub mod Kinds
 pub mod Levels
 pub mod Names

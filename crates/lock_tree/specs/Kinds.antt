@@ -1,5 +1,5 @@
 -- What a lock of one of the four kinds means.
-use Rattle.std.specs.Prelude.{Bool, true, false}
+use Rattle.std.specs.Prelude.{◌≡◌, ℕ, Bool, true, false, List, Some, slice_get}
 use Rattle.lock_plan.specs.declared.kind.LockKind.{LockKind}
 use Rattle.lock_plan.specs.declared.kind.LockKind.TheVariants.{Tkt, Mcs as McsKind, Clh as ClhKind, Hem}
 use Rattle.lock_tree.specs.declared.kinds.Kinds.{Kinds}
@@ -11,6 +11,10 @@ module _ {T M C H : Type 0} where
   kind_of (Mcs l) = McsKind
   kind_of (Clh l) = ClhKind
   kind_of (Hemlock l) = Hem
+
+  -- the lock is of the kind at this place of a list of kinds, one for each level
+  abbrev pub IsOfKindAt : List LockKind → ℕ → Kinds T M C H → Type 0
+  IsOfKindAt kinds level lock = slice_get kinds level ≡ Some (kind_of lock)
 
 module _ {T M C H A : Type 0} (ticket : T → A) (mcs : M → A) (clh : C → A) (hemlock : H → A) where
   -- what a meaning of each kind says of a lock of one of them

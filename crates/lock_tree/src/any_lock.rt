@@ -59,6 +59,8 @@ impl<V: Cargo> Basic<V> for AnyLock<V> {
     ghost count = { λ l. by_kind ⟦<Ticket<V> as Basic<V>>⟧.count ⟦<Mcs<V> as Basic<V>>⟧.count ⟦<Clh<V> as Basic<V>>⟧.count
         ⟦<Hemlock<V> as Basic<V>>⟧.count l.lock };
 
+    ghost made = { λ l kind. kind_of l.lock ≡ kind };
+
     /// A lock of the kind that is asked for.
     fn make(
         alloc: Global,
@@ -69,7 +71,7 @@ impl<V: Cargo> Basic<V> for AnyLock<V> {
         requires some { 0 < passes }
         requires fit { V.fit value }
         requires unparked { V.parked value ≡ false }
-        ensures kind { IfOk result (λ m. kind_of m.0.lock ≡ recipe) }
+        ensures made { IfOk result (λ m. kind_of m.0.lock ≡ recipe) }
         ensures tag { IfOk result (λ m. by_kind ⟦<Ticket<V> as Basic<V>>⟧.tag ⟦<Mcs<V> as Basic<V>>⟧.tag ⟦<Clh<V> as Basic<V>>⟧.tag
             ⟦<Hemlock<V> as Basic<V>>⟧.tag m.0.lock ≡ V.tag value) }
         ensures count { IfOk result (λ m. by_kind ⟦<Ticket<V> as Basic<V>>⟧.count ⟦<Mcs<V> as Basic<V>>⟧.count

@@ -4,6 +4,7 @@ ghost use Rattle.keep_local.specs.Shapes.{callers_of, top_of};
 ghost use Rattle.clof_compose.specs.Roots.{IsFit, root_tag};
 ghost use Rattle.lock_tree.specs.Made.{IsMade};
 
+use crate::has_kinds::HasKinds;
 use crate::tiers::{LevelOver, LowPass, Tiers, TopOf, make_top_of};
 use clof_compose::{Composed, Payload, Resting, Root, TopPass};
 use keep_local::Shape;
@@ -42,6 +43,7 @@ pub fn make_1<P: Payload>(
     ensures made { IfOk result (λ m. IsMade ⟦<TopPass<Pass> as Resting>⟧.rest (⟦<Lock1<P> as Composed<P>>⟧.has m.0)
         (⟦<Lock1<P> as Composed<P>>⟧.sound m.0) (⟦<Lock1<P> as Composed<P>>⟧.level m.0) (⟦<Lock1<P> as Composed<P>>⟧.count m.0)
         (⟦<Lock1<P> as Composed<P>>⟧.tag m.0) shape.now (root_tag P.tag root) m.1.items) }
+    ensures kinds { IfOk result (λ m. ⟦<Lock1<P> as HasKinds<P>>⟧.has_kinds m.0 plan.now.kinds 0) }
     ensures refused { IfErr result (λ r. r.value ≡ root) }
 {
     make_top_of(alloc, plan, root, shape, 0)
@@ -63,6 +65,7 @@ pub fn make_2<P: Payload>(
     ensures made { IfOk result (λ m. IsMade ⟦<LowPass as Resting>⟧.rest (⟦<Lock2<P> as Composed<P>>⟧.has m.0)
         (⟦<Lock2<P> as Composed<P>>⟧.sound m.0) (⟦<Lock2<P> as Composed<P>>⟧.level m.0) (⟦<Lock2<P> as Composed<P>>⟧.count m.0)
         (⟦<Lock2<P> as Composed<P>>⟧.tag m.0) shape.now (root_tag P.tag root) m.1.items) }
+    ensures kinds { IfOk result (λ m. ⟦<Lock2<P> as HasKinds<P>>⟧.has_kinds m.0 plan.now.kinds 0) }
     ensures fit { IfErr result (λ r. IsFit P.calls r.value) }
     ensures tagged { IfErr result (λ r. root_tag P.tag r.value ≡ root_tag P.tag root) }
 {
@@ -88,6 +91,7 @@ pub fn make_3<P: Payload>(
     ensures made { IfOk result (λ m. IsMade ⟦<LowPass as Resting>⟧.rest (⟦<Lock3<P> as Composed<P>>⟧.has m.0)
         (⟦<Lock3<P> as Composed<P>>⟧.sound m.0) (⟦<Lock3<P> as Composed<P>>⟧.level m.0) (⟦<Lock3<P> as Composed<P>>⟧.count m.0)
         (⟦<Lock3<P> as Composed<P>>⟧.tag m.0) shape.now (root_tag P.tag root) m.1.items) }
+    ensures kinds { IfOk result (λ m. ⟦<Lock3<P> as HasKinds<P>>⟧.has_kinds m.0 plan.now.kinds 0) }
     ensures fit { IfErr result (λ r. IsFit P.calls r.value) }
     ensures tagged { IfErr result (λ r. root_tag P.tag r.value ≡ root_tag P.tag root) }
 {
@@ -113,6 +117,7 @@ pub fn make_4<P: Payload>(
     ensures made { IfOk result (λ m. IsMade ⟦<LowPass as Resting>⟧.rest (⟦<Lock4<P> as Composed<P>>⟧.has m.0)
         (⟦<Lock4<P> as Composed<P>>⟧.sound m.0) (⟦<Lock4<P> as Composed<P>>⟧.level m.0) (⟦<Lock4<P> as Composed<P>>⟧.count m.0)
         (⟦<Lock4<P> as Composed<P>>⟧.tag m.0) shape.now (root_tag P.tag root) m.1.items) }
+    ensures kinds { IfOk result (λ m. ⟦<Lock4<P> as HasKinds<P>>⟧.has_kinds m.0 plan.now.kinds 0) }
     ensures fit { IfErr result (λ r. IsFit P.calls r.value) }
     ensures tagged { IfErr result (λ r. root_tag P.tag r.value ≡ root_tag P.tag root) }
 {
@@ -138,6 +143,7 @@ pub fn make_5<P: Payload>(
     ensures made { IfOk result (λ m. IsMade ⟦<LowPass as Resting>⟧.rest (⟦<Lock5<P> as Composed<P>>⟧.has m.0)
         (⟦<Lock5<P> as Composed<P>>⟧.sound m.0) (⟦<Lock5<P> as Composed<P>>⟧.level m.0) (⟦<Lock5<P> as Composed<P>>⟧.count m.0)
         (⟦<Lock5<P> as Composed<P>>⟧.tag m.0) shape.now (root_tag P.tag root) m.1.items) }
+    ensures kinds { IfOk result (λ m. ⟦<Lock5<P> as HasKinds<P>>⟧.has_kinds m.0 plan.now.kinds 0) }
     ensures fit { IfErr result (λ r. IsFit P.calls r.value) }
     ensures tagged { IfErr result (λ r. root_tag P.tag r.value ≡ root_tag P.tag root) }
 {

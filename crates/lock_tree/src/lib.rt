@@ -6,6 +6,7 @@
 mod any_leave;
 mod any_lock;
 mod depths;
+mod has_kinds;
 mod kinds;
 #[cfg(test)]
 mod tests;
@@ -14,6 +15,7 @@ mod tiers;
 pub use any_leave::AnyLeave;
 pub use any_lock::AnyLock;
 pub use depths::{Lock1, Lock2, Lock3, Lock4, Lock5, make_1, make_2, make_3, make_4, make_5};
+pub use has_kinds::HasKinds;
 pub use kinds::Kinds;
 pub use lock_plan::{LockKind, Plan};
 pub use tiers::{LevelOver, LowPass, Owned};

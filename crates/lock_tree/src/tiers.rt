@@ -1,11 +1,14 @@
 //! Composed locks whose levels are of kinds that a plan chooses, each made from the one with a level less.
-ghost use Rattle.std.specs.Prelude.{◌≡◌, ◌+◌, ◌<◌, ◌^◌, ℕ, length, slice_get, Some, IfOk, IfErr};
+ghost use Rattle.std.specs.Prelude.{◌≡◌, ◌+◌, ◌<◌, ◌^◌, ℕ, length, slice_get, All, Some, IfOk, IfErr};
 ghost use Rattle.keep_local.specs.Shapes.{IsWellFormed, callers_of, top_of};
 ghost use Rattle.clof_compose.specs.Courses.{course_of};
+ghost use Rattle.clof_compose.specs.Nodes.{locks_of};
 ghost use Rattle.clof_compose.specs.Roots.{IsFit, root_tag};
+ghost use Rattle.lock_tree.specs.Kinds.{kind_of};
 ghost use Rattle.lock_tree.specs.Made.{IsRaised};
 
 use crate::any_lock::AnyLock;
+use crate::has_kinds::HasKinds;
 use clof_compose::{
     Composed, Level, LevelPass, Own, Payload, Resting, Root, Top, TopPass, make_top,
 };
@@ -28,7 +31,7 @@ pub type TopOf<P> = Top<AnyLock<Root<P>>, Pass>;
 pub type LowPass = LevelPass<Pass>;
 
 /// A composed lock whose levels are of kinds that a plan chooses.
-pub(crate) trait Tiers<P: Payload>: Composed<P> + Drop {
+pub(crate) trait Tiers<P: Payload>: HasKinds<P> + Drop {
     // how many levels it has below its top
     ghost lower: { ℕ };
 
@@ -48,6 +51,7 @@ pub(crate) trait Tiers<P: Payload>: Composed<P> + Drop {
         requires shape { root.trail.shape ≡ shape.now }
         ensures raised { IfOk result (λ m. IsRaised Self.Pass.rest (Self.has m.0) (Self.sound m.0) (Self.level m.0) (Self.count m.0)
             (Self.tag m.0) shape.now level (root_tag P.tag root) m.1.items) }
+        ensures kinds { IfOk result (λ m. Self.has_kinds m.0 plan.now.kinds level) }
         ensures fit { IfErr result (λ r. IsFit P.calls r.value) }
         ensures tagged { IfErr result (λ r. root_tag P.tag r.value ≡ root_tag P.tag root) };
 }
@@ -76,6 +80,7 @@ pub(crate) fn make_top_of<P: Payload>(
     ensures raised { IfOk result (λ m. IsRaised ⟦<TopPass<Pass> as Resting>⟧.rest (⟦<TopOf<P> as Composed<P>>⟧.has m.0)
         (⟦<TopOf<P> as Composed<P>>⟧.sound m.0) (⟦<TopOf<P> as Composed<P>>⟧.level m.0) (⟦<TopOf<P> as Composed<P>>⟧.count m.0)
         (⟦<TopOf<P> as Composed<P>>⟧.tag m.0) shape.now level (root_tag P.tag root) m.1.items) }
+    ensures kinds { IfOk result (λ m. ⟦<TopOf<P> as HasKinds<P>>⟧.has_kinds m.0 plan.now.kinds level) }
     ensures refused { IfErr result (λ r. r.value ≡ root) }
 {
     let contexts = contexts_at(shape, level) as u32;
@@ -100,6 +105,7 @@ impl<P: Payload> Tiers<P> for Top<AnyLock<Root<P>>, Pass> {
         ensures raised { IfOk result (λ m. IsRaised ⟦<TopPass<Pass> as Resting>⟧.rest (⟦<TopOf<P> as Composed<P>>⟧.has m.0)
             (⟦<TopOf<P> as Composed<P>>⟧.sound m.0) (⟦<TopOf<P> as Composed<P>>⟧.level m.0) (⟦<TopOf<P> as Composed<P>>⟧.count m.0)
             (⟦<TopOf<P> as Composed<P>>⟧.tag m.0) shape.now level (root_tag P.tag root) m.1.items) }
+        ensures kinds { IfOk result (λ m. ⟦<TopOf<P> as HasKinds<P>>⟧.has_kinds m.0 plan.now.kinds level) }
         ensures fit { IfErr result (λ r. IsFit P.calls r.value) }
         ensures tagged { IfErr result (λ r. root_tag P.tag r.value ≡ root_tag P.tag root) }
     {
@@ -126,6 +132,8 @@ fn add_below<P: Payload, H: Composed<P> + Drop>(
         (⟦<LevelOver<P, H> as Composed<P>>⟧.sound m.0) (⟦<LevelOver<P, H> as Composed<P>>⟧.level m.0)
         (⟦<LevelOver<P, H> as Composed<P>>⟧.count m.0) (⟦<LevelOver<P, H> as Composed<P>>⟧.tag m.0) shape.now level (H.tag high)
         m.1.items) }
+    ensures over { IfOk result (λ m. m.0.high ≡ high) }
+    ensures made { IfOk result (λ m. All (λ b. kind_of b.lock ≡ kind) (locks_of m.0.nodes.items)) }
     ensures fit { IfErr result (λ r. IsFit P.calls r.value) }
     ensures tagged { IfErr result (λ r. root_tag P.tag r.value ≡ H.tag high) }
 {
@@ -157,6 +165,7 @@ impl<P: Payload, H: Tiers<P>> Tiers<P>
             (⟦<LevelOver<P, H> as Composed<P>>⟧.sound m.0) (⟦<LevelOver<P, H> as Composed<P>>⟧.level m.0)
             (⟦<LevelOver<P, H> as Composed<P>>⟧.count m.0) (⟦<LevelOver<P, H> as Composed<P>>⟧.tag m.0)
             shape.now level (root_tag P.tag root) m.1.items) }
+        ensures kinds { IfOk result (λ m. ⟦<LevelOver<P, H> as HasKinds<P>>⟧.has_kinds m.0 plan.now.kinds level) }
         ensures fit { IfErr result (λ r. IsFit P.calls r.value) }
         ensures tagged { IfErr result (λ r. root_tag P.tag r.value ≡ root_tag P.tag root) }
     {

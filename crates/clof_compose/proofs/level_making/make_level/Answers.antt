@@ -1,5 +1,5 @@
 use Rattle.std.proofs.Common.{◌≡◌, ℕ, Some, ◌-◌, ◌<◌, length, sym, ◌∙◌, subst, arith, vec_capacity}
-use Rattle.std.specs.Prelude.{slice_get}
+use Rattle.std.specs.Prelude.{All, slice_get}
 use Rattle.std.proofs.lemmas.Option.{get_or_from_slice_get}
 use mathlib.Core.Logic.{dite}
 use native.Mathlib.Decide.{ℕ_discrete}
@@ -34,6 +34,10 @@ give_passes-nodes-requires-clause-within g c =
     λ k n e. subst (λ m. n < m) (sym (c.in-Ok.ensures.many ∙ c.requires.all.all)) (parent_within (course_of (g.H.Composed.tag
     c.args.high)).shape c.args.level c.args.keep c.args.parents.now c.requires.shape (g.H.Composed.count c.args.high) c.requires.nodes
     c.requires.contexts k n e)
+
+pub returns-in-Ok-clause-made : goal.returns-in-Ok-clause-made
+returns-in-Ok-clause-made g c =
+    subst (λ l. All (λ lock. g.B.Basic.made lock c.args.recipe) l) (sym c.give_passes-nodes.ensures.locks) c.in-Ok.ensures.made
 
 pub returns-in-Ok-clause-sound : goal.returns-in-Ok-clause-sound
 returns-in-Ok-clause-sound g c =

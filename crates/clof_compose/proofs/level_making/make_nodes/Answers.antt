@@ -1,12 +1,12 @@
 use Rattle.std.proofs.Common.{◌≡◌, ◌<◌, ◌++◌, [], ◌∷◌, length, reverse, ap, sym, ◌∙◌, subst, refl, arith}
 use Rattle.std.specs.Prelude.{All, slice_get}
 use Rattle.std.proofs.lemmas.List.{length-reverse, reverse-reverse, reverse-append}
-use Rattle.std.proofs.lemmas.List.Elements.{All-head, All-tail}
+use Rattle.std.proofs.lemmas.List.Elements.{All-head, All-nil, All-tail}
 use Rattle.lock_rules.specs.Passes.{AreAll as AreAllLow}
 use Rattle.clof_compose.specs.Contexts.{own_tag}
-use Rattle.clof_compose.specs.Nodes.{locks_of, under}
+use Rattle.clof_compose.specs.Nodes.{AreMade, locks_of, under}
 use Rattle.clof_compose.specs.Passes.{AreFrom}
-use Rattle.clof_compose.proofs.Lists.{filled_longer, first_of, from_all, length_more, locks_more}
+use Rattle.clof_compose.proofs.Lists.{filled_longer, first_of, from_all, length_more, locks_more, made_more}
 use Rattle.clof_compose.proofs.level_making.make_nodes.Goals as goal
 
 pub loop-pass-init : goal.loop-pass-init
@@ -15,6 +15,8 @@ loop-pass-init g c =
     let none = ap length c.requires.empty in
     let long = ap length c.reverse.ensures.items ∙ length-reverse c.args.passes.items in record {
       locks = λ n lock e. absurd (let h = sym (ap (λ l. slice_get (locks_of l) n) c.requires.empty) ∙ e in cc);
+      made = subst (λ l. AreMade g.B.Basic.made c.args.recipe l) (sym c.requires.empty) (All-nil (λ lock. g.B.Basic.made lock
+          c.args.recipe));
       filled = λ n node e. absurd (let h = sym (ap (λ l. slice_get l n) c.requires.empty) ∙ e in cc);
       behind = from_all (λ p. (g.H.Pass.Resting.rest p).context) (g.H.Composed.has c.args.high.now) (g.H.Composed.level c.args.high.now) (g.H.Composed.tag
           c.args.high.now) _ _ _ _ c.requires.all none turned;
@@ -72,6 +74,8 @@ loop-pass-preserved g c =
             tag_is = c.in-Ok.ensures.tag ∙ ap (λ n. own_tag n (g.H.Pass.Resting.rest c.in-Some.pass).context) number;
             is = next.0;
           });
+      made = made_more g.B.Basic.made c.args.recipe c.loop-pass.nodes.items c.push_reserved.new.self.items c.in-Ok.node
+          c.push_reserved.ensures.items c.loop-pass.invariant.made c.in-Ok.ensures.made;
       filled = filled_longer _ _ _ _ c.args.parents.now _ c.loop-pass.nodes.items c.push_reserved.new.self.items c.in-Ok.node
           c.push_reserved.ensures.items c.loop-pass.invariant.filled (record {
             count_is = count_is;

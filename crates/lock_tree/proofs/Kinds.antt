@@ -1,0 +1,18 @@
+-- What a lock that was made tells of its kinds.
+use Rattle.std.proofs.Common.{◌≡◌, ℕ, List, Some, ap, sym, ◌∙◌}
+use Rattle.std.specs.Prelude.{All, IfOk, Result, slice_get, Ok, Err}
+use Rattle.std.proofs.lemmas.List.Elements.{All-weaker}
+use Rattle.lock_plan.specs.declared.kind.LockKind.{LockKind}
+use Rattle.lock_tree.specs.Kinds.{IsOfKindAt, kind_of}
+use Rattle.lock_tree.specs.declared.kinds.Kinds.{Kinds}
+
+-- locks of the kind at a place of a list
+pub all_at : {A T M C H : Type 0} (lock : A → Kinds T M C H) (kinds : List LockKind) (level : ℕ) (kind : LockKind) (locks : List A)
+    → slice_get kinds level ≡ Some kind → All (λ b. kind_of (lock b) ≡ kind) locks → All (λ b. IsOfKindAt kinds level (lock b)) locks
+all_at lock kinds level kind locks at are = All-weaker (λ b. kind_of (lock b) ≡ kind) (λ b. IsOfKindAt kinds level (lock b)) (λ b e. at
+    ∙ ap Some (sym e)) locks are
+
+-- what follows where two things are known of an answer
+pub if_both : {X Y : Type 0} (r : Result X Y) (P Q R : X → Type 0) → ((x : X) → P x → Q x → R x) → IfOk r P → IfOk r Q → IfOk r R
+if_both (Ok x) P Q R f p q = f x p q
+if_both (Err y) P Q R f p q = tt

@@ -1,0 +1,27 @@
+//! The kinds that the levels of a composed lock have.
+ghost use Rattle.std.specs.Prelude.{◌+◌, ℕ, List, All};
+ghost use Rattle.lock_plan.specs.declared.kind.LockKind.{LockKind as Kind};
+ghost use Rattle.clof_compose.specs.Nodes.{locks_of};
+ghost use Rattle.lock_tree.specs.Kinds.{IsOfKindAt};
+
+use crate::any_lock::AnyLock;
+use clof_compose::{Composed, Level, Own, Payload, Root, Top};
+use lock_rules::Pass;
+
+/// A composed lock whose basic locks are each of one of the four kinds.
+///
+/// `has_kinds` says of a lock, a list of kinds and a number that the lock's lowest level has the kind at that place of the list, each of
+/// its basic locks, and so each level above has the kind at the place behind.
+pub trait HasKinds<P: Payload>: Composed<P> {
+    ghost has_kinds: { Self → List Kind → ℕ → Type 0 };
+}
+
+impl<P: Payload> HasKinds<P> for Top<AnyLock<Root<P>>, Pass> {
+    ghost has_kinds = { λ l kinds level. IsOfKindAt kinds level l.low.lock };
+}
+
+impl<P: Payload, H: HasKinds<P>> HasKinds<P>
+    for Level<AnyLock<Own<P, H::Pass, H::Held>>, H, Pass, H::Pass> {
+    ghost has_kinds = { λ l kinds level. All (λ b. IsOfKindAt kinds level b.lock) (locks_of l.nodes.items)
+        × H.has_kinds l.high kinds (level + 1) };
+}
