@@ -1,3 +1,3 @@
-pub mod Kinds
 pub mod Levels
+pub mod MadeKinds
 pub mod Names

@@ -1,7 +1,7 @@
 use Rattle.std.proofs.Common.{◌+◌, ap, sym, ◌∙◌, subst}
 use Rattle.clof_compose.specs.Courses.{course_of}
 use Rattle.clof_compose.specs.Nodes.{locks_of}
-use Rattle.lock_tree.proofs.Kinds.{all_at, if_both}
+use Rattle.lock_tree.proofs.MadeKinds.{all_at, if_both}
 use Rattle.lock_tree.proofs.Levels.{shape_named}
 use Rattle.lock_tree.proofs.tiers.LevelAnyLockOwnPassHeldPassPassTiers.raise.Goals as goal
 
