@@ -10,8 +10,8 @@ use lock_rules::Pass;
 
 /// A composed lock whose basic locks are each of one of the four kinds.
 ///
-/// `has_kinds` says of a lock, a list of kinds and a number that the lock's lowest level has the kind at that place of the list, each of
-/// its basic locks, and so each level above has the kind at the place behind.
+/// `has_kinds` says of a lock, a list of kinds and a place in it that each basic lock of the lowest level is of the kind at this place,
+/// those of the level above it of the kind at the next place, and so on up to the top.
 pub trait HasKinds<P: Payload>: Composed<P> {
     ghost has_kinds: { Self → List Kind → ℕ → Type 0 };
 }
