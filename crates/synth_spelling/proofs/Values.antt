@@ -236,7 +236,8 @@ loops_have text loops h = by h.pieces loops h.some h.joined h.each
     by (piece ∷ next ∷ pieces) (l ∷ ls) some joined each =
         ap (list_any (λ b. b == 42)) (sym joined)
         ∙ list_any-append (λ b. b == 42) piece (58 ∷ join_with_byte 58 (next ∷ pieces))
-        ∙ or_left (list_any (λ b. b == 42) piece) (list_any (λ b. b == 42) (58 ∷ join_with_byte 58 (next ∷ pieces))) (star_in piece l each.0)
+        ∙ or_left (list_any (λ b. b == 42) piece) (list_any (λ b. b == 42) (58 ∷ join_with_byte 58 (next ∷ pieces)))
+        (star_in piece l each.0)
 
 pub indexes_spelled : (text : List ℕ) (given : Indexes) → indexes_of text ≡ Some given → SpellsIndexes text given
 unfolding indexes_of

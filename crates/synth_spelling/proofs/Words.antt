@@ -310,7 +310,8 @@ words_read kind before (word ∷ words) h = rw (word_read kind before word h.0) 
 
 -- ---- what words say
 
-size_said : (key : Key) (words : List (List ℕ)) → ((value : List ℕ) → Contains words (word_of key value) → (bytes : ℕ) × SpellsSize value bytes)
+size_said : (key : Key) (words : List (List ℕ))
+    → ((value : List ℕ) → Contains words (word_of key value) → (bytes : ℕ) × SpellsSize value bytes)
     → SaysSize key words (option_and_then size_of (value_of key words))
 size_said key words good = by (value_of key words) refl
   where
