@@ -2,6 +2,7 @@ pub mod Wraps
 pub mod Ranges
 pub mod CandidateLaws
 pub mod SelectionLaws
+pub mod Members
 pub mod PickLaws
 pub mod PartReadings
 pub mod LocationReadings

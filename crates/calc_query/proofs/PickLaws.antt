@@ -1,5 +1,6 @@
 -- Candidates that stand side by side, picked one after another.
-use Rattle.std.proofs.Common.{◌≡◌, ℕ, ◌+◌, ◌<◌, Bool, true, false, ◌&&◌, ◌==◌, List, [], ◌∷◌, length, slice_index, refl, sym, ap, ◌∙◌}
+use Rattle.std.proofs.Common.{◌≡◌, ◌⊎◌, inl, inr, ℕ, ◌+◌, ◌<◌, ◌≤◌, Bool, true, false, ◌&&◌, ◌==◌, List, [], ◌∷◌, length, slice_index, refl}
+use Rattle.std.proofs.Common.{sym, ap, ◌∙◌, arith}
 use Rattle.std.specs.List.{range_with_len}
 use Rattle.std.proofs.lemmas.Bool.{and_right}
 use Rattle.std.proofs.lemmas.List.FromFn.{length-range_with_len, get_or-range_with_len}
@@ -7,10 +8,11 @@ use Rattle.cpu_set.specs.Sets.{numbers_where, union}
 use Rattle.synth_text.specs.declared.description.Description.{Description}
 use Rattle.calc_query.specs.declared.query.Numbering.{Numbering}
 use Rattle.calc_query.specs.declared.query.Part.{Part}
-use Rattle.calc_query.specs.Picks.{is_picked}
+use Rattle.calc_query.specs.declared.query.Numbering.TheVariants as numberings
+use Rattle.calc_query.specs.Picks.{is_picked, IsReach}
 use Rattle.calc_query.specs.Candidates.{number_of, number_at}
 use Rattle.calc_query.specs.Selection.{is_picked_among}
-use Rattle.calc_query.proofs.SelectionLaws.{collected, collect_more, collect_same, has_one}
+use Rattle.calc_query.proofs.SelectionLaws.{collected, collect_more, collect_same, collect_up, has_one}
 
 -- whether the candidate at a place of a run is the object, and is picked
 abbrev pub picked_at : Description → Numbering → Part → ℕ → ℕ → ℕ → ℕ → Bool
@@ -55,6 +57,34 @@ module _ (described : Description) (numbering : Numbering) (part : Part) (first 
       picked_here index place within ∙ and_right (first + place == index)
       (is_picked numbering part.pick count (number_of described numbering part.layer (first + place) place))
       (ap (is_picked numbering part.pick count) (sym numbered) ∙ sym tells ∙ no_a))
+
+  -- places outside the reach add nothing
+  pub outside : (ends : ℕ × ℕ) → (numbering ≡ numberings.Logical → IsReach part.pick count ends.0 ends.1)
+      → (numbering ≡ numberings.Physical → ends ≡ (0, count)) → (place : ℕ) → place < count → (place < ends.0) ⊎ (ends.1 ≤ place)
+      → is_picked numbering part.pick count (number_of described numbering part.layer (first + place) place) ≡ false
+  outside ends logical physical place within out = outside_by numbering refl
+    where
+      outside_by : (n : Numbering) → numbering ≡ n
+          → is_picked numbering part.pick count (number_of described numbering part.layer (first + place) place) ≡ false
+      outside_by numberings.Logical is =
+          ap (λ m. is_picked m part.pick count (number_of described m part.layer (first + place) place)) is
+          ∙ logical is place within out
+      outside_by numberings.Physical is =
+          let low : ends.0 ≡ 0 = ap (λ (p : ℕ × ℕ). p.0) (physical is) in
+          let high : ends.1 ≡ count = ap (λ (p : ℕ × ℕ). p.1) (physical is) in
+          elim out [
+            | inl before ↦ absurd (omega (arith, low, before))
+            | inr behind ↦ absurd (omega (arith, high, behind, within))
+          ]
+
+  pub pick_up : (from to : ℕ) → from ≤ to → to ≤ count
+      → ((place : ℕ) → from ≤ place → place < to
+      → is_picked numbering part.pick count (number_of described numbering part.layer (first + place) place) ≡ false)
+      → collected (picked_at described numbering part first count) from ≡ collected (picked_at described numbering part first count) to
+  pick_up from to up within none =
+      collect_up (picked_at described numbering part first count) from to up (λ place index on low below.
+      picked_here index place (omega arith) ∙ and_right (first + place == index)
+      (is_picked numbering part.pick count (number_of described numbering part.layer (first + place) place)) (none place on low))
 
   pub pick_all : (chosen : List ℕ) (place : ℕ) → place ≡ count → chosen ≡ collected (picked_at described numbering part first count) place
       → chosen ≡ numbers_where (is_picked_among described numbering part (range_with_len first count))

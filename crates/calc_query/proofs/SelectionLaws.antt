@@ -1,5 +1,6 @@
 -- Sets collected one number after another.
-use Rattle.std.proofs.Common.{◌≡◌, ℕ, ◌+◌, ◌<◌, Bool, true, false, ◌||◌, ◌==◌, List, [], ◌∷◌, lit<, refl, sym, ap, ◌∙◌, arith}
+use Rattle.std.proofs.Common.{◌≡◌, ℕ, zero, suc, ◌+◌, ◌-◌, ◌<◌, ◌≤◌, Bool, true, false, ◌||◌, ◌==◌, List, [], ◌∷◌, lit<, refl, sym, ap, ◌∙◌}
+use Rattle.std.proofs.Common.{arith}
 use Rattle.std.proofs.Common.{◌↔◌}
 use Rattle.std.specs.Prelude.{IsTrue}
 use Rattle.std.specs.List.{range_with_len, list_any, Contains}
@@ -58,6 +59,22 @@ module _ (test : ℕ → ℕ → Bool) where
       ∙ numbers_below-same 4096 (λ n. list_any (test n) (range_with_len 0 place)) (λ n. list_any (test n) (range_with_len 0 (place + 1)))
       (λ n below. sym (any_more (test n) place ∙ ap (λ b. list_any (test n) (range_with_len 0 place) || b) (none n below)
       ∙ or_none (list_any (test n) (range_with_len 0 place))))
+
+  -- places at which nothing passes add nothing
+  pub collect_past : (from gap : ℕ) → ((place n : ℕ) → from ≤ place → place < from + gap → n < 4096 → test n place ≡ false)
+      → collected from ≡ collected (from + gap)
+  collect_past from zero none = ap collected (let e : from ≡ from + 0 = omega arith in e)
+  collect_past from (suc gap) none =
+      collect_same (collected from) (from + gap)
+      (collect_past from gap (λ place n on low below. none place n on (omega arith) below))
+      (λ n below. none (from + gap) n (omega arith) (omega arith) below)
+      ∙ ap collected (let e : from + gap + 1 ≡ from + suc gap = omega arith in e)
+
+  pub collect_up : (from to : ℕ) → from ≤ to → ((place n : ℕ) → from ≤ place → place < to → n < 4096 → test n place ≡ false)
+      → collected from ≡ collected to
+  collect_up from to up none =
+      collect_past from (to - from) (λ place n on low below. none place n on (omega arith) below)
+      ∙ ap collected (let e : from + (to - from) ≡ to = omega arith in e)
 
 -- one number passes where it is the one
 pub has_one : (one n : ℕ) → has (one ∷ []) n ≡ (one == n)

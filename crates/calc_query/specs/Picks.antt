@@ -1,6 +1,6 @@
 -- Which numbers the index of a part picks (after hwloc-calc's indexes of locations; the wrapping of `a:n` and the
 -- numbering by physical numbers are this project's profile).
-use Rattle.std.specs.Prelude.{ℕ, ◌+◌, ◌%◌, ◌==◌, ◌&&◌, Bool, true, nat_lt, nat_le}
+use Rattle.std.specs.Prelude.{◌≡◌, ◌⊎◌, ℕ, ◌+◌, ◌%◌, ◌<◌, ◌≤◌, ◌==◌, ◌&&◌, Bool, true, false, nat_lt, nat_le}
 use Rattle.std.specs.List.{list_any, range_with_len}
 use Rattle.calc_query.specs.declared.query.Pick.{Pick}
 use Rattle.calc_query.specs.declared.query.Pick.TheVariants as picks
@@ -22,3 +22,8 @@ is_picked numbering (picks.Wrap first count) candidates number = is_wrapped numb
 is_picked numbering picks.Every candidates number = true
 is_picked numbering picks.Odd candidates number = number % 2 == 1
 is_picked numbering picks.Even candidates number = number % 2 == 0
+
+-- Of so many candidates none outside these places is picked by its logical number, which is its place.
+abbrev pub IsReach : Pick → ℕ → ℕ → ℕ → Type 0
+IsReach pick candidates from to = (place : ℕ) → place < candidates → (place < from) ⊎ (to ≤ place)
+    → is_picked numberings.Logical pick candidates place ≡ false

@@ -12,7 +12,7 @@ use cpu_set::CpuSet;
 use out_of_memory::OutOfMemory;
 use std::alloc::{AllocError, Global};
 use synth_text::Sequence;
-use topo_tree::{AsTree, Layer, Object, Tree};
+use topo_tree::{AsTree, Layer, MACHINE, Object, Tree};
 
 /// The objects of a layer that have a PU of a set, by their indexes, in logical order.
 pub fn intersecting<T: AsTree>(
@@ -94,11 +94,11 @@ fn push_extended(
     ensures paths { OnOk result (out.new.items ≡ out.old.items ++ extended tree.now set.now layer path.now) }
     ensures ends { OnOk result (All (λ path. IsObject tree.now (end_of path)) out.new.items) }
 {
-    let run = inside(tree, end_of(path), layer);
-    for position in 0..run.count {
+    let row = inside(tree, end_of(path), layer);
+    for position in 0..row.count {
         let object = Object {
             layer,
-            index: run.first + position,
+            index: row.first + position,
         };
         if tree.meets(object, set) {
             out.push(with_step(alloc, path, Step2 { object, position })?)?;
@@ -113,10 +113,7 @@ fn end_of(path: &Path) -> Object
 {
     match path.steps.as_slice().last() {
         Some(step) => step.object,
-        None => Object {
-            layer: Layer::Depth(0),
-            index: 0,
-        },
+        None => MACHINE,
     }
 }
 

@@ -7,7 +7,7 @@ ghost use Rattle.calc_query.specs.Found.{IsFound};
 
 use cpu_set::CpuSet;
 use std::alloc::{AllocError, Global};
-use topo_tree::{Layer, Object, Tree};
+use topo_tree::{Layer, MACHINE, Object, Tree};
 
 /// Whether a set has all PUs of an object.
 #[derive(Clone, Copy)]
@@ -25,13 +25,9 @@ pub(crate) fn found_at_first(
     ensures { IfOk result (λ found. All (IsFound tree.now set.now) found.items) }
 {
     let depths = tree.depths() as usize;
-    let machine = Object {
-        layer: Layer::Depth(0),
-        index: 0,
-    };
     let found = Found {
-        object: machine,
-        inside: tree.inside(machine, set),
+        object: MACHINE,
+        inside: tree.inside(MACHINE, set),
     };
     Vec::from_elem(alloc, found, depths)
 }

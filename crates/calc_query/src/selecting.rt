@@ -1,17 +1,18 @@
 // The set that terms select.
-ghost use Rattle.std.specs.Prelude.{◌≡◌, ◌+◌, ◌<◌, ◌≤◌, ◌∷◌, []};
+ghost use Rattle.std.specs.Prelude.{◌≡◌, ◌+◌, ◌<◌, ◌≤◌, ◌∷◌, [], ℕ, true, false};
 ghost use Rattle.std.specs.List.{range_with_len, AllByRecursion};
-ghost use Rattle.cpu_set.specs.Sets.{numbers_where};
+ghost use Rattle.cpu_set.specs.Sets.{has, numbers_where};
+ghost use Rattle.synth_text.specs.Limits.{pu_limit};
 ghost use Rattle.topo_tree.specs.declared.layer.Layer.TheVariants as layers;
 ghost use Rattle.topo_tree.specs.Objects.{count_of, IsLayer};
 ghost use Rattle.calc_query.specs.Candidates.{number_of};
 ghost use Rattle.calc_query.specs.Selection.{is_picked_among, selected_inside, union_of, selected_from, located, operated, selected};
 ghost use Rattle.calc_query.specs.Selection.{HasLayers, HaveLayers};
 
-use crate::candidates::{Run, inside};
+use crate::candidates::inside;
 use crate::query::{Location, Numbering, Op, Part, Term};
 use cpu_set::CpuSet;
-use topo_tree::{AsTree, Layer, Object, Tree};
+use topo_tree::{AsTree, Layer, MACHINE, Object, Row, Tree};
 
 /// The set that terms select, each done in its turn to what those before it gave, beginning with the empty set.
 pub fn select<T: AsTree>(topology: &T, terms: &[Term], numbering: Numbering) -> CpuSet
@@ -78,28 +79,44 @@ fn selected_inside(
     requires part { IsLayer tree.now part.layer }
     ensures { result ≡ selected_inside tree.now numbering layer before.now part }
 {
+    let count = tree.count(layer);
     let mut chosen = CpuSet::empty();
-    for index in 0..tree.count(layer) {
-        if before.has(index) {
-            let run = inside(tree, Object { layer, index }, part.layer);
-            chosen = chosen.union(&picked(tree, run, part, numbering));
-        }
+    let mut index = next_index(before, 0, count);
+    while index < count {
+        let row = inside(tree, Object { layer, index }, part.layer);
+        chosen = chosen.union(&picked(tree, row, part, numbering));
+        index = next_index(before, index + 1, count);
     }
     chosen
 }
 
-// The objects that a part picks among candidates that stand side by side.
-fn picked(tree: &Tree, run: Run, part: Part, numbering: Numbering) -> CpuSet
-    requires layer { IsLayer tree.now part.layer }
-    requires within { run.first + run.count ≤ count_of tree.now part.layer }
-    requires few { run.first + run.count ≤ 4096 }
-    ensures { result ≡ numbers_where (is_picked_among tree.now numbering part (range_with_len run.first run.count)) }
+// The lowest of these indexes from `from` on, or the end where none is below it.
+fn next_index(indexes: &CpuSet, from: u32, end: u32) -> u32
+    requires { from ≤ end }
+    ensures within { result ≤ end }
+    ensures found { result < end → has indexes.now result ≡ true }
+    ensures none { (index : ℕ) → from ≤ index → index < result → has indexes.now index ≡ false }
+    ensures from { from ≤ result }
 {
+    match indexes.next(from) {
+        Some(index) => index.min(end),
+        None => end,
+    }
+}
+
+// The objects that a part picks among candidates that stand side by side.
+fn picked(tree: &Tree, row: Row, part: Part, numbering: Numbering) -> CpuSet
+    requires layer { IsLayer tree.now part.layer }
+    requires within { row.first + row.count ≤ count_of tree.now part.layer }
+    requires few { row.first + row.count ≤ pu_limit }
+    ensures { result ≡ numbers_where (is_picked_among tree.now numbering part (range_with_len row.first row.count)) }
+{
+    let (from, to) = part.pick.reach(numbering, row.count);
     let mut chosen = CpuSet::empty();
-    for place in 0..run.count {
-        let index = run.first + place;
+    for place in from..to {
+        let index = row.first + place;
         let number = number_of(tree, numbering, part.layer, index, place);
-        if part.pick.picks(numbering, run.count, number) {
+        if part.pick.picks(numbering, row.count, number) {
             chosen.with(index);
         }
     }
@@ -123,17 +140,12 @@ fn union_of(tree: &Tree, layer: Layer, indexes: &CpuSet) -> CpuSet
     requires { IsLayer tree.now layer }
     ensures { result ≡ union_of tree.now layer indexes.now }
 {
+    let count = tree.count(layer);
     let mut set = CpuSet::empty();
-    for index in 0..tree.count(layer) {
-        if indexes.has(index) {
-            set = set.union(&tree.set_of(Object { layer, index }));
-        }
+    let mut index = next_index(indexes, 0, count);
+    while index < count {
+        set = set.union(&tree.set_of(Object { layer, index }));
+        index = next_index(indexes, index + 1, count);
     }
     set
 }
-
-// Machine.
-const MACHINE: Object = Object {
-    layer: Layer::Depth(0),
-    index: 0,
-};

@@ -99,6 +99,33 @@ impl CpuSet {
         self.next(0)
     }
 
+    /// The lowest number from `from` on, or `None` exactly where there is none.
+    pub fn next(&self, from: u32) -> Option<u32>
+        ensures none { IfNone result (numbers_from from self.now ≡ []) }
+        ensures found { IfSome result (λ number. numbers_from from self.now
+            ≡ number ∷ numbers_from (number + 1) self.now) }
+        ensures from { IfSome result (λ number. from ≤ number) }
+        ensures limit { IfSome result (λ number. number < LIMIT) }
+        ensures set { IsSet self.now }
+    {
+        let words = &self.words;
+        if from >= LIMIT {
+            return None;
+        }
+        let start = (from / WIDTH) as usize;
+        let word = words[start] & (u32::MAX << (from % WIDTH));
+        if word != 0 {
+            return Some(WIDTH * start as u32 + word.trailing_zeros());
+        }
+        'words: for place in start + 1..WORDS {
+            let word = words[place];
+            if word != 0 {
+                return Some(WIDTH * place as u32 + word.trailing_zeros());
+            }
+        }
+        None
+    }
+
     /// How many numbers the set has.
     pub fn weight(&self) -> u32
         ensures count { result ≡ length self.now }
@@ -186,33 +213,6 @@ impl CpuSet {
         ensures { result ≡ word_of self.now place }
     {
         self.words[place]
-    }
-
-    // The lowest number from `from` on.
-    pub(crate) fn next(&self, from: u32) -> Option<u32>
-        ensures none { IfNone result (numbers_from from self.now ≡ []) }
-        ensures found { IfSome result (λ number. numbers_from from self.now
-            ≡ number ∷ numbers_from (number + 1) self.now) }
-        ensures from { IfSome result (λ number. from ≤ number) }
-        ensures limit { IfSome result (λ number. number < LIMIT) }
-        ensures set { IsSet self.now }
-    {
-        let words = &self.words;
-        if from >= LIMIT {
-            return None;
-        }
-        let start = (from / WIDTH) as usize;
-        let word = words[start] & (u32::MAX << (from % WIDTH));
-        if word != 0 {
-            return Some(WIDTH * start as u32 + word.trailing_zeros());
-        }
-        'words: for place in start + 1..WORDS {
-            let word = words[place];
-            if word != 0 {
-                return Some(WIDTH * place as u32 + word.trailing_zeros());
-            }
-        }
-        None
     }
 
     // The highest number, or 0 of the empty set.

@@ -70,7 +70,7 @@ module _ (described : Description) (way : Way) where
   unfolding expansion shared
   shared-expanded n depth indexes = behind-expanded n (sum_by (weight_of described depth) indexes) depth 0 indexes
 
-  abbrev children_in_order : Pair → List ℕ
+  abbrev pub children_in_order : Pair → List ℕ
   children_in_order pair = in_order way.backwards
       (range_with_len (children_of described (layers.Depth pair.depth) pair.index).0
       (children_of described (layers.Depth pair.depth) pair.index).1)

@@ -1,5 +1,6 @@
 pub mod Rounding
 pub mod SharedLaws
 pub mod ExpansionLaws
+pub mod Reaching
 pub mod AsMany
 pub mod Covering

@@ -15,6 +15,11 @@ abbrev pub OrderMakesNoDifference : Type 0
 OrderMakesNoDifference = (described : Description) (way : Way) (pairs others : List Pair) → ComesTo described way pairs others
     → others ≡ expansion described way pairs
 
+-- Some order of replacing brings pairs to their expansion, so each distribution comes to one.
+abbrev pub PairsComeToTheirExpansion : Type 0
+PairsComeToTheirExpansion = (described : Description) (way : Way) (pairs : List Pair)
+    → ComesTo described way pairs (expansion described way pairs)
+
 -- The masks are as many as were asked for.
 abbrev pub MasksAreAsMany : Type 0
 MasksAreAsMany = (described : Description) (way : Way) (n from : ℕ) → IsBuilt described → 1 ≤ n → from < depth_count described

@@ -1,9 +1,10 @@
 //! Laws of distributions. Each function does nothing: its contract is the law.
-ghost use Rattle.distrib_rules.specs.Laws.{OrderMakesNoDifference, MasksAreAsMany, MasksCoverTheStart};
+ghost use Rattle.distrib_rules.specs.Laws.{OrderMakesNoDifference, PairsComeToTheirExpansion, MasksAreAsMany, MasksCoverTheStart};
 
-/// Whichever object's share is handed to its children first, the masks are the same.
+/// Whichever object's share is handed to its children first, pairs come to their expansion, and some order brings them there.
 pub fn order_makes_no_difference()
-    ensures { OrderMakesNoDifference }
+    ensures same { OrderMakesNoDifference }
+    ensures reached { PairsComeToTheirExpansion }
 {}
 
 /// The masks are as many as were asked for.

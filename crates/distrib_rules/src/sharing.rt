@@ -7,14 +7,14 @@ ghost use Rattle.distrib_rules.specs.Shares.{shared, in_order};
 ghost use Rattle.distrib_rules.specs.Expansion.{is_final, expansion};
 ghost use Rattle.distrib_rules.specs.Masks.{with_pairs, distribution};
 ghost use Rattle.out_of_memory.specs.Memory.{UnlessMemory};
-ghost use Rattle.distrib_rules.specs.Faults.{fault_of};
+ghost use Rattle.distrib_rules.specs.Faults.{mask_limit, fault_of};
 
 use crate::fault::DistribFault;
 use crate::masks::push_share;
-use crate::shares::Siblings;
+use crate::shares::{index_at, share_at};
 use cpu_set::CpuSet;
 use std::alloc::{AllocError, Global};
-use topo_tree::{AsTree, Layer, Object, Tree};
+use topo_tree::{AsTree, Layer, Object, Row, Tree};
 
 // How many masks one distribution may have.
 const MASK_LIMIT: u32 = 4096;
@@ -50,7 +50,7 @@ pub fn distrib<T: AsTree>(
         return Err(DistribFault::Reversed);
     }
     let tree = topology.as_tree();
-    let all = Siblings {
+    let all = Row {
         first: 0,
         count: tree.count(Layer::Depth(from)),
     };
@@ -82,14 +82,14 @@ impl Distribution<'_> {
         masks: &mut Vec<CpuSet>,
         n: u32,
         depth: u32,
-        objects: Siblings,
+        objects: Row,
     ) -> Result<(), AllocError>
         requires built { IsBuilt self.now.tree.now }
         requires last { self.now.last ≡ length self.now.tree.now.levels }
         requires depth { depth < depth_count self.now.tree.now }
         requires some { 0 < objects.count }
         requires objects { objects.first + objects.count ≤ count_at self.now.tree.now depth }
-        requires masks { n ≤ 4096 }
+        requires masks { n ≤ mask_limit }
         ensures { OnOk result (masks.new.items ≡ with_pairs self.now.tree.now masks.old.items
             (expansion self.now.tree.now (record { to = self.now.to; backwards = self.now.reverse })
             (shared self.now.tree.now n depth (in_order self.now.reverse (range_with_len objects.first objects.count))))) }
@@ -97,14 +97,14 @@ impl Distribution<'_> {
         for place in 0..objects.count {
             let object = Object {
                 layer: Layer::Depth(depth),
-                index: objects.index_at(place, self.reverse),
+                index: index_at(objects, place, self.reverse),
             };
-            let share = objects.share_at(n, place);
+            let share = share_at(objects, n, place);
             if self.is_final(depth, share) {
                 push_share(masks, &self.tree.set_of(object), share)?;
             } else {
                 let (first, count) = self.tree.children(object);
-                self.share_out(masks, share, depth + 1, Siblings { first, count })?;
+                self.share_out(masks, share, depth + 1, Row { first, count })?;
             }
         }
         Ok(())

@@ -1,5 +1,5 @@
 -- The rank of an object among those that have a caller under them.
-use Rattle.std.proofs.Common.{◌≡◌, ℕ, zero, suc, ◌+◌, ◌*◌, ◌<◌, ◌≤◌, List, [], ◌∷◌, length, get_or}
+use Rattle.std.proofs.Common.{◌≡◌, ℕ, zero, suc, ◌+◌, ◌<◌, ◌≤◌, List, [], ◌∷◌, length, get_or}
 use Rattle.std.proofs.Common.{take, ◌++◌, refl, sym, ap, ◌∙◌}
 use Rattle.std.proofs.Common.{subst, arith, inl, inr, eq-eqb}
 use Rattle.std.specs.Prelude.{◌==◌, map, All, Contains}
@@ -9,7 +9,6 @@ use Rattle.std.proofs.lemmas.Bool.{cases_lt, ne_eqb}
 use Rattle.std.proofs.lemmas.List.Kept.{AllPairs-from_increasing}
 use Rattle.std.proofs.lemmas.List.Sums.{position_or_len_is}
 use Rattle.std.proofs.Common.{IsPermutation, nat_cmp, eqb}
-use Rattle.std.proofs.Math.Nat.{div-lt_iff_lt-mul}
 use Rattle.std.specs.List.{dedup, AllByRecursion}
 use Rattle.std.proofs.lemmas.Simd.{map-map}
 use Rattle.std.specs.List.Sorted.{IsSorted}
@@ -27,9 +26,8 @@ use Rattle.synth_text.specs.declared.description.Description.{Description}
 use Rattle.synth_text.specs.Rules.{pu_count}
 use Rattle.synth_text.specs.Sound.{IsSound}
 use Rattle.topo_tree.specs.Objects.{count_at}
-use Rattle.topo_tree.proofs.CountLaws.{have_arities, whole_counts}
-use Rattle.lock_select.specs.Nodes.{object_over}
-use Rattle.lock_select.proofs.NodeLaws.{width_of, width_positive}
+use Rattle.topo_tree.specs.Coverage.{object_over}
+use Rattle.topo_tree.proofs.OverLaws.{over_within}
 use Rattle.lock_plan.specs.Shapes.{occupied, node_on, path_on}
 
 -- ---- places in a list that rises
@@ -74,17 +72,11 @@ module _ (described : Description) (depth : ℕ) (pus : List ℕ) where
   abbrev objects : List ℕ
   objects = map (λ pu. object_over described depth pu) pus
 
-  over_within : (pu : ℕ) → IsSound described → pu < pu_count described → object_over described depth pu < count_at described depth
-  over_within pu sound within =
-      let whole = whole_counts depth described.levels (have_arities described sound) in
-      let inside : pu < count_at described depth * width_of described depth = omega (arith, whole, within) in
-      (div-lt_iff_lt-mul (width_positive described depth sound)).1 inside
-
   objects_within : IsSound described → All (λ pu. pu < pu_count described) pus → All (λ object. object < count_at described depth) objects
   objects_within sound within =
       All-map (λ (object : ℕ). object < count_at described depth) (λ (pu : ℕ). object_over described depth pu) pus
       (All-from_get_or (λ (pu : ℕ). object_over described depth pu < count_at described depth) pus 0
-      (λ i here. over_within (get_or pus i 0) sound (All-get_or (λ (pu : ℕ). pu < pu_count described) pus i 0 here within)))
+      (λ i here. over_within described depth (get_or pus i 0) sound (All-get_or (λ (pu : ℕ). pu < pu_count described) pus i 0 here within)))
 
   -- what sorting them and leaving repeats out gives
   pub sorted_is : (sorted : List ℕ) → IsSound described → All (λ pu. pu < pu_count described) pus → IsPermutation objects sorted
@@ -117,7 +109,7 @@ module _ (described : Description) (depth : ℕ) (pus : List ℕ) where
   occupied_has caller sound within known =
       let pu : ℕ = get_or pus caller 0 in
       let object : ℕ = object_over described depth pu in
-      let low = over_within pu sound (All-get_or (λ (n : ℕ). n < pu_count described) pus caller 0 known within) in
+      let low = over_within described depth pu sound (All-get_or (λ (n : ℕ). n < pu_count described) pus caller 0 known within) in
       let long = length-map pus (λ (n : ℕ). object_over described depth n) in
       let at : get_or objects caller 0 ≡ object = get_or-map (λ (n : ℕ). object_over described depth n) pus caller 0 0 known in
       let inside : Contains objects object = subst (Contains objects) at (Contains-get_or objects caller 0 (omega (arith, long, known))) in

@@ -8,10 +8,12 @@ use Rattle.std.proofs.lemmas.Grind.{get_or_default_zero}
 use Rattle.synth_text.specs.declared.description.Description.{Description}
 use Rattle.synth_text.specs.Rules.{pu_count}
 use Rattle.synth_text.specs.Sound.{IsSound}
+use Rattle.topo_tree.specs.Coverage.{object_over}
+use Rattle.topo_tree.proofs.OverLaws.{same_up, over_machine}
 use Rattle.keep_local.specs.declared.shape.Shape.{Shape}
 use Rattle.keep_local.specs.Shapes.{top_of, callers_of, node_of, HasNode}
-use Rattle.lock_select.specs.Nodes.{AreLevels, object_over}
-use Rattle.lock_select.proofs.NodeLaws.{some_levels, top_depth, depth_within, same_up, over_machine}
+use Rattle.lock_select.specs.Nodes.{AreLevels}
+use Rattle.lock_select.proofs.NodeLaws.{some_levels, top_depth, depth_within}
 use Rattle.lock_plan.specs.declared.plan.Plan.{Plan}
 use Rattle.lock_plan.specs.Plans.{IsPlanFor}
 use Rattle.lock_plan.specs.Shapes.{occupied, node_on, path_on, IsShapeOf}

@@ -5,7 +5,7 @@ use Rattle.cpu_set.specs.Sets.{has, numbers_below}
 use Rattle.synth_text.specs.declared.description.Description.{Description}
 use Rattle.topo_tree.specs.Objects.{count_at}
 use Rattle.keep_local.specs.declared.shape.Shape.{Shape}
-use Rattle.lock_select.specs.Nodes.{object_over}
+use Rattle.topo_tree.specs.Coverage.{object_over}
 use Rattle.lock_plan.specs.declared.plan.Plan.{Plan}
 
 -- the objects of a depth that have a caller under them, in logical order, where the callers stand on these PUs

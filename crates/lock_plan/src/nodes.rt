@@ -7,7 +7,6 @@ ghost use Rattle.topo_tree.specs.Building.{IsBuilt};
 ghost use Rattle.topo_tree.specs.Objects.{depth_count};
 ghost use Rattle.lock_plan.specs.Shapes.{occupied, node_on, path_on};
 
-use lock_select::object_over;
 use sequence::Sequence;
 use std::alloc::{AllocError, Global};
 use topo_tree::Tree;
@@ -74,7 +73,7 @@ fn nodes(alloc: Global, tree: &Tree, depth: u32, pus: &[u32]) -> Result<Vec<u32>
     let objects = occupied(alloc, tree, depth, pus)?;
     let mut nodes = Vec::with_capacity(alloc, pus.len())?;
     for pu in pus {
-        nodes.push(rank(&objects, object_over(tree, depth, *pu)))?;
+        nodes.push(rank(&objects, tree.over(depth, *pu)))?;
     }
     Ok(nodes)
 }
@@ -88,7 +87,7 @@ fn occupied(alloc: Global, tree: &Tree, depth: u32, pus: &[u32]) -> Result<Vec<u
 {
     let mut objects = Vec::with_capacity(alloc, pus.len())?;
     for pu in pus {
-        objects.push(object_over(tree, depth, *pu))?;
+        objects.push(tree.over(depth, *pu))?;
     }
     objects.sort_unstable();
     objects.dedup();

@@ -1,15 +1,13 @@
--- What holds of ideal turns, of the nodes over PUs, and of the two answers to a trace.
-use Rattle.std.specs.Prelude.{◌≡◌, ℕ, ◌+◌, ◌<◌, ◌≤◌, List, All}
+-- What holds of ideal turns, of the shapes of levels, and of the two answers to a trace.
+use Rattle.std.specs.Prelude.{◌≡◌, ℕ, ◌<◌, List, All}
 use Rattle.synth_text.specs.declared.description.Description.{Description}
 use Rattle.synth_text.specs.Rules.{pu_count}
 use Rattle.topo_tree.specs.Building.{IsBuilt}
-use Rattle.topo_tree.specs.Coverage.{first_covered}
-use Rattle.topo_tree.specs.Objects.{count_at}
 use Rattle.keep_local.specs.declared.shape.Shape.{Shape}
 use Rattle.keep_local.specs.Shapes.{callers_of, IsWellFormed}
 use Rattle.keep_local.specs.Turns.{IsLawful}
 use Rattle.lock_select.specs.declared.fault.SelectFault.{SelectFault}
-use Rattle.lock_select.specs.Nodes.{AreLevels, object_over, shape_of}
+use Rattle.lock_select.specs.Nodes.{AreLevels, shape_of}
 use Rattle.lock_select.specs.IdealTurns.{ideal_turns}
 use Rattle.lock_select.specs.Traces.{IsTrace, IsRefused}
 
@@ -28,16 +26,6 @@ abbrev pub LevelsMakeAShape : Type 0
 LevelsMakeAShape =
     (described : Description) (depths : List ℕ) (keep : ℕ) → IsBuilt described → AreLevels described depths
     → MakesAShape described depths keep
-
--- The object of a depth over a PU is the one that covers it.
-pub record IsCovered (described : Description) (depth pu object : ℕ) : Type 0 where
-  pub from : first_covered (pu_count described) (count_at described depth) object ≤ pu
-  pub to : pu < first_covered (pu_count described) (count_at described depth) (object + 1)
-
-abbrev pub ObjectsOverPusCoverThem : Type 0
-ObjectsOverPusCoverThem =
-    (described : Description) (depth pu : ℕ) → IsBuilt described → pu < pu_count described
-    → IsCovered described depth pu (object_over described depth pu)
 
 -- At most one trace fits some bytes, at most one refusal does, and not both.
 abbrev pub OneTrace : Type 0

@@ -1,9 +1,10 @@
 -- The shape of a lock whose levels are depths of a topology: each PU is a caller, whose node at a level is the object over it.
-use Rattle.std.specs.Prelude.{◌≡◌, ℕ, ◌-◌, ◌/◌, ◌<◌, ◌≤◌, List, [], ◌∷◌, ◌++◌, length, map, All, replicate}
+use Rattle.std.specs.Prelude.{◌≡◌, ℕ, ◌-◌, ◌<◌, ◌≤◌, List, [], ◌∷◌, ◌++◌, length, map, All, replicate}
 use Rattle.std.specs.List.{AllPairs, range_with_len}
 use Rattle.synth_text.specs.declared.description.Description.{Description}
 use Rattle.synth_text.specs.Rules.{pu_count}
-use Rattle.topo_tree.specs.Objects.{depth_count, count_at}
+use Rattle.topo_tree.specs.Objects.{depth_count}
+use Rattle.topo_tree.specs.Coverage.{object_over}
 use Rattle.keep_local.specs.declared.shape.Shape.{Shape}
 
 -- how many levels a lock may have
@@ -17,10 +18,6 @@ pub record AreLevels (described : Description) (depths : List ℕ) : Type 0 wher
   pub falling : AllPairs (λ lower upper. upper < lower) depths
   pub lower : List ℕ
   pub ends : depths ≡ lower ++ 0 ∷ []
-
--- the object of a depth over a PU: of c objects over p PUs, each covers p / c of them
-abbrev pub object_over : Description → ℕ → ℕ → ℕ
-object_over described depth pu = pu / (pu_count described / count_at described depth)
 
 -- a caller's nodes: the objects over its PU
 abbrev pub path_of : Description → List ℕ → ℕ → List ℕ

@@ -3,9 +3,10 @@ use Rattle.std.specs.Prelude.{◌≡◌, ℕ, ◌+◌, ◌-◌, ◌<◌, ◌≤�
 use Rattle.std.specs.List.{sum_by}
 use Rattle.synth_text.specs.declared.description.Description.{Description}
 use Rattle.topo_tree.specs.Objects.{depth_count}
+use Rattle.topo_tree.specs.Coverage.{object_over}
 use Rattle.keep_local.specs.declared.turn.Turn.{Turn}
 use Rattle.keep_local.specs.Turns.{run}
-use Rattle.lock_select.specs.Nodes.{object_over, shape_of}
+use Rattle.lock_select.specs.Nodes.{shape_of}
 use Rattle.lock_select.specs.IdealTurns.{ideal_turns}
 use Rattle.lock_select.specs.Costs.{climb_cost}
 

@@ -2,7 +2,6 @@
 ghost use Rattle.lock_select.specs.Laws.{
   IdealTurnsAreLawful,
   LevelsMakeAShape,
-  ObjectsOverPusCoverThem,
   OneTrace,
   OneRefusal,
   NotBoth,
@@ -16,11 +15,6 @@ pub fn ideal_turns_are_lawful()
 /// A list of levels of a topology makes the shape of a lock, whose callers are the PUs.
 pub fn levels_make_a_shape()
     ensures { LevelsMakeAShape }
-{}
-
-/// The object of a depth over a PU covers it.
-pub fn objects_over_pus_cover_them()
-    ensures { ObjectsOverPusCoverThem }
 {}
 
 /// At most one trace fits some bytes, at most one refusal does, and not both.

@@ -20,10 +20,7 @@ pub use choosing::choose;
 pub use costing::cost;
 pub use fault::SelectFault;
 pub use keep::read_keep;
-pub use laws::{
-    ideal_turns_are_lawful, levels_make_a_shape, objects_over_pus_cover_them, one_answer,
-};
-pub use nodes::object_over;
+pub use laws::{ideal_turns_are_lawful, levels_make_a_shape, one_answer};
 pub use trace::read_trace;
 pub use weights::read_weights;
 

@@ -1,22 +1,11 @@
-// The objects over PUs.
-ghost use Rattle.std.specs.Prelude.{◌≡◌, ◌<◌, ◌≤◌, ◌^◌, ◌-◌, length, IfOk};
+// The depths at which PUs have an object in common.
+ghost use Rattle.std.specs.Prelude.{◌<◌, ◌≤◌, ◌-◌, IfOk};
 ghost use Rattle.synth_text.specs.Rules.{pu_count};
-ghost use Rattle.topo_tree.specs.Objects.{depth_count};
-ghost use Rattle.lock_select.specs.Nodes.{object_over};
 ghost use Rattle.lock_select.specs.Traces.{Visits};
 ghost use Rattle.lock_select.specs.Walks.{IsCommon, AreCommons};
 
 use std::alloc::{AllocError, Global};
-use topo_tree::{Layer, Tree};
-
-/// The object of a depth over a PU.
-pub fn object_over(tree: &Tree, depth: u32, pu: u32) -> u32
-    requires { depth < depth_count tree.now }
-    ensures { result ≡ object_over tree.now depth pu }
-{
-    let pus = tree.count(Layer::Depth(tree.depths() - 1));
-    pu / (pus / tree.count(Layer::Depth(depth)))
-}
+use topo_tree::Tree;
 
 /// The lowest depth at which two PUs are under one object.
 pub(crate) fn common_depth(tree: &Tree, pu: u32, next: u32) -> u32
@@ -26,7 +15,7 @@ pub(crate) fn common_depth(tree: &Tree, pu: u32, next: u32) -> u32
     ensures few { result ≤ 16 }
 {
     let mut depth = tree.depths() - 1;
-    while depth > 0 && object_over(tree, depth, pu) != object_over(tree, depth, next) {
+    while depth > 0 && tree.over(depth, pu) != tree.over(depth, next) {
         depth -= 1;
     }
     depth

@@ -1,117 +1,28 @@
 -- The computed reading of a level item is how it is spelled.
-use Rattle.std.proofs.Common.{
-  ◌≡◌,
-  ℕ,
-  ◌≤◌,
-  ◌-◌,
-  ◌^◌,
-  Bool,
-  true,
-  false,
-  cond,
-  ◌&&◌,
-  List,
-  [],
-  ◌∷◌,
-  ◌++◌,
-  Option,
-  Some,
-  None,
-  Ok,
-  refl,
-  sym,
-  ap,
-  subst,
-  ◌∙◌,
-  inl,
-  inr,
-  zero,
-  suc,
-  ◌<◌,
-  length,
-  get_or,
-  arith,
-}
-use Rattle.std.specs.Prelude.{◌==◌, nat_le, not, is_some, IsSome, option_map, Contains, codes}
-use Rattle.std.specs.List.{list_all, slice_split}
-use Rattle.std.specs.Option.{option_or}
-use Rattle.std.specs.Str.{bytes_eq}
-use Rattle.std.specs.Str.Parse.{digits_value}
-use Rattle.std.proofs.lemmas.Bool.{cases_Bool, and_parts, leb-true, eqb-true, eqb-false}
-use Rattle.std.proofs.lemmas.Slice.Eq.{bytes_eq-Decides}
+use Rattle.std.proofs.Common.{◌≡◌, ℕ, ◌-◌, ◌^◌, List, Option, Some, None, Ok, refl, sym, ap, subst, ◌∙◌, inl, inr}
+use Rattle.std.specs.Prelude.{◌==◌}
+use Rattle.std.specs.List.{list_all}
 use Rattle.byte_text.specs.Classes.{is_white}
-use Rattle.byte_text.specs.Cuts.{IsCutAt, cut, with_byte, piece_or, first_piece}
-use Rattle.byte_text.specs.Numerals.{number_in, is_decimal}
+use Rattle.byte_text.specs.Cuts.{cut, piece_or, first_piece}
+use Rattle.byte_text.specs.Numerals.{number_in}
 use Rattle.byte_text.proofs.CutLaws.{CutsAt, cuts_of, cut-from_IsCutAt, cut-from_lacks}
-use Rattle.byte_text.proofs.NumeralLaws.{Decides-is_decimal, in_range}
 use Rattle.synth_text.specs.declared.kind.Kind.{Kind}
 use Rattle.synth_text.specs.declared.kind.Kind.TheVariants.{Machine, Package, Die, Group, L5, L4, L3, L2, L1d, L1i, Core, Pu, NumaNode}
 use Rattle.synth_text.specs.declared.name.Name.{Name}
 use Rattle.synth_text.specs.declared.name.Name.TheVariants as names
 use Rattle.synth_text.specs.declared.attributes.Attributes.{Attributes}
-use Rattle.synth_text.specs.declared.attributes.Key.{Key}
-use Rattle.synth_text.specs.declared.attributes.Key.TheVariants as keys
 use Rattle.synth_text.specs.declared.parts.Part.{Part}
-use Rattle.synth_text.specs.declared.fault.Flaw.{Flaw}
 use Rattle.synth_text.specs.declared.fault.Flaw.TheVariants as flaws
 use Rattle.synth_text.specs.Names.{name_of}
-use Rattle.synth_text.specs.Sizes.{size_of}
-use Rattle.synth_text.specs.IndexTexts.{indexes_of}
 use Rattle.synth_text.specs.Flaws.{◌>>=◌, or_flaw}
-use Rattle.synth_text.specs.Attributes.{
-  key_of,
-  takes,
-  entry_at,
-  entry_in,
-  value_of,
-  said_by,
-  words_of,
-  flaw_unless,
-  flaw_in_value,
-  flaw_in_word,
-  first_flaw,
-  unless_flawed,
-  attributes_in,
-  closed,
-  enclosed,
-  no_attributes,
-  attributes_of,
-}
+use Rattle.synth_text.specs.Attributes.{attributes_in, closed, enclosed, no_attributes, attributes_of}
 use Rattle.synth_text.specs.Parts.{level_name, with_arity, cut_head, head_of, level_part, cut_level, level_of}
-use Rattle.synth_spelling.specs.Spelling.{
-  IsNumber,
-  NamesLevel,
-  SpellsHead,
-  key_text,
-  IsValue,
-  IsWord,
-  AreWords,
-  SpellsWords,
-  SpellsEnclosed,
-  SpellsAttributes,
-  IsFront,
-  SpellsLevel,
-}
-use Rattle.synth_text.proofs.Bound.{ok_is, some_is, bind_ok, or_flaw-ok, guard_ok, guard_some, option_map_some}
+use Rattle.synth_spelling.specs.Spelling.{IsNumber, NamesLevel, SpellsHead, SpellsEnclosed, SpellsAttributes, IsFront, SpellsLevel}
+use Rattle.synth_text.proofs.Bound.{ok_is, bind_ok, or_flaw-ok, guard_ok}
+use Rattle.synth_spelling.proofs.Values.{number_spelled, number_read}
+use Rattle.synth_spelling.proofs.Words.{attributes_spelled, attributes_read_of}
 
 -- ---- numbers and names
-
-number_spelled : (low high n : ℕ) (text : List ℕ) → number_in low high text ≡ Some n → IsNumber low high n text
-unfolding number_in
-number_spelled low high n text e =
-    let value = digits_value 10 text in
-    let g = guard_some (is_decimal text && (nat_le low value && nat_le value high)) value n e in
-    let both = and_parts (is_decimal text) (nat_le low value && nat_le value high) g.0 in
-    let range = and_parts (nat_le low value) (nat_le value high) both.1 in
-    record {
-      numeral = (Decides-is_decimal text).0 both.0;
-      value = g.1;
-      above = subst (λ m. low ≤ m) g.1 (leb-true low value range.0);
-      below = subst (λ m. m ≤ high) g.1 (leb-true value high range.1);
-    }
-
-number_read : (low high n : ℕ) (text : List ℕ) → IsNumber low high n text → number_in low high text ≡ Some n
-number_read low high n text h = in_range low high n text h.numeral h.value h.above h.below
 
 level_named : (o : Option Name) (kind : Kind) → level_name o ≡ Ok kind → NamesLevel o kind
 level_named None kind e = absurd cc
@@ -189,127 +100,7 @@ head_read untyped head kind arity (inl h) =
 head_read untyped head kind arity (inr h) =
     rw (cut-from_lacks 58 head h.lacks, number_read 1 (2 ^ 32 - 1) arity head h.number) (ap (λ k. Ok (k, arity)) h.placed)
 
--- ---- words
-
-key_spelled : (word : List ℕ) (key : Key) → key_of word ≡ Some key → word ≡ key_text key
-unfolding key_of
-key_spelled word key e =
-    elim (cases_Bool (bytes_eq word (codes "size"))) [
-      | inl size ↦ let is = rw size at e in (bytes_eq-Decides word (codes "size")).0 size ∙ ap key_text (some_is keys.Size key is)
-      | inr other ↦ let rest = rw other at e in
-          elim (cases_Bool (bytes_eq word (codes "memory"))) [
-            | inl memory ↦ let is = rw memory at rest in
-                (bytes_eq-Decides word (codes "memory")).0 memory ∙ ap key_text (some_is keys.Memory key is)
-            | inr another ↦ let last = rw another at rest in
-                elim (cases_Bool (bytes_eq word (codes "indexes"))) [
-                  | inl given ↦ let is = rw given at last in
-                      (bytes_eq-Decides word (codes "indexes")).0 given ∙ ap key_text (some_is keys.Indexes key is)
-                  | inr none ↦ let nothing = rw none at last in absurd cc
-                ]
-          ]
-    ]
-
-entry_spelled : (word : List ℕ) (entry : Key × List ℕ) → entry_in word ≡ Some entry → word ≡ key_text entry.0 ++ 61 ∷ entry.1
-unfolding entry_in
-entry_spelled word entry e = by (cut (λ b. b == 61) word) (cuts_of 61 word) e
-  where
-    by : (o : Option (List ℕ × List ℕ)) → CutsAt 61 word o → entry_at o ≡ Some entry → word ≡ key_text entry.0 ++ 61 ∷ entry.1
-    by None lacks h = absurd cc
-    by (Some parts) cuts h =
-        let m = option_map_some (λ (key : Key). (key, parts.1)) (key_of parts.0) entry h in
-        let same : (m.0, parts.1) ≡ entry = m.2 in
-        cuts.parts ∙ ap (λ front. front ++ 61 ∷ parts.1) (key_spelled parts.0 m.0 m.1)
-        ∙ ap (λ (p : Key × List ℕ). key_text p.0 ++ 61 ∷ p.1) same
-
-entry_read : (key : Key) (value : List ℕ) → entry_in (key_text key ++ 61 ∷ value) ≡ Some (key, value)
-unfolding entry_in key_of
-entry_read keys.Size value = refl
-entry_read keys.Memory value = refl
-entry_read keys.Indexes value = refl
-
-some_of : {X : Type 0} (flaw : Flaw) (o : Option X) → flaw_unless flaw o ≡ None → IsSome o
-some_of flaw None e = absurd cc
-some_of flaw (Some x) e = refl
-
-none_of : {X : Type 0} (flaw : Flaw) (o : Option X) → IsSome o → flaw_unless flaw o ≡ None
-none_of flaw None h = absurd cc
-none_of flaw (Some x) h = refl
-
-value_spelled : (key : Key) (value : List ℕ) → flaw_in_value key value ≡ None → IsValue key value
-value_spelled keys.Size value e = some_of flaws.Attribute (size_of value) e
-value_spelled keys.Memory value e = some_of flaws.Attribute (size_of value) e
-value_spelled keys.Indexes value e = some_of flaws.Indexes (indexes_of value) e
-
-value_read : (key : Key) (value : List ℕ) → IsValue key value → flaw_in_value key value ≡ None
-value_read keys.Size value h = none_of flaws.Attribute (size_of value) h
-value_read keys.Memory value h = none_of flaws.Attribute (size_of value) h
-value_read keys.Indexes value h = none_of flaws.Indexes (indexes_of value) h
-
--- a test that let a flaw through, or another
-unflawed : (test : Bool) (o : Option Flaw) (flaw : Flaw) → cond test o (Some flaw) ≡ None → (test ≡ true) × (o ≡ None)
-unflawed true o flaw e = (refl, e)
-unflawed false o flaw e = absurd cc
-
-nothing_of : {X : Type 0} (o : Option X) → not (is_some o) ≡ true → o ≡ None
-nothing_of None e = refl
-nothing_of (Some x) e = absurd cc
-
-word_spelled : (kind : Kind) (before : List (List ℕ)) (word : List ℕ) → flaw_in_word kind before (entry_in word) ≡ None
-    → IsWord kind before word
-word_spelled kind before word e = by (entry_in word) refl e
-  where
-    by : (o : Option (Key × List ℕ)) → entry_in word ≡ o → flaw_in_word kind before o ≡ None → IsWord kind before word
-    by None is h = absurd cc
-    by (Some entry) is h =
-        let u = unflawed (takes kind entry.0 && not (is_some (value_of entry.0 before))) (flaw_in_value entry.0 entry.1) flaws.Attribute h
-        in
-        let tests = and_parts (takes kind entry.0) (not (is_some (value_of entry.0 before))) u.0 in
-        record {
-          key = entry.0;
-          value = entry.1;
-          parts = entry_spelled word entry is;
-          taken = tests.0;
-          new = nothing_of (value_of entry.0 before) tests.1;
-          valued = value_spelled entry.0 entry.1 u.1;
-        }
-
-word_read : (kind : Kind) (before : List (List ℕ)) (word : List ℕ) → IsWord kind before word
-    → flaw_in_word kind before (entry_in word) ≡ None
-word_read kind before word h =
-    let is : entry_in word ≡ Some (h.key, h.value) = ap entry_in h.parts ∙ entry_read h.key h.value in
-    rw (is, h.taken, h.new) (value_read h.key h.value h.valued)
-
-both_none : {X : Type 0} (a b : Option X) → option_or a b ≡ None → (a ≡ None) × (b ≡ None)
-both_none None b e = (refl, e)
-both_none (Some x) b e = absurd cc
-
-words_spelled : (kind : Kind) (before words : List (List ℕ)) → first_flaw kind before words ≡ None → AreWords kind before words
-words_spelled kind before [] e = tt
-words_spelled kind before (word ∷ words) e =
-    let two = both_none (flaw_in_word kind before (entry_in word)) (first_flaw kind (before ++ word ∷ []) words) e in
-    (word_spelled kind before word two.0, words_spelled kind (before ++ word ∷ []) words two.1)
-
-words_read : (kind : Kind) (before words : List (List ℕ)) → AreWords kind before words → first_flaw kind before words ≡ None
-words_read kind before [] h = refl
-words_read kind before (word ∷ words) h = rw (word_read kind before word h.0) (words_read kind (before ++ word ∷ []) words h.1)
-
 -- ---- attributes
-
-attributes_spelled : (kind : Kind) (text : List ℕ) (a : Attributes) → attributes_in kind text ≡ Ok a → SpellsWords kind text a
-unfolding attributes_in
-attributes_spelled kind text a e = by (first_flaw kind [] (words_of (slice_split is_white text))) refl e
-  where
-    by : (o : Option Flaw) → first_flaw kind [] (words_of (slice_split is_white text)) ≡ o
-        → unless_flawed o (said_by (words_of (slice_split is_white text))) ≡ Ok a → SpellsWords kind text a
-    by None is h = record {
-      words = words_spelled kind [] (words_of (slice_split is_white text)) is;
-      given = ok_is (said_by (words_of (slice_split is_white text))) a h;
-    }
-    by (Some flaw) is h = absurd cc
-
-attributes_read_of : (kind : Kind) (text : List ℕ) (a : Attributes) → SpellsWords kind text a → attributes_in kind text ≡ Ok a
-unfolding attributes_in
-attributes_read_of kind text a h = rw (words_read kind [] (words_of (slice_split is_white text)) h.words) (ap Ok h.given)
 
 enclosed_spelled : (kind : Kind) (text : List ℕ) (a : Attributes) → (enclosed text >>= λ inner. attributes_in kind inner) ≡ Ok a
     → SpellsEnclosed kind text a

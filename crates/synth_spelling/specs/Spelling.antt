@@ -6,7 +6,9 @@ use Rattle.std.specs.Prelude.{
   ◌⊎◌,
   ◌↔◌,
   ℕ,
+  ◌<◌,
   ◌≤◌,
+  ◌*◌,
   ◌-◌,
   ◌^◌,
   Bool,
@@ -17,16 +19,16 @@ use Rattle.std.specs.Prelude.{
   ◌∷◌,
   ◌++◌,
   codes,
+  length,
   drop,
   Contains,
   Option,
   Some,
   None,
-  IsSome,
   Ok,
 }
-use Rattle.std.specs.Char.{is_ascii_alphanumeric}
-use Rattle.std.specs.List.{list_all, slice_split}
+use Rattle.std.specs.Char.{is_ascii_alphanumeric, is_ascii_digit}
+use Rattle.std.specs.List.{list_all, join_with_byte, slice_split}
 use Rattle.std.specs.Str.Parse.{IsNumeral, digits_value}
 use Rattle.byte_text.specs.Classes.{is_white}
 use Rattle.byte_text.specs.Cuts.{IsCutAt}
@@ -37,14 +39,18 @@ use Rattle.synth_text.specs.declared.name.Name.TheVariants as names
 use Rattle.synth_text.specs.declared.attributes.Attributes.{Attributes}
 use Rattle.synth_text.specs.declared.attributes.Key.{Key}
 use Rattle.synth_text.specs.declared.attributes.Key.TheVariants as keys
+use Rattle.synth_text.specs.declared.description.Loop.{Loop}
+use Rattle.synth_text.specs.declared.description.Indexes.{Indexes}
+use Rattle.synth_text.specs.declared.description.Indexes.TheVariants as indexes
 use Rattle.synth_text.specs.declared.description.Description.{Description}
 use Rattle.synth_text.specs.declared.items.Item.{Item}
 use Rattle.synth_text.specs.declared.parts.Part.{Part}
 use Rattle.synth_text.specs.declared.parts.Placed.{Placed}
 use Rattle.synth_text.specs.Names.{name_of}
-use Rattle.synth_text.specs.Sizes.{size_of}
+use Rattle.synth_text.specs.Tables.{entry_of}
+use Rattle.synth_text.specs.Sizes.{units, size_of}
 use Rattle.synth_text.specs.IndexTexts.{indexes_of}
-use Rattle.synth_text.specs.Attributes.{takes, value_of, said_by, words_of, no_attributes}
+use Rattle.synth_text.specs.Attributes.{takes, words_of, no_attributes, attributes_in}
 use Rattle.synth_text.specs.Items.{AreItems, body_of}
 use Rattle.synth_text.specs.Parts.{untyped_kind, level_part, memory_part, level_of, memory_of}
 use Rattle.synth_text.specs.Rules.{description_of, broken}
@@ -89,29 +95,105 @@ key_text keys.Size = codes "size"
 key_text keys.Memory = codes "memory"
 key_text keys.Indexes = codes "indexes"
 
+-- no byte of the text's front passes the test
+abbrev pub Stops : (ℕ → Bool) → List ℕ → Type 0
+Stops test [] = Unit {0}
+Stops test (byte ∷ bytes) = test byte ≡ false
+
+-- digits as far as they go, and a unit, without regard to case; the size is below 2^64
+pub record SpellsSize (text : List ℕ) (bytes : ℕ) : Type 0 where
+  pub numeral : List ℕ
+  pub suffix : List ℕ
+  pub number : ℕ
+  pub unit : ℕ
+  pub parts : text ≡ numeral ++ suffix
+  pub counted : IsNumber 0 (2 ^ 64 - 1) number numeral
+  pub whole : Stops is_ascii_digit suffix
+  pub named : entry_of units suffix ≡ Some unit
+  pub product : number * unit ≡ bytes
+  pub small : bytes < 2 ^ 64
+
+-- texts that spell things, one each
+abbrev pub SpellEach : {X : Type 0} → (X → List ℕ → Type 0) → List X → List (List ℕ) → Type 0
+SpellEach Spells [] [] = Unit {0}
+SpellEach Spells [] (piece ∷ pieces) = ⊥
+SpellEach Spells (x ∷ xs) [] = ⊥
+SpellEach Spells (x ∷ xs) (piece ∷ pieces) = Spells x piece × SpellEach Spells xs pieces
+
+-- things, one at least, with a byte between each two
+pub record SpellJoined {X : Type 0} (Spells : X → List ℕ → Type 0) (byte : ℕ) (text : List ℕ) (given : List X) : Type 0 where
+  pub pieces : List (List ℕ)
+  pub some : 0 < length pieces
+  pub joined : join_with_byte byte pieces ≡ text
+  pub each : SpellEach Spells given pieces
+
+-- a number of a list
+abbrev pub SpellsIndex : ℕ → List ℕ → Type 0
+SpellsIndex number text = IsNumber 0 (2 ^ 32 - 1) number text
+
+-- `step*count`
+pub record SpellsLoop (given : Loop) (text : List ℕ) : Type 0 where
+  pub step : List ℕ
+  pub count : List ℕ
+  pub cut : IsCutAt 42 text step count
+  pub stepped : IsNumber 1 (2 ^ 32 - 1) given.step step
+  pub counted : IsNumber 1 (2 ^ 32 - 1) given.count count
+
+-- a list `n,n,..`, or loops `s*n:s*n:..`
+abbrev pub SpellsIndexes : List ℕ → Indexes → Type 0
+SpellsIndexes text indexes.Ordered = ⊥
+SpellsIndexes text (indexes.List numbers) = SpellJoined SpellsIndex 44 text numbers
+SpellsIndexes text (indexes.Loops loops) = SpellJoined SpellsLoop 58 text loops
+
 -- a value of a key: a size, or a list or loops
 abbrev pub IsValue : Key → List ℕ → Type 0
-IsValue keys.Size value = IsSome (size_of value)
-IsValue keys.Memory value = IsSome (size_of value)
-IsValue keys.Indexes value = IsSome (indexes_of value)
+IsValue keys.Size value = (bytes : ℕ) × SpellsSize value bytes
+IsValue keys.Memory value = (bytes : ℕ) × SpellsSize value bytes
+IsValue keys.Indexes value = (given : Indexes) × SpellsIndexes value given
+
+-- the word of a key and a value
+abbrev pub word_of : Key → List ℕ → List ℕ
+word_of key value = key_text key ++ 61 ∷ value
+
+-- no word has the key
+abbrev pub HaveNo : Key → List (List ℕ) → Type 0
+HaveNo key words = (value : List ℕ) → ¬ (Contains words (word_of key value))
 
 -- a word `key=value` behind others: the kind takes the key, which none of the others has
 pub record IsWord (kind : Kind) (before : List (List ℕ)) (word : List ℕ) : Type 0 where
   pub key : Key
   pub value : List ℕ
-  pub parts : word ≡ key_text key ++ 61 ∷ value
+  pub parts : word ≡ word_of key value
   pub taken : takes kind key ≡ true
-  pub new : value_of key before ≡ None
+  pub new : HaveNo key before
   pub valued : IsValue key value
 
 abbrev pub AreWords : Kind → List (List ℕ) → List (List ℕ) → Type 0
 AreWords kind before [] = Unit {0}
 AreWords kind before (word ∷ words) = IsWord kind before word × AreWords kind (before ++ word ∷ []) words
 
--- words with gaps of white space between them, which give the attributes
+-- what the word of a key spells, or nothing where no word has it
+abbrev pub SaysSize : Key → List (List ℕ) → Option ℕ → Type 0
+SaysSize key words None = HaveNo key words
+SaysSize key words (Some bytes) = (value : List ℕ) × Contains words (word_of key value) × SpellsSize value bytes
+
+abbrev pub SaysIndexes : List (List ℕ) → Indexes → Type 0
+SaysIndexes words indexes.Ordered = HaveNo keys.Indexes words
+SaysIndexes words (indexes.List numbers) =
+    (value : List ℕ) × Contains words (word_of keys.Indexes value) × SpellsIndexes value (indexes.List numbers)
+SaysIndexes words (indexes.Loops loops) =
+    (value : List ℕ) × Contains words (word_of keys.Indexes value) × SpellsIndexes value (indexes.Loops loops)
+
+-- the words say the attributes
+pub record SayAttributes (words : List (List ℕ)) (attributes : Attributes) : Type 0 where
+  pub size : SaysSize keys.Size words attributes.size
+  pub memory : SaysSize keys.Memory words attributes.memory
+  pub indexes : SaysIndexes words attributes.indexes
+
+-- words with gaps of white space between them, which say the attributes
 pub record SpellsWords (kind : Kind) (text : List ℕ) (attributes : Attributes) : Type 0 where
   pub words : AreWords kind [] (words_of (slice_split is_white text))
-  pub given : said_by (words_of (slice_split is_white text)) ≡ attributes
+  pub say : SayAttributes (words_of (slice_split is_white text)) attributes
 
 -- what stands behind a `(`: words up to the first `)`, and white space behind it
 pub record SpellsEnclosed (kind : Kind) (text : List ℕ) (attributes : Attributes) : Type 0 where
@@ -143,11 +225,6 @@ pub record SpellsLevel (untyped : Kind) (text : List ℕ) (part : Part) : Type 0
   pub spelled : SpellsHead untyped head kind arity
   pub attributed : SpellsAttributes kind given attributes
   pub says : level_part kind arity attributes ≡ part
-
--- no byte of the text's front passes the test
-abbrev pub Stops : (ℕ → Bool) → List ℕ → Type 0
-Stops test [] = Unit {0}
-Stops test (byte ∷ bytes) = test byte ≡ false
 
 -- what follows a name in brackets: white space alone, or a `(` and what stands behind it
 abbrev pub Opens : List ℕ → Option (List ℕ) → Type 0
@@ -198,6 +275,16 @@ pub record SpellsDescription (text : List ℕ) (described : Description) : Type 
   pub says : description_of parts ≡ described
 
 -- ---- the laws
+
+abbrev pub SizesAreSpelled : Type 0
+SizesAreSpelled = (text : List ℕ) (bytes : ℕ) → (size_of text ≡ Some bytes) ↔ SpellsSize text bytes
+
+abbrev pub IndexesAreSpelled : Type 0
+IndexesAreSpelled = (text : List ℕ) (given : Indexes) → (indexes_of text ≡ Some given) ↔ SpellsIndexes text given
+
+abbrev pub AttributesAreSpelled : Type 0
+AttributesAreSpelled = (kind : Kind) (text : List ℕ) (attributes : Attributes) → (attributes_in kind text ≡ Ok attributes)
+    ↔ SpellsWords kind text attributes
 
 abbrev pub LevelItemsAreSpelled : Type 0
 LevelItemsAreSpelled = (untyped : Kind) (text : List ℕ) (part : Part) → (level_of untyped text ≡ Ok part) ↔ SpellsLevel untyped text part

@@ -1,5 +1,14 @@
 // Laws of spellings: each is the contract of a function that does nothing.
+ghost use Rattle.synth_spelling.specs.Spelling.{SizesAreSpelled, IndexesAreSpelled, AttributesAreSpelled};
 ghost use Rattle.synth_spelling.specs.Spelling.{LevelItemsAreSpelled, MemoryItemsAreSpelled, DescriptionsAreSpelled};
+
+/// A value says exactly what it is spelled as: a size is digits and a unit, indexes are numbers or loops with a byte between each
+/// two. Words say of each attribute what the one word of its key spells.
+pub fn values_are_spelled()
+    ensures size { SizesAreSpelled }
+    ensures indexes { IndexesAreSpelled }
+    ensures attributes { AttributesAreSpelled }
+{}
 
 /// An item says exactly what it is spelled as: a level item is a name, `:` and a numeral, or a numeral alone, and a memory
 /// item a name of NUMANode in brackets; both may have attributes in parentheses, words `key=value` with gaps between them.

@@ -4,4 +4,4 @@
 
 mod laws;
 
-pub use laws::{descriptions_are_spelled, items_are_spelled};
+pub use laws::{descriptions_are_spelled, items_are_spelled, values_are_spelled};

@@ -5,6 +5,7 @@ pub mod Numbering
 pub mod SetSteps
 pub mod Faults
 pub mod Coverings
+pub mod OverLaws
 pub mod Positions
 pub mod Lookups
 pub mod CoverLaws

@@ -2,6 +2,7 @@
 use Rattle.std.specs.Prelude.{ℕ, ◌+◌, ◌*◌, ◌/◌, ◌==◌, List, length, slice_index, slice_range, Option, unwrap_or, position, if◌then◌else◌}
 use Rattle.cpu_set.specs.Sets.{has, numbers_where}
 use Rattle.synth_text.specs.declared.description.Description.{Description}
+use Rattle.synth_text.specs.Rules.{pu_count}
 use Rattle.topo_tree.specs.declared.layer.Layer.{Layer}
 use Rattle.topo_tree.specs.declared.layer.Layer.TheVariants as layers
 use Rattle.topo_tree.specs.Objects.{count_at, carrier_of}
@@ -40,3 +41,7 @@ physical_of described layers.Memory index = slice_index (node_numbers described)
 -- the position of the PU that has a physical number
 abbrev pub leaf_of : Description → ℕ → Option ℕ
 leaf_of described physical = position (λ number. number == physical) (pu_numbers described)
+
+-- the object of a depth over a PU: of c objects over p PUs, each covers p / c of them
+abbrev pub object_over : Description → ℕ → ℕ → ℕ
+object_over described depth pu = pu / (pu_count described / count_at described depth)

@@ -6,9 +6,9 @@ use Rattle.cpu_set.specs.Tests.{meets, is_inside}
 use Rattle.synth_text.specs.declared.description.Description.{Description}
 use Rattle.synth_text.specs.Rules.{pu_count}
 use Rattle.topo_tree.specs.declared.layer.Layer.TheVariants as layers
-use Rattle.topo_tree.specs.Objects.{count_at, parent_of, children_of}
+use Rattle.topo_tree.specs.Objects.{depth_count, count_at, parent_of, children_of}
 use Rattle.topo_tree.specs.Building.{pu_numbers, IsBuilt}
-use Rattle.topo_tree.specs.Coverage.{first_covered, set_at, leaf_of}
+use Rattle.topo_tree.specs.Coverage.{first_covered, set_at, leaf_of, object_over}
 
 -- Each child of an object is an object of the next depth, and has that object as its parent.
 abbrev pub ChildrenHaveTheirParent : Type 0
@@ -58,3 +58,21 @@ ChildrenMakeUpTheirParent =
     → has (set_at described depth index) number
     ≡ list_any (λ child. has (set_at described (depth + 1) child) number)
     (range_with_len (children_of described (layers.Depth depth) index).0 (children_of described (layers.Depth depth) index).1)
+
+-- The object of a depth over a PU is the one that covers it.
+pub record IsCovered (described : Description) (depth pu object : ℕ) : Type 0 where
+  pub fit : object < count_at described depth
+  pub from : first_covered (pu_count described) (count_at described depth) object ≤ pu
+  pub to : pu < first_covered (pu_count described) (count_at described depth) (object + 1)
+
+abbrev pub ObjectsOverPusCoverThem : Type 0
+ObjectsOverPusCoverThem =
+    (described : Description) (depth pu : ℕ) → IsBuilt described → pu < pu_count described
+    → IsCovered described depth pu (object_over described depth pu)
+
+-- Two PUs under one object of a depth are under one object of each depth above it.
+abbrev pub CommonObjectsNestUpwards : Type 0
+CommonObjectsNestUpwards =
+    (described : Description) (depth lower pu other : ℕ) → IsBuilt described → depth ≤ lower → lower < depth_count described
+    → object_over described lower pu ≡ object_over described lower other
+    → object_over described depth pu ≡ object_over described depth other

@@ -6,6 +6,8 @@ ghost use Rattle.topo_tree.specs.Laws.{
   ObjectsOfADepthAreDisjoint,
   InsideIsByPositions,
   ChildrenMakeUpTheirParent,
+  ObjectsOverPusCoverThem,
+  CommonObjectsNestUpwards,
 };
 
 /// Each child of an object is an object of the next depth, and has that object as its parent.
@@ -36,4 +38,14 @@ pub fn inside_is_by_positions()
 /// The sets of an object's children make up its own.
 pub fn children_make_up_their_parent()
     ensures { ChildrenMakeUpTheirParent }
+{}
+
+/// The object of a depth over a PU is the one that covers it.
+pub fn objects_over_pus_cover_them()
+    ensures { ObjectsOverPusCoverThem }
+{}
+
+/// Two PUs that have an object in common have one in common at each depth above it.
+pub fn common_objects_nest_upwards()
+    ensures { CommonObjectsNestUpwards }
 {}

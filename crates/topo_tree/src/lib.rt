@@ -22,9 +22,10 @@ mod tree;
 pub use as_tree::AsTree;
 pub use fault::BuildFault;
 pub use laws::{
-    children_have_their_parent, children_make_up_their_parent, inside_is_by_positions,
-    numbers_name_their_pus, objects_have_their_share, objects_of_a_depth_are_disjoint,
+    children_have_their_parent, children_make_up_their_parent, common_objects_nest_upwards,
+    inside_is_by_positions, numbers_name_their_pus, objects_have_their_share,
+    objects_of_a_depth_are_disjoint, objects_over_pus_cover_them,
 };
-pub use layer::{Layer, Object};
+pub use layer::{Layer, MACHINE, Object, Row};
 pub use topology::Topology;
 pub use tree::Tree;

@@ -2,10 +2,11 @@
 ghost use Rattle.std.specs.Prelude.{◌≡◌, ◌<◌, ◌≤◌, Some, None, IfOk, OnOk, IfErr};
 ghost use Rattle.out_of_memory.specs.Memory.{UnlessMemory};
 ghost use Rattle.synth_text.specs.Limits.{pu_limit};
+ghost use Rattle.synth_text.specs.Rules.{pu_count};
 ghost use Rattle.synth_text.specs.Sound.{IsSound};
-ghost use Rattle.topo_tree.specs.Objects.{depth_count, kind_at, count_of, IsLayer, IsObject};
+ghost use Rattle.topo_tree.specs.Objects.{depth_count, kind_at, count_at, count_of, IsLayer, IsObject};
 ghost use Rattle.topo_tree.specs.Building.{pu_numbers, build_fault, IsBuilt};
-ghost use Rattle.topo_tree.specs.Coverage.{physical_of};
+ghost use Rattle.topo_tree.specs.Coverage.{physical_of, object_over};
 
 use crate::building::{node_numbers, pu_numbers};
 use crate::counts::depth_counts;
@@ -104,6 +105,15 @@ impl Tree {
             Layer::Depth(depth) => self.counts[depth as usize],
             Layer::Memory => self.nodes.len() as u32,
         }
+    }
+
+    /// The object of a depth over a PU, in constant time.
+    pub fn over(&self, depth: u32, pu: u32) -> u32
+        requires { depth < depth_count self.now }
+        ensures object { result ≡ object_over self.now depth pu }
+        ensures fit { pu < pu_count self.now → result < count_at self.now depth }
+    {
+        pu / (self.numbers.len() as u32 / self.counts[depth as usize])
     }
 
     /// The physical number of a PU or a NUMANode, and the logical number of any other object.

@@ -8,6 +8,6 @@ use Rattle.calc_query.proofs.answers.push_extended.Given as goal
 abbrev pub invariant-loop-position : goal.invariant-loop-position
 invariant-loop-position l =
     record {
-      paths : l.out.items ≡ l.fn.out.items ++ steps_through l.tree l.set l.layer l.path l.run.first l.run.count l.position;
+      paths : l.out.items ≡ l.fn.out.items ++ steps_through l.tree l.set l.layer l.path l.row.first l.row.count l.position;
       ends : All (λ path. IsObject l.tree (end_of path)) l.out.items;
     }

@@ -11,8 +11,8 @@ rank-requires-clause-rising c =
 
 pub rank-requires-clause-has : goal.rank-requires-clause-has
 rank-requires-clause-has c =
-    subst (λ (xs : List ℕ). Contains xs c.object_over.result) (sym (c.deref.ensures.value ∙ c.in_ok-objects.ensures))
-    (subst (Contains (occupied c.args.tree.now c.args.pus.now c.args.depth)) (sym c.object_over.ensures)
+    subst (λ (xs : List ℕ). Contains xs c.over.result) (sym (c.deref.ensures.value ∙ c.in_ok-objects.ensures))
+    (subst (Contains (occupied c.args.tree.now c.args.pus.now c.args.depth)) (sym c.over.ensures.object)
     (occupied_has c.args.tree.now c.args.depth c.args.pus.now c.loop-pu.pu-index c.requires.built.sound c.requires.pus c.loop-pu-test.true))
 
 pub loop-pu-preserved : goal.loop-pu-preserved
@@ -23,7 +23,7 @@ loop-pu-preserved c =
     let pu = get_or pus c.loop-pu.pu-index 0 in
     let node : c.rank.result ≡ node_on described pus depth pu =
     c.rank.ensures
-    ∙ node_is described depth pus c.deref.result.now c.object_over.result pu (c.deref.ensures.value ∙ c.in_ok-objects.ensures)
-    c.object_over.ensures in
+    ∙ node_is described depth pus c.deref.result.now c.over.result pu (c.deref.ensures.value ∙ c.in_ok-objects.ensures)
+    c.over.ensures.object in
     map_more (node_on described pus depth) pus c.loop-pu.pu-index c.loop-pu.nodes.items c.push.new.self.items c.rank.result
     c.loop-pu-test.true c.loop-pu.invariant node c.in_ok-push.ensures.items

@@ -1,7 +1,7 @@
 use Rattle.std.proofs.Common.{ℕ, List, map, ap, ◌∙◌, subst, eqb, IsPermutation}
 use Rattle.std.proofs.lemmas.List.{take_all}
 use Rattle.std.proofs.lemmas.List.Filters.{dedup_is}
-use Rattle.lock_select.specs.Nodes.{object_over}
+use Rattle.topo_tree.specs.Coverage.{object_over}
 use Rattle.lock_plan.proofs.Ranks.{sorted_is}
 use Rattle.lock_plan.proofs.nodes.occupied.Goals as goal
 

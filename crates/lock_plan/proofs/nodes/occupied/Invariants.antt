@@ -1,5 +1,5 @@
 use Rattle.std.proofs.Common.{◌≡◌, map, take}
-use Rattle.lock_select.specs.Nodes.{object_over}
+use Rattle.topo_tree.specs.Coverage.{object_over}
 use Rattle.lock_plan.proofs.nodes.occupied.Given as goal
 
 -- the objects over the PUs so far

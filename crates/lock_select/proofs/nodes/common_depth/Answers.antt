@@ -1,10 +1,10 @@
 use Rattle.std.proofs.Common.{sym, ◌∙◌}
-use Rattle.lock_select.proofs.NodeLaws.{same_up}
+use Rattle.topo_tree.proofs.OverLaws.{same_up}
 use Rattle.lock_select.proofs.nodes.common_depth.Goals as goal
 
-pub returns-else-object_over-clause-common : goal.returns-else-object_over-clause-common
-returns-else-object_over-clause-common c =
-    let same = sym c.object_over.ensures ∙ c.if-object_over.false ∙ c.object_over-in-loop-depth.ensures in
+pub returns-else-over-clause-common : goal.returns-else-over-clause-common
+returns-else-over-clause-common c =
+    let same = sym c.over.ensures.object ∙ c.if-over.false ∙ c.over-in-loop-depth.ensures.object in
     record {
       within = c.loop-depth.invariant.within;
       same = λ d above.

@@ -1,6 +1,6 @@
 use Rattle.std.proofs.Common.{◌≡◌, ◌<◌, ℕ}
 use Rattle.topo_tree.specs.Objects.{depth_count}
-use Rattle.lock_select.specs.Nodes.{object_over}
+use Rattle.topo_tree.specs.Coverage.{object_over}
 use Rattle.lock_select.proofs.nodes.common_depth.Given as goal
 
 -- the PUs are under other objects at each lower depth
