@@ -1,16 +1,17 @@
 -- Lines that are told by their first letter: each is a command by itself, and not `quit`.
-use Rattle.std.proofs.Common.{◌≡◌, ℕ, Bool, true, false, List, [], ◌∷◌, ◌++◌, ◌+◌, ◌-◌, ◌==◌, ◌<◌, ◌≤◌, length, take, drop, nat_lt, cond, Option, Some, None, Ok, Err, inl, inr, refl, sym, ap, ◌∙◌, subst, codes, append_assoc, arith, tests}
+use Rattle.std.proofs.Common.{◌≡◌, ℕ, suc, Bool, true, false, List, [], ◌∷◌, ◌++◌, ◌+◌, ◌-◌, ◌==◌, ◌<◌, ◌≤◌, length, take, drop, nat_lt, cond, Option, Some, None, Ok, Err, inl, inr, refl, sym, ap, ◌∙◌, subst, codes, append_assoc, arith, tests}
 use Rattle.std.specs.List.{filter, slice_split, onto_first}
 use Rattle.std.specs.Option.{option_map_or}
 use Rattle.std.specs.Str.{bytes_eq}
-use Rattle.std.specs.Prelude.{if◌then◌else◌, slice_index}
+use Rattle.std.specs.Prelude.{if◌then◌else◌, slice_get, slice_index}
+use Rattle.std.proofs.lemmas.Bool.{lt-ltb}
 use Rattle.std.proofs.lemmas.List.{length-append, length-take-le, drop_at}
 use Rattle.byte_text.specs.Cuts.{IsCutAt}
 use Rattle.byte_text.specs.Words.{words}
 use Rattle.mc_text.specs.declared.row.Row.{Row}
 use Rattle.mc_text.specs.declared.row.Row.TheVariants as rows
 use Rattle.mc_text.specs.declared.command.LineFault.TheVariants.{Unknown, Format}
-use Rattle.mc_text.specs.Request.{Request, Get, Delete, Count, Touch, Flush, Version, Verbosity, Moment, WholeCommand, is_quit}
+use Rattle.mc_text.specs.Request.{Get, Delete, Count, Touch, Flush, Version, Verbosity, Moment, WholeCommand, is_quit}
 use Rattle.mc_text.specs.Field.{Said, ◌>>=◌, key_of, keys_of, number32_of, exptime_of, delta_of, level_of, quiet_of}
 use Rattle.mc_text.specs.Line.{
   Line,
@@ -35,9 +36,10 @@ use Rattle.mc_text.specs.Line.{
   said_by,
   line_of,
 }
-use Rattle.mc_text.specs.Reading.{first_command}
+use Rattle.mc_text.specs.Reading.{commands_of, rest_of}
 use Rattle.mc_text.specs.Lone.{IsLoneLetter, Passes}
 use Rattle.mc_text.proofs.Steps.{whole_line}
+use Rattle.mc_text.proofs.Sections.{commands_first, rest_first}
 
 -- a line is a command by itself, and not `quit`
 abbrev IsLone : Line → Type 0
@@ -194,7 +196,13 @@ pub record BeginsSo (letter : ℕ) (words : List (List ℕ)) : Type 0 where
 first_word : (letter : ℕ) (parts : List (List ℕ)) → BeginsSo letter (filter (λ word. nat_lt 0 (length word)) (onto_first letter parts))
 first_word letter [] = record { word = []; others = []; words_are = refl }
 first_word letter (part ∷ parts) =
-    record { word = part; others = filter (λ word. nat_lt 0 (length word)) parts; words_are = refl }
+    let long : 0 < length (letter ∷ part) = omega arith in
+    let kept = filter (λ word. nat_lt 0 (length word)) parts in
+    record {
+      word = part;
+      others = kept;
+      words_are = ap (λ (keep : Bool). cond {A = List (List ℕ)} keep ((letter ∷ part) ∷ kept) kept) (lt-ltb 0 (length (letter ∷ part)) long);
+    }
 
 begins_so : (letter : ℕ) (more : List ℕ) → (letter == 32) ≡ false → BeginsSo letter (words (letter ∷ more))
 begins_so letter more other = rw other (first_word letter (slice_split (λ byte. byte == 32) more))
@@ -211,7 +219,10 @@ either_keeps false letter front more = record { rest = more; text_is = refl }
 keeps_first : (letter : ℕ) (more : List ℕ) → (letter == 13) ≡ false → KeepsFirst letter (without_return (letter ∷ more))
 keeps_first letter [] other = rw other (record { rest = []; text_is = refl })
 keeps_first letter (next ∷ more) other =
-    either_keeps (slice_index (letter ∷ next ∷ more) (length (next ∷ more)) == 13) letter (take (length more) (next ∷ more)) (next ∷ more)
+    let text = letter ∷ next ∷ more in
+    let last : suc (length more) ≡ length text - 1 = omega arith in
+    subst (λ n. KeepsFirst letter (if slice_index text n == 13 then take n text else text)) last
+    (either_keeps (slice_index text (suc (length more)) == 13) letter (take (length more) (next ∷ more)) (next ∷ more))
 
 -- ---- the line
 
@@ -248,12 +259,32 @@ lone_passes text content behind (Whole request) cut said lone =
     }
 
 -- the first byte of the text is that of its first line
-pub passes_lone : (text content behind more : List ℕ) (letter : ℕ) → IsCutAt 10 text content behind → text ≡ letter ∷ more
+pub passes_lone : (text content behind : List ℕ) (letter : ℕ) → IsCutAt 10 text content behind → Some letter ≡ slice_get text 0
     → IsLoneLetter letter → Passes text behind
-passes_lone text [] behind more letter cut begins lone =
-    let same : 10 ≡ letter = cc in
+passes_lone text [] behind letter cut begins lone =
+    let first : Some letter ≡ Some 10 = begins ∙ ap (λ t. slice_get t 0) cut.parts in
+    let same : letter ≡ 10 = cc in
     absurd (grind (lone, same, arith))
-passes_lone text (first ∷ content) behind more letter cut begins lone =
-    let same : first ≡ letter = cc in
-    lone_passes text (first ∷ content) behind (line_of (words_of_line (first ∷ content))) cut refl
-    (lone_content first content (subst IsLoneLetter (sym same) lone))
+passes_lone text (byte ∷ content) behind letter cut begins lone =
+    let first : Some letter ≡ Some byte = begins ∙ ap (λ t. slice_get t 0) cut.parts in
+    let same : letter ≡ byte = cc in
+    lone_passes text (byte ∷ content) behind (line_of (words_of_line (byte ∷ content))) cut refl
+    (lone_content byte content (subst IsLoneLetter same lone))
+
+-- ---- what is read behind it
+
+pub passed_fewer : (text behind : List ℕ) → Passes text behind → length (commands_of text) ≡ length (commands_of behind) + 1
+passed_fewer text behind passed =
+    let more : commands_of text ≡ passed.command ∷ commands_of behind =
+    commands_first text passed.command passed.first
+    ∙ ap (λ (quit : Bool). passed.command
+    ∷ cond {A = List WholeCommand} quit [] (commands_of (drop (length passed.command.spelling) text))) passed.goes_on
+    ∙ ap (λ rest. passed.command ∷ commands_of rest) (sym passed.behind_is) in
+    omega (arith, ap length more)
+
+pub passed_rest : (text behind : List ℕ) → Passes text behind → rest_of text ≡ rest_of behind
+passed_rest text behind passed =
+    let left = drop (length passed.command.spelling) text in
+    rest_first text passed.command passed.first
+    ∙ ap (λ (quit : Bool). cond {A = List ℕ} quit left (rest_of left)) passed.goes_on
+    ∙ ap rest_of (sym passed.behind_is)

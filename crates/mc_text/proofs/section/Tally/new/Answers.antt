@@ -1,6 +1,4 @@
 use Rattle.std.proofs.Common.{◌∙◌, ap, length, sym, arith}
-use Rattle.mc_text.specs.Commands.{commands_left}
-use Rattle.mc_text.specs.Reading.{commands_of}
 use Rattle.mc_text.proofs.Sections.{length-commands_of, spelled_only}
 use Rattle.mc_text.proofs.section.Tally.new.Goals as goal
 
