@@ -62,7 +62,7 @@ fn push_place(
 fn short_place(caller: u8, pu: u8) -> [u8; 14]
     requires caller { caller < 10 }
     requires pu { pu < 10 }
-    ensures { result.entry ≡ labelled ((codes " caller ", caller) ∷ (codes " pu ", pu) ∷ []) }
+    ensures { result ≡ labelled ((codes " caller ", caller) ∷ (codes " pu ", pu) ∷ []) }
 {
     let caller = b'0' + caller;
     let pu = b'0' + pu;
