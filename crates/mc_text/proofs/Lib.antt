@@ -4,3 +4,4 @@ mod Blocks
 mod Steps
 mod Beginnings
 mod Sections
+mod Lone

@@ -5,6 +5,7 @@ pub mod Line
 pub mod Begins
 pub mod Section
 pub mod Reading
+pub mod Lone
 pub mod Commands
 pub mod View
 pub mod Laws

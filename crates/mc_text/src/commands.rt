@@ -1,5 +1,5 @@
 // The commands of a section, one by one.
-ghost use Rattle.std.specs.Prelude.{◌≡◌, ◌⊎◌, ◌∷◌, ◌++◌, [], false, length, IsTrue, IfSome, IfNone, MatchOption};
+ghost use Rattle.std.specs.Prelude.{◌≡◌, ◌⊎◌, ◌∷◌, ◌++◌, ◌+◌, [], false, true, length, IsTrue, IfSome, IfNone, MatchOption};
 ghost use Rattle.mc_text.specs.Request.{view, spelling_of};
 ghost use Rattle.mc_text.specs.Commands.{left, has_quit, commands_left, rest_left};
 ghost use Rattle.mc_text.specs.Begins.{Begins};
@@ -7,7 +7,7 @@ ghost use Rattle.mc_text.specs.Section.{NoCommand};
 ghost use Rattle.mc_text.specs.Reading.{commands_of, rest_of};
 
 use crate::command::{Command, is_quit};
-use crate::first::first_command;
+use crate::first::{first_command, pass_line};
 
 /// The commands of a section that are still to be given, in the order of the section.
 #[derive(Clone, Copy, Debug)]
@@ -57,6 +57,25 @@ impl<'a> Commands<'a> {
         self.rest = rest;
         self.ended = is_quit(&command);
         Some(command)
+    }
+
+    /// Passes the next command over. The answer is whether there was one.
+    pub(crate) fn pass(&mut self) -> bool
+        ensures some { result ≡ true → length (commands_left self.old) ≡ length (commands_left self.new) + 1 }
+        ensures none { result ≡ false → length (commands_left self.old) ≡ 0 }
+        ensures rest { rest_left self.new ≡ rest_left self.old }
+        ensures end { result ≡ false → left self.new ≡ rest_left self.old }
+    {
+        if self.ended {
+            return false;
+        }
+        match pass_line(self.rest) {
+            Some(behind) => {
+                self.rest = behind;
+                true
+            }
+            None => self.next().is_some(),
+        }
     }
 
     /// What stands behind the commands that were given.

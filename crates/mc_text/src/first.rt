@@ -1,8 +1,9 @@
 // The command at the front of a text.
-ghost use Rattle.std.specs.Prelude.{◌≡◌, ◌+◌, ◌≤◌, length, IfSome, option_map};
+ghost use Rattle.std.specs.Prelude.{◌≡◌, ◌+◌, ◌≤◌, length, true, IfSome, option_map};
 ghost use Rattle.mc_text.specs.Request.{view, request_of, spelling_of};
 ghost use Rattle.mc_text.specs.View.{header_view};
 ghost use Rattle.mc_text.specs.Reading.{line_end, stored, first_command};
+ghost use Rattle.mc_text.specs.Lone.{IsLoneLetter, Passes};
 
 use crate::command::{Command, LineFault};
 use crate::line::{Header, Line, read_line};
@@ -27,6 +28,24 @@ pub(crate) fn first_command(text: &[u8]) -> Option<Command<'_>>
             Some(stored(header, block, ended, spelling))
         }
     }
+}
+
+/// What stands behind the first line of a text, where its first letter tells that it is a command by itself, and not `quit`.
+pub(crate) fn pass_line(text: &[u8]) -> Option<&[u8]>
+    ensures { IfSome result (λ behind. Passes text.now behind.now) }
+{
+    if !is_lone(*text.first()?) {
+        return None;
+    }
+    let (_, behind) = cut_at(text, b'\n')?;
+    Some(behind)
+}
+
+// Whether no name of a storage command, nor `quit`, begins with this letter, and it is one of a name.
+fn is_lone(letter: u8) -> bool
+    ensures { result ≡ true → IsLoneLetter letter }
+{
+    matches!(letter, b'd' | b'f' | b'g' | b'i' | b'm' | b't' | b'v')
 }
 
 // How many bytes behind a block through the next `\n`, and whether they are `\r\n`; none where less than two bytes or no `\n`

@@ -1,5 +1,6 @@
 // The rows of the table of commands.
 ghost use Rattle.std.specs.Prelude.{◌≡◌};
+ghost use Rattle.std.specs.Str.{bytes_eq};
 ghost use Rattle.mc_text.specs.Line.{row_of};
 
 use crate::command::How;
@@ -42,41 +43,49 @@ pub enum Row {
 pub(crate) fn row_of(name: &[u8]) -> Option<Row>
     ensures { result ≡ row_of name.now }
 {
-    if name == b"get".as_slice() {
+    if is_named(name, b"get") {
         Some(Row::Retrieval { uniques: false })
-    } else if name == b"gets".as_slice() {
+    } else if is_named(name, b"gets") {
         Some(Row::Retrieval { uniques: true })
-    } else if name == b"set".as_slice() {
+    } else if is_named(name, b"set") {
         Some(Row::Storage(How::Set))
-    } else if name == b"add".as_slice() {
+    } else if is_named(name, b"add") {
         Some(Row::Storage(How::Add))
-    } else if name == b"replace".as_slice() {
+    } else if is_named(name, b"replace") {
         Some(Row::Storage(How::Replace))
-    } else if name == b"append".as_slice() {
+    } else if is_named(name, b"append") {
         Some(Row::Storage(How::Append))
-    } else if name == b"prepend".as_slice() {
+    } else if is_named(name, b"prepend") {
         Some(Row::Storage(How::Prepend))
-    } else if name == b"cas".as_slice() {
+    } else if is_named(name, b"cas") {
         Some(Row::Cas)
-    } else if name == b"delete".as_slice() {
+    } else if is_named(name, b"delete") {
         Some(Row::Delete)
-    } else if name == b"incr".as_slice() {
+    } else if is_named(name, b"incr") {
         Some(Row::Count { up: true })
-    } else if name == b"decr".as_slice() {
+    } else if is_named(name, b"decr") {
         Some(Row::Count { up: false })
-    } else if name == b"touch".as_slice() {
+    } else if is_named(name, b"touch") {
         Some(Row::Touch)
-    } else if name == b"flush_all".as_slice() {
+    } else if is_named(name, b"flush_all") {
         Some(Row::Flush)
-    } else if name == b"version".as_slice() {
+    } else if is_named(name, b"version") {
         Some(Row::Version)
-    } else if name == b"verbosity".as_slice() {
+    } else if is_named(name, b"verbosity") {
         Some(Row::Verbosity)
-    } else if name == b"moment".as_slice() {
+    } else if is_named(name, b"moment") {
         Some(Row::Moment)
-    } else if name == b"quit".as_slice() {
+    } else if is_named(name, b"quit") {
         Some(Row::Quit)
     } else {
         None
     }
+}
+
+// Whether a name is this word. Most other names differ in their length or their first letter, which are looked at here.
+#[inline(always)]
+fn is_named(name: &[u8], word: &[u8]) -> bool
+    ensures { result ≡ bytes_eq name.now word.now }
+{
+    name.len() == word.len() && (name.is_empty() || name[0] == word[0]) && name == word
 }

@@ -27,7 +27,7 @@ impl<'a> Tally<'a> {
     {
         let mut commands = Commands::new(section);
         let mut number = 0;
-        while commands.next().is_some() {
+        while commands.pass() {
             number += 1;
         }
         Tally {

@@ -1,5 +1,5 @@
 // The lines of a printed run.
-ghost use Rattle.std.specs.Prelude.{◌≡◌, ◌++◌, OnOk, Some, decimal, map, slice_get};
+ghost use Rattle.std.specs.Prelude.{◌≡◌, ◌<◌, ◌++◌, ◌∷◌, [], OnOk, Some, codes, decimal, map, slice_get};
 ghost use Rattle.placed_runner.specs.Text.{labelled, place_numbers, level_numbers, turn_line, caller_line, pu_of};
 ghost use Rattle.placed_runner.specs.Views.{section_view, line_view};
 
@@ -49,8 +49,26 @@ fn push_place(
         ≡ out.old.items ++ labelled (place_numbers (map section_view sections.now) number caller)) }
 {
     push_labelled(out, b"turn ", u64::from(number))?;
+    let pu = pu_of(sections, caller);
+    if caller < 10 && pu < 10 {
+        return out.extend_from_slice(&short_place(caller as u8, pu as u8));
+    }
     push_labelled(out, b" caller ", u64::from(caller))?;
-    push_labelled(out, b" pu ", u64::from(pu_of(sections, caller)))
+    push_labelled(out, b" pu ", u64::from(pu))
+}
+
+// A caller and where it stands, with their names, where both numbers have one digit.
+#[inline(always)]
+fn short_place(caller: u8, pu: u8) -> [u8; 14]
+    requires caller { caller < 10 }
+    requires pu { pu < 10 }
+    ensures { result ≡ labelled ((codes " caller ", caller) ∷ (codes " pu ", pu) ∷ []) }
+{
+    let caller = b'0' + caller;
+    let pu = b'0' + pu;
+    [
+        b' ', b'c', b'a', b'l', b'l', b'e', b'r', b' ', caller, b' ', b'p', b'u', b' ', pu,
+    ]
 }
 
 // Appends the other numbers of a turn's line: how it found and left the lock. Under a lock of one level they are all 0.

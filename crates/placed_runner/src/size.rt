@@ -96,17 +96,17 @@ fn escaped_size(text: &[u8]) -> usize {
     size
 }
 
-// So few bytes at a time that 32 bits have their sizes' sum.
-const PIECE: usize = 1 << 20;
+// So few bytes at a time that eight bits have their sizes' sum: many bytes are then counted together.
+const PIECE: usize = 48;
 
 // How many bytes a piece of a text has between quotes: four for each byte without a sign of its own, but two for a line end's, and
 // two for a sign with a backslash.
-fn piece_size(piece: &[u8]) -> u32 {
-    let mut size: u32 = 0;
+fn piece_size(piece: &[u8]) -> u8 {
+    let mut size: u8 = 0;
     for byte in piece {
-        let hidden = u32::from(byte.wrapping_sub(b' ') > b'~' - b' ');
-        let line_end = u32::from(*byte == b'\r') + u32::from(*byte == b'\n');
-        let sign = u32::from(*byte == b'"') + u32::from(*byte == b'\\');
+        let hidden = u8::from(byte.wrapping_sub(b' ') > b'~' - b' ');
+        let line_end = u8::from(*byte == b'\r') + u8::from(*byte == b'\n');
+        let sign = u8::from(*byte == b'"') + u8::from(*byte == b'\\');
         size = size
             .wrapping_add(1 + 3 * hidden + sign)
             .wrapping_sub(2 * line_end);
