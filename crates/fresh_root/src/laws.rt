@@ -18,7 +18,7 @@ pub fn no_release_while_out<P>()
     ensures { NoReleaseWhileOut P }
 {}
 
-/// Two `Fresh` of one tag are one, and so are the tags of their payloads.
+/// Two `Fresh` of one tag are one, with as many tokens, and so are the tags of their payloads.
 pub fn tags_tell<P>()
     ensures { TagsTell P }
 {}
