@@ -1,16 +1,20 @@
 -- What a holder knows.
 use Rattle.std.proofs.Common.{◌≡◌, ℕ, ◌+◌, ◌^◌, ◌<◌, ◌++◌, [], ◌∷◌, List, length, map, ap, sym, ◌∙◌, subst, arith, Option, Some, None}
-use Rattle.std.proofs.Common.{length-append, true}
-use Rattle.std.specs.Prelude.{All, IsSome, slice_get}
+use Rattle.std.proofs.Common.{length-append, refl, true}
+use Rattle.std.specs.Prelude.{All, IsSome, slice_get, ◌==◌}
+use Rattle.std.proofs.lemmas.Bool.{eq-eqb}
+use Rattle.std.proofs.lemmas.List.Sums.{sum_by-append, sum_by-cons}
 use Rattle.std.proofs.lemmas.List.{length-map}
 use Rattle.std.proofs.lemmas.List.Elements.{All-append, All-head, All-map, All-nil, All-tail, All-cons}
 use Rattle.lock_rules.specs.Tag.{Tag}
 use Rattle.lock_rules.specs.Trees.{lists_in, tree_of_lists}
 use Rattle.lock_rules.proofs.Trees.{lists_in-tree_of_lists}
 use Rattle.keep_local.specs.declared.turn.Turn.{Turn}
+use Rattle.keep_local.specs.Shapes.{callers_of}
 use Rattle.keep_local.specs.States.{IsTrail, ShareState, TrailState, all_turns, callers_in, option_list}
 use Rattle.keep_local.specs.Turns.{turns_of}
 use Rattle.keep_local.specs.Views.{times}
+use Rattle.keep_local.proofs.Counts.{one_if}
 use Rattle.keep_local.proofs.Trails.{times_callers}
 use Rattle.clof_compose.specs.Calls.{HasOpened}
 use Rattle.clof_compose.specs.Courses.{course_of}
@@ -21,7 +25,6 @@ use Rattle.mc_text.specs.Request.{WholeCommand}
 use Rattle.mc_text.specs.Reading.{commands_of}
 use Rattle.kv_history.specs.Log.{Log, IsNext, calls}
 use Rattle.threaded_runner.specs.Jobs.{IsCommandAt}
-use Rattle.threaded_runner.proofs.Turns.{one_more}
 use Rattle.fresh_runner.specs.Books.{book_in, fresh_book_calls, fresh_book_tag}
 use Rattle.fresh_runner.specs.declared.book.FreshBook.{FreshBook}
 use Rattle.fresh_runner.proofs.Tags.{book_is}
@@ -35,7 +38,7 @@ pub is_home : {P : Type 0} (payload : Option P) (list callers : List ℕ) → ca
     → All (λ n. n < no_caller) callers → IsSome payload × (list ≡ callers)
 is_home None list callers e all =
     absurd (let less = below_all list [] no_caller (subst (λ (l : List ℕ). All (λ n. n < no_caller) l) (sym e) all) in omega (arith, less))
-is_home (Some p) list callers e all = (tt, e)
+is_home (Some p) list callers e all = (refl, e)
 
 known_below : (turns : List Turn) (n : ℕ) → n < 2 ^ 32 → All (λ (t : Turn). t.caller < n) turns → All (λ k. k < no_caller) (callers_in turns)
 known_below [] n few all = All-nil (λ k. k < no_caller)
@@ -51,7 +54,8 @@ front_of Q (x ∷ xs) ys all = All-cons Q x xs (All-head Q x (xs ++ ys) all) (fr
 -- the callers of a trail's closed turns are numbers of callers
 pub callers_below : (s : TrailState) → IsTrail s → All (λ k. k < no_caller) (callers_in s.closed)
 callers_below s is =
-    known_below s.closed _ is.few (front_of (λ (t : Turn). t.caller < _) s.closed (option_list s.current) is.known)
+    known_below s.closed (callers_of s.shape) is.few
+    (front_of (λ (t : Turn). t.caller < callers_of s.shape) s.closed (option_list s.current) is.known)
 
 -- what is next by the tag and the history is next for the journal that is lent out
 pub next_in : (tag : Tag) (list : List ℕ) (log : Log) (caller caller' : ℕ) (command : WholeCommand) → tree_of_lists log.sections ≡ tag
@@ -61,6 +65,15 @@ next_in tag list log caller caller' command sections are same next =
     subst (λ (n : ℕ). IsNext log.sections (calls log) n command) (sym same)
     (subst (λ (l : List ℕ). IsNext log.sections l caller command) (sym are)
     (subst (λ (l : List (List ℕ)). IsNext l list caller command) told next))
+
+-- a caller's turns with one more of it
+one_more : (caller : ℕ) (turns : List Turn) (t : Turn) → t.caller ≡ caller → turns_of caller (turns ++ t ∷ []) ≡ turns_of caller turns + 1
+one_more caller turns t own =
+    let yes : (t.caller == caller) ≡ true = eq-eqb t.caller caller own in
+    let cut = sum_by-append (λ (u : Turn). one_if (u.caller == caller)) turns (t ∷ []) in
+    let last = sum_by-cons (λ (u : Turn). one_if (u.caller == caller)) t [] in
+    let one : one_if (t.caller == caller) ≡ 1 = ap one_if yes in
+    omega (arith, cut, last, one)
 
 module _ (t : Tag) (level made : ℕ) (share : ShareState) (r : Root FreshBook)
     (opened : HasOpened fresh_book_calls fresh_book_tag t level share r) where

@@ -3,10 +3,11 @@ use Rattle.std.proofs.lemmas.Result.{IfOk-weaker}
 use Rattle.lock_rules.specs.Tag.{Tag}
 use Rattle.lock_rules.specs.Trees.{lists_in}
 use Rattle.keep_local.specs.States.{TrailState, callers_in}
-use Rattle.clof_compose.specs.Courses.{Course}
+use Rattle.clof_compose.specs.Courses.{Course, course_of}
 use Rattle.fresh_root.specs.States.{AreAll}
 use Rattle.mc_text.specs.Reading.{commands_of}
 use Rattle.threaded_runner.proofs.Done.{done_after}
+use Rattle.fresh_runner.specs.Books.{fresh_in}
 use Rattle.fresh_runner.specs.Crews.{crew_in}
 use Rattle.fresh_runner.specs.Marked.{AreMarked}
 use Rattle.fresh_runner.proofs.Settled.{has_started}
@@ -29,7 +30,8 @@ finish_fresh-requires g c =
           (ap (λ (k : Course). k.name) told) (ap (λ (k : Course). k.quotas) told);
       many = crew.crew_is.many ∙ c.requires.count ∙ ap length book;
       seens = subst (λ n. AreAll n root.payload.fresh.tokens c.args.crew.seens.items) (fresh_is _ root c.close.ensures.tagged)
-          (subst (λ n. AreAll _ n c.args.crew.seens.items) counted crew.seens_are);
+          (subst (λ n. AreAll (fresh_in (course_of (g.C.Composed.tag c.args.lock)).payload) n c.args.crew.seens.items) counted
+          crew.seens_are);
       tokens = sym counted ∙ sym crew.crew_is.many;
       many_marks = crew.many started ∙ sym crew.crew_is.many;
       marked = crew.marked;
