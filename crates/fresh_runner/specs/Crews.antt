@@ -32,14 +32,14 @@ pub record AreEmptied {P : Type 0} (count : ℕ) (lists : Lists P) : Type 0 wher
 -- marks of all its turns
 pub record AreLists {P : Type 0} (rest : P → Rest) (has : Context → Type 0) (level : ℕ) (tag : Tag) (count : ℕ) (lists : Lists P) : Type 0
   where
-  pub passes : (k : ℕ) (p : P) → slice_get lists.passes.items k ≡ Some p → IsNumber has level tag k (rest p).context
-  pub shares : (k : ℕ) (s : ShareState) → slice_get lists.shares.items k ≡ Some s → IsShareIn (course_of tag) k s × (s.made ≡ 0)
-  pub seens : (k : ℕ) (s : SeenState) → slice_get lists.seens.items k ≡ Some s → IsOf (fresh_in (course_of tag).payload) k s × (s.list ≡ [])
-  pub marks : (k : ℕ) (m : Marks) → slice_get lists.marks.items k ≡ Some m → IsBlank (slice_index (course_of tag).quotas k) m
-  pub many_passes : length lists.passes.items ≡ count
-  pub many_shares : length lists.shares.items ≡ count
-  pub many_seens : length lists.seens.items ≡ count
-  pub many_marks : length lists.marks.items ≡ count
+    pub passes : (k : ℕ) (p : P) → slice_get lists.passes.items k ≡ Some p → IsNumber has level tag k (rest p).context
+    pub shares : (k : ℕ) (s : ShareState) → slice_get lists.shares.items k ≡ Some s → IsShareIn (course_of tag) k s × (s.made ≡ 0)
+    pub seens : (k : ℕ) (s : SeenState) → slice_get lists.seens.items k ≡ Some s → IsOf (fresh_in (course_of tag).payload) k s × (s.list ≡ [])
+    pub marks : (k : ℕ) (m : Marks) → slice_get lists.marks.items k ≡ Some m → IsBlank (slice_index (course_of tag).quotas k) m
+    pub many_passes : length lists.passes.items ≡ count
+    pub many_shares : length lists.shares.items ≡ count
+    pub many_seens : length lists.seens.items ≡ count
+    pub many_marks : length lists.marks.items ≡ count
 
 -- what it gives back beside tokens and marks
 abbrev pub crew_in : {P : Type 0} → FreshCrew P → Crew P
@@ -55,11 +55,11 @@ crew_in crew = record {
 -- places at which it stands in what its token last saw, as many as the turns that it made. Else there are none
 pub record IsFreshCrew {P : Type 0} (rest : P → Rest) (has : Context → Type 0) (level count : ℕ) (tag : Tag) (crew : FreshCrew P) : Type 0
   where
-  pub crew_is : IsCrew rest has level count tag (crew_in crew)
-  pub seens_are : AreAll (fresh_in (course_of tag).payload) count crew.seens.items
-  pub unmarked : crew.started ≡ false → crew.marks.items ≡ []
-  pub many : crew.started ≡ true → length crew.marks.items ≡ count
-  pub marked : (k : ℕ) (s : SeenState) (m : Marks) → slice_get crew.seens.items k ≡ Some s → slice_get crew.marks.items k ≡ Some m
-      → m.turns.items ≡ places_of k s.list
-  pub as_many : (k : ℕ) (s : ShareState) (m : Marks) → slice_get crew.shares.items k ≡ Some s → slice_get crew.marks.items k ≡ Some m
-      → length m.turns.items ≡ s.made
+    pub crew_is : IsCrew rest has level count tag (crew_in crew)
+    pub seens_are : AreAll (fresh_in (course_of tag).payload) count crew.seens.items
+    pub unmarked : crew.started ≡ false → crew.marks.items ≡ []
+    pub many : crew.started ≡ true → length crew.marks.items ≡ count
+    pub marked : (k : ℕ) (s : SeenState) (m : Marks) → slice_get crew.seens.items k ≡ Some s → slice_get crew.marks.items k ≡ Some m
+        → m.turns.items ≡ places_of k s.list
+    pub as_many : (k : ℕ) (s : ShareState) (m : Marks) → slice_get crew.shares.items k ≡ Some s → slice_get crew.marks.items k ≡ Some m
+        → length m.turns.items ≡ s.made

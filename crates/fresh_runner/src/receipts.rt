@@ -29,12 +29,7 @@ pub fn printed_with_receipts(
     ensures run { IfOk result (λ printed. IsMarkedRun (map section_view sections.now) made.now.left.trail.shape printed.items) }
 {
     made.left.journal.facts();
-    let mut out = text(
-        alloc,
-        sections,
-        made.left.trail.turns(),
-        &made.left.journal,
-    )?;
+    let mut out = text(alloc, sections, made.left.trail.turns(), &made.left.journal)?;
     push_lines(&mut out, &made.marks)?;
     Ok(out)
 }

@@ -1,5 +1,4 @@
 use Rattle.std.proofs.Common.{◌++◌, take, ap, sym, ◌∙◌, append_assoc}
-use Rattle.std.proofs.lemmas.Option.{get_or_from_slice_get}
 use Rattle.placed_runner.proofs.Numbered.{joined_more}
 use Rattle.fresh_runner.specs.Receipts.{marks_lines, receipts_line}
 use Rattle.fresh_runner.specs.declared.account.Marks.{Marks}
@@ -15,4 +14,4 @@ loop-caller-preserved c =
     c.in_ok-push_line.ensures ∙ ap (λ turns. c.loop-caller.out.items ++ receipts_line caller turns) c.deref.ensures.value
     ∙ ap (λ front. front ++ line) c.loop-caller.invariant ∙ append_assoc before (marks_lines (take caller marks)) line
     ∙ ap (λ end. before ++ end) (sym (joined_more (λ (m : Marks). m.turns.items) (λ at. receipts_line at.0 at.1) marks caller own own
-    c.loop-caller-test.true (sym (get_or_from_slice_get marks caller own own c.index-marks-caller.is))))
+    c.loop-caller-test.true c.index-marks-caller.is))

@@ -14,6 +14,7 @@ use Rattle.fresh_runner.proofs.roots.fresh_root_of.Goals as goal
 pub returns-in-Ok-clause-dealt : goal.returns-in-Ok-clause-dealt
 returns-in-Ok-clause-dealt c =
     let root = c.in_ok-root.root in
+    let sections = map (λ (section : Section). section.bytes.now) c.args.sections.now in
     let r = c.new-in-Ok.result in
     let fresh = ap (λ (b : FreshBook). b.fresh) c.new-in-Ok.ensures.payload ∙ c.new.ensures in
     let trail = c.new-in-Ok.ensures.trail ∙ c.into_parts-trail.ensures.trail in
@@ -21,6 +22,6 @@ returns-in-Ok-clause-dealt c =
     let as_sections = length-map c.args.sections.now (λ (section : Section). section.bytes.now) in
     let many = c.in-Ok.ensures.tokens ∙ sym as_sections in
     let seens = subst (λ n. AreAll c.in-Ok.fresh.name n c.in-Ok.seens.items) (sym as_sections) c.in-Ok.ensures.seens in
-    fresh_dealt root r _ c.in_ok-root.shares.items c.in-Ok.seens.items trail tag c.in_ok-root.ensures.dealt
+    fresh_dealt root r sections c.in_ok-root.shares.items c.in-Ok.seens.items trail tag c.in_ok-root.ensures.dealt
     (ap (λ (f : FreshState Book). f.tokens) fresh ∙ many)
-    (subst (λ n. AreAll n _ c.in-Ok.seens.items) (ap (λ (f : FreshState Book). f.name) (sym fresh)) seens) c.in-Ok.ensures.blank
+    (subst (λ n. AreAll n (length sections) c.in-Ok.seens.items) (ap (λ (f : FreshState Book). f.name) (sym fresh)) seens) c.in-Ok.ensures.blank

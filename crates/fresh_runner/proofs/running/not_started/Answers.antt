@@ -23,8 +23,11 @@ returns g c =
         passes = c.requires.passes;
         many = many_shares course _ shares seens dealt ∙ count;
         shares = shares_in course _ shares seens dealt;
-        not_started = λ _. (c.new-2.ensures.items, all_each (λ (s : ShareState). s.made ≡ 0) shares
-            (shares_new course _ shares seens dealt));
+        not_started = λ _. (
+          c.new-2.ensures.items,
+          all_each (λ (s : ShareState). s.made ≡ 0) shares
+              (shares_new course _ shares seens dealt),
+        );
         each = λ e. absurd (cc);
         made = λ k s going e. let none = ap (λ l. slice_get l k) (sym c.new-2.ensures.items) ∙ going in absurd (cc);
         refused = refl;

@@ -23,10 +23,10 @@ deal-jobs-requires g c κs =
     let as_sections = length-map c.args.sections.now (λ (section : Section). section.bytes.now) in
     let value = c.deref.ensures.value in
     let blank : (k : ℕ) (s : ShareState) (m : Marks) → slice_get c.args.shares.items k ≡ Some s → slice_get c.in-Some.marks.items k ≡ Some m
-        → IsBlank s.quota m =
+    → IsBlank s.quota m =
     λ k s m here there. c.in-Some.ensures.marks k s m (ap (λ (l : List ShareState). slice_get l k) value ∙ here) there in
     let are : AreLists g.C.Pass.Resting.rest (g.C.Composed.has c.args.lock.now) (g.C.Composed.level c.args.lock.now) tag
-        (length c.args.sections.now) lists =
+    (length c.args.sections.now) lists =
     subst (λ n. AreLists g.C.Pass.Resting.rest (g.C.Composed.has c.args.lock.now) (g.C.Composed.level c.args.lock.now) tag n lists)
     as_sections
     (are_lists g.C.Pass.Resting.rest (g.C.Composed.has c.args.lock.now) (g.C.Composed.level c.args.lock.now) tag _ _ lists
