@@ -30,7 +30,8 @@ use std::sync::Wait;
 use std::thread::Threads;
 use threaded_runner::Book;
 
-impl<'a, 'd, R: Wait, G: Gate> Works<FreshJob<'d, TopPass<Pass>>> for Shift<'a, R, Lock1<FreshBook<'d>>, G> {
+impl<'a, 'd, R: Wait, G: Gate> Works<FreshJob<'d, TopPass<Pass>>>
+    for Shift<'a, R, Lock1<FreshBook<'d>>, G> {
     // the pass and the account are those of one caller of this lock, and the commands are what its section has left
     ghost allows = { λ s j. MayServeFresh ⟦<TopPass<Pass> as Resting>⟧.rest (⟦<Lock1<FreshBook<'d>> as Composed<FreshBook<'d>>>⟧.has s.lock.now)
         (⟦<Lock1<FreshBook<'d>> as Composed<FreshBook<'d>>>⟧.level s.lock.now) (⟦<Lock1<FreshBook<'d>> as Composed<FreshBook<'d>>>⟧.tag s.lock.now)
