@@ -1,6 +1,15 @@
 use Rattle.std.proofs.Common.{rules, ◌∙◌}
+use denote.Param.Send.{sendable}
 use Rattle.fresh_runner.proofs.Served.{all_served, may_serve}
 use Rattle.marked_runner.proofs.one.run_fresh.Goals as goal
+
+pub by_all-jobs-requires-sync-W : goal.by_all-jobs-requires-sync-W
+by_all-jobs-requires-sync-W g c κs within =
+    let passes = c.passes_are_shared.ensures.shared in
+    let fresh = c.freshes_may_be_sent.ensures.sent in
+    let runtime = c.type_bounds.sync-R.shared in
+    let gate = c.type_bounds.sync-G.shared in
+    record { shared = search sendable depth 40 }
 
 pub by_all-jobs-requires-clause-allowed : goal.by_all-jobs-requires-clause-allowed
 by_all-jobs-requires-clause-allowed g c κs within = λ k j e.
