@@ -14,7 +14,7 @@ ghost use Rattle.fresh_runner.specs.Ready.{IsFreshDealt};
 
 use crate::shift::Shift;
 use clof_compose::{Composed, Resting, Root, TopPass};
-use fresh_root::{Seen, freshes_may_be_sent};
+use fresh_root::{Seen, histories_may_be_sent};
 use fresh_runner::{
     FreshBook, FreshCrew, FreshJob, FreshPrepared, Marked, close_fresh, fresh_crew_of,
     prepare_fresh, serve_fresh,
@@ -28,7 +28,6 @@ use placed_runner::{Gate, Section};
 use std::alloc::Global;
 use std::sync::Wait;
 use std::thread::Threads;
-use threaded_runner::Book;
 
 impl<'a, 'd, R: Wait, G: Gate> Works<FreshJob<'d, TopPass<Pass>>>
     for Shift<'a, R, Lock1<FreshBook<'d>>, G> {
@@ -76,7 +75,7 @@ pub fn run_fresh<'a, R: Threads + Wait + Sync, G: Gate + Sync>(
         (⟦<Lock1<FreshBook<'a>> as Composed<FreshBook<'a>>>⟧.tag lock.now) result }
 {
     passes_are_shared();
-    freshes_may_be_sent::<Book<'a>>();
+    histories_may_be_sent();
     let prepared = match prepare_fresh(alloc, lock, passes, shares, seens, sections) {
         Ok(prepared) => prepared,
         Err(crew) => return crew,

@@ -5,11 +5,11 @@ use Rattle.marked_runner.proofs.one.run_fresh.Goals as goal
 
 pub by_all-jobs-requires-sync-W : goal.by_all-jobs-requires-sync-W
 by_all-jobs-requires-sync-W g c κs within =
-    let passes = c.passes_are_shared.ensures.shared in
-    let fresh = c.freshes_may_be_sent.ensures.sent in
-    let runtime = c.type_bounds.sync-R.shared in
-    let gate = c.type_bounds.sync-G.shared in
-    record { shared = search sendable depth 40 }
+    let passes = c.passes_are_shared.ensures in
+    let history = c.histories_may_be_sent.ensures in
+    let runtime = c.type_bounds.sync-R in
+    let gate = c.type_bounds.sync-G in
+    search sendable depth 60
 
 pub by_all-jobs-requires-clause-allowed : goal.by_all-jobs-requires-clause-allowed
 by_all-jobs-requires-clause-allowed g c κs within = λ k j e.
