@@ -20,10 +20,12 @@ same_name y z e =
     let n : y.slot_names ≡ z.slot_names = cc in
     λ i. record { words = w i; slots = s i; views_name = v i; atom = a i; block = b i; offset = o i; slot_names = n i }
 
-pub tags_tell_lem : {P : Type 0} (f g : FreshState P) → fresh_tag f ≡ fresh_tag g → (f.name ≡ g.name) × (f.tag ≡ g.tag)
+pub tags_tell_lem : {P : Type 0} (f g : FreshState P) → fresh_tag f ≡ fresh_tag g
+    → (f.name ≡ g.name) × (f.tokens ≡ g.tokens) × (f.tag ≡ g.tag)
 tags_tell_lem f g e =
     let name : tree_of (numbers_of f.name) ≡ tree_of (numbers_of g.name) = cc in
+    let tokens : f.tokens ≡ g.tokens = cc in
     let payload : f.tag ≡ g.tag = cc in
     let numbers : numbers_of f.name ≡ numbers_of g.name = sym (list_in-tree_of (numbers_of f.name)) ∙ ap list_in name
     ∙ list_in-tree_of (numbers_of g.name) in
-    (same_name f.name g.name numbers, payload)
+    (same_name f.name g.name numbers, tokens, payload)

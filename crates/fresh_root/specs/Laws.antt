@@ -17,9 +17,9 @@ abbrev pub NoReleaseWhileOut : Type 0 → Type 0
 NoReleaseWhileOut P = (f : FreshState P) (callers : List ℕ) → f.payload ≡ None → All (λ caller. caller < no_caller) callers
     → fresh_calls f ≢ callers
 
--- a tag tells the name and the payload's tag
+-- a tag tells the name, the number of tokens and the payload's tag
 abbrev pub TagsTell : Type 0 → Type 0
-TagsTell P = (f g : FreshState P) → fresh_tag f ≡ fresh_tag g → (f.name ≡ g.name) × (f.tag ≡ g.tag)
+TagsTell P = (f g : FreshState P) → fresh_tag f ≡ fresh_tag g → (f.name ≡ g.name) × (f.tokens ≡ g.tokens) × (f.tag ≡ g.tag)
 
 -- of the lists of two views that aren't spent, one begins the other
 abbrev pub WhatWasSeenIsOrdered : Type 0

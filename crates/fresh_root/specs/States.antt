@@ -1,7 +1,7 @@
 -- What a token, a history and a Fresh are seen as.
 use Rattle.std.specs.Prelude.{◌≡◌, ℕ, List, [], ◌∷◌, ◌++◌, length, slice_get, Option, None, Some}
 use Rattle.atomic_table.specs.Seated.{TableId}
-use Rattle.lock_rules.specs.Tag.{Tag, fork}
+use Rattle.lock_rules.specs.Tag.{Tag, leaf, fork}
 use Rattle.lock_rules.specs.Views.{tree_of}
 
 -- the name of the Fresh that it belongs to, its caller, and the calls that it last saw
@@ -40,9 +40,9 @@ fresh_calls f = calls_while f.payload f.list
 abbrev pub tree_of_name : TableId → Tag
 tree_of_name z = tree_of (z.words ∷ z.slots ∷ z.views_name ∷ z.atom ∷ z.block ∷ z.offset ∷ z.slot_names)
 
--- which Fresh it is, and the tag of its payload
+-- which Fresh it is, how many tokens it gave, and the tag of its payload
 abbrev pub fresh_tag : {P : Type 0} → FreshState P → Tag
-fresh_tag f = fork (tree_of_name f.name) f.tag
+fresh_tag f = fork (tree_of_name f.name) (fork (leaf f.tokens) f.tag)
 
 -- the token of a caller of the Fresh
 pub record IsOf (fresh : TableId) (caller : ℕ) (s : SeenState) : Type 0 where

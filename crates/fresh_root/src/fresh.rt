@@ -41,7 +41,7 @@ impl<P: Payload> Model for Fresh<P> {
 }
 
 /// Its calls are the callers of the history, and behind them a number that is no caller's while the payload is out. Its tag says which
-/// `Fresh` it is, and has the tag of its payload.
+/// `Fresh` it is and how many tokens it gave, and has the tag of its payload.
 impl<P: Payload> Payload for Fresh<P> {
     ghost use Rattle.fresh_root.specs.States.{fresh_calls, fresh_tag};
 

@@ -1,6 +1,7 @@
 //! Laws of a counted history. Each is a function that does nothing, whose contract is the law.
 ghost use Rattle.std.specs.Thread.{IsSend};
 ghost use Rattle.fresh_root.specs.contracts.fresh.Fresh.{the_row};
+ghost use Rattle.fresh_root.specs.contracts.history.History.{the_row as the_history};
 ghost use Rattle.fresh_root.specs.Laws.{MarksStand, NoReleaseWhileOut, TagsTell, WhatWasSeenIsOrdered};
 
 use crate::history::History;
@@ -18,7 +19,7 @@ pub fn no_release_while_out<P>()
     ensures { NoReleaseWhileOut P }
 {}
 
-/// Two `Fresh` of one tag are one, and so are the tags of their payloads.
+/// Two `Fresh` of one tag are one, with as many tokens, and so are the tags of their payloads.
 pub fn tags_tell<P>()
     ensures { TagsTell P }
 {}
@@ -35,4 +36,12 @@ pub fn freshes_may_be_sent<P: Payload + Send>()
 {
     is_sent::<History>();
     is_sent::<Option<P>>();
+}
+
+/// A counted history may go to another thread. The checker finds what follows for a lock whose root has a `Fresh` over a payload that
+/// borrows where this is called: what the law above says is of one lifetime.
+pub fn histories_may_be_sent()
+    ensures { IsSend the_history }
+{
+    is_sent::<History>();
 }

@@ -1,0 +1,12 @@
+pub mod Items
+pub mod Places
+pub mod Tags
+pub mod Told
+pub mod Holders
+pub mod Accounts
+pub mod Brought
+pub mod Crews
+pub mod Served
+pub mod Ends
+pub mod Settled
+pub mod Printing
