@@ -34,7 +34,8 @@ pub record AreLists {P : Type 0} (rest : P → Rest) (has : Context → Type 0) 
   where
     pub passes : (k : ℕ) (p : P) → slice_get lists.passes.items k ≡ Some p → IsNumber has level tag k (rest p).context
     pub shares : (k : ℕ) (s : ShareState) → slice_get lists.shares.items k ≡ Some s → IsShareIn (course_of tag) k s × (s.made ≡ 0)
-    pub seens : (k : ℕ) (s : SeenState) → slice_get lists.seens.items k ≡ Some s → IsOf (fresh_in (course_of tag).payload) k s × (s.list ≡ [])
+    pub seens : (k : ℕ) (s : SeenState) → slice_get lists.seens.items k ≡ Some s
+        → IsOf (fresh_in (course_of tag).payload) k s × (s.list ≡ [])
     pub marks : (k : ℕ) (m : Marks) → slice_get lists.marks.items k ≡ Some m → IsBlank (slice_index (course_of tag).quotas k) m
     pub many_passes : length lists.passes.items ≡ count
     pub many_shares : length lists.shares.items ≡ count

@@ -16,7 +16,8 @@ use std::alloc::{AllocError, Global};
 // The bytes of a caller's line beside the digits of its number and its turns.
 const LINE_BYTES: usize = 10;
 
-/// The printed text of a run that has finished, whose callers have these sections, and behind it a line of receipts for each caller. Without
+/// The printed text of a run that has finished, whose callers have these sections, and behind it a line of receipts for each caller.
+/// Without
 /// memory for it nothing is given.
 pub fn printed_with_receipts(
     alloc: Global,

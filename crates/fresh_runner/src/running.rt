@@ -98,7 +98,8 @@ fn not_started<'a, C: Composed<FreshBook<'a>>>(
     requires passes { AreAll (λ p. (C.Pass.rest p).context) (C.has _lock.now) (C.level _lock.now) (C.tag _lock.now) (C.count _lock.now)
         passes.items }
     requires count { C.count _lock.now ≡ length _sections.now }
-    requires dealt { IsFreshDealt (course_of (C.tag _lock.now)) (map (λ section. section.bytes.now) _sections.now) shares.items seens.items }
+    requires dealt { IsFreshDealt (course_of (C.tag _lock.now)) (map (λ section. section.bytes.now) _sections.now) shares.items
+        seens.items }
     ensures { IsFreshCrew C.Pass.rest (C.has _lock.now) (C.level _lock.now) (C.count _lock.now) (C.tag _lock.now) result }
 {
     FreshCrew {
