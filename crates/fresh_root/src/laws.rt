@@ -38,8 +38,7 @@ pub fn freshes_may_be_sent<P: Payload + Send>()
     is_sent::<Option<P>>();
 }
 
-/// A counted history may go to another thread. The checker finds what follows for a lock whose root has a `Fresh` over a payload that
-/// borrows where this is called: what the law above says is of one lifetime.
+/// A counted history may go to another thread.
 pub fn histories_may_be_sent()
     ensures { IsSend the_history }
 {
