@@ -50,10 +50,10 @@ pub(crate) fn read_keys<'a>(words: Words<'a>) -> Result<Keys<'a>, LineFault>
     ensures { Answers (λ keys. keys_left keys) (keys_of (words_left words.entry)) result }
 {
     let mut more = words;
-    if more.next().is_none() {
+    let Some(first) = more.next() else {
         return Err(LineFault::Unknown);
-    }
-    if are_keys(words) {
+    };
+    if is_key(first) && are_keys(more) {
         Ok(Keys::new(words))
     } else {
         Err(LineFault::Format)

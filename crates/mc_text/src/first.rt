@@ -1,5 +1,6 @@
 // The command at the front of a text.
-ghost use Rattle.std.specs.Prelude.{◌≡◌, ◌+◌, ◌≤◌, length, true, IfSome, option_map};
+ghost use Rattle.std.specs.Prelude.{◌≡◌, ◌+◌, ◌≤◌, length, true, Contains, IfSome, MatchOption, option_map};
+ghost use Rattle.byte_text.specs.Cuts.{IsCutAt};
 ghost use Rattle.mc_text.specs.Request.{view, request_of, spelling_of};
 ghost use Rattle.mc_text.specs.View.{header_view};
 ghost use Rattle.mc_text.specs.Reading.{line_end, stored, first_command};
@@ -7,7 +8,7 @@ ghost use Rattle.mc_text.specs.Lone.{IsLoneLetter, Passes};
 
 use crate::command::{Command, LineFault};
 use crate::line::{Header, Line, read_line};
-use byte_text::cut_at;
+use memchr::memchr;
 
 // The greatest number of bytes of a value.
 const VALUE_LIMIT: usize = 1_048_576;
@@ -17,7 +18,7 @@ const VALUE_LIMIT: usize = 1_048_576;
 pub(crate) fn first_command(text: &[u8]) -> Option<Command<'_>>
     ensures { option_map view result ≡ first_command text.now }
 {
-    let (content, behind) = cut_at(text, b'\n')?;
+    let (content, behind) = cut_line(text)?;
     let line_length = content.len() + 1;
     match read_line(content, &text[..line_length]) {
         Line::Whole(command) => Some(command),
@@ -37,8 +38,16 @@ pub(crate) fn pass_line(text: &[u8]) -> Option<&[u8]>
     if !is_lone(*text.first()?) {
         return None;
     }
-    let (_, behind) = cut_at(text, b'\n')?;
+    let (_, behind) = cut_line(text)?;
     Some(behind)
+}
+
+// The line at the front of a text without its `\n`, and what stands behind that; `None` where the text has no `\n`.
+fn cut_line(text: &[u8]) -> Option<(&[u8], &[u8])>
+    ensures { MatchOption result (¬ Contains text.now 10) (λ parts. IsCutAt 10 text.now parts.0.now parts.1.now) }
+{
+    let place = memchr(b'\n', text)?;
+    Some((&text[..place], &text[place + 1..]))
 }
 
 // Whether no name of a storage command, nor `quit`, begins with this letter, and it is one of a name.
@@ -60,7 +69,7 @@ fn line_end(tail: &[u8]) -> Option<(bool, usize)>
     } else if tail.starts_with(b"\r\n") {
         Some((true, 2))
     } else {
-        let (other, _) = cut_at(tail, b'\n')?;
+        let (other, _) = cut_line(tail)?;
         Some((false, other.len() + 1))
     }
 }

@@ -1,5 +1,5 @@
 // How bytes are printed between quotes.
-ghost use Rattle.std.specs.Prelude.{◌≡◌, ◌++◌, ◌&&◌, not, ◌==◌, nat_lt, ◌<◌, ◌≤◌, true, drop, length, take, IfSome, MatchOption, OnOk};
+ghost use Rattle.std.specs.Prelude.{◌≡◌, ◌++◌, ◌&&◌, not, ◌==◌, nat_lt, ◌<◌, ◌≤◌, true, drop, length, take, IfOk, IfSome, MatchOption, OnOk};
 ghost use Rattle.placed_runner.specs.Text.{escaped, escaped_byte, quoted};
 
 use byte_text::hex_digit;
@@ -30,10 +30,27 @@ fn push_escaped(out: &mut Vec<u8>, text: &[u8]) -> Result<(), AllocError>
     let mut rest = text;
     while let Some((plain, byte, behind)) = split_plain(rest) {
         out.extend_from_slice(plain)?;
-        push_escape(out, byte)?;
-        rest = behind;
+        rest = push_first(out, byte, behind)?;
     }
     out.extend_from_slice(rest)
+}
+
+// Appends a byte as it is printed between quotes, and a `\n` that stands behind a `\r` with it. The answer is what is still to be appended.
+fn push_first<'a>(out: &mut Vec<u8>, byte: u8, behind: &'a [u8]) -> Result<&'a [u8], AllocError>
+    ensures shorter { IfOk result (λ rest. length rest.now ≤ length behind.now) }
+    ensures appended { IfOk result (λ rest. out.new.items ++ escaped rest.now
+        ≡ out.old.items ++ (escaped_byte byte ++ escaped behind.now)) }
+{
+    match behind {
+        [b'\n', rest @ ..] if byte == b'\r' => {
+            out.extend_from_slice(b"\\r\\n")?;
+            Ok(rest)
+        }
+        _ => {
+            push_escape(out, byte)?;
+            Ok(behind)
+        }
+    }
 }
 
 // The bytes in front that stand for themselves, the first other byte, and what stands behind it.

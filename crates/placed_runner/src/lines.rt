@@ -31,53 +31,48 @@ pub fn push_turn(
 ) -> Result<(), AllocError>
     ensures { OnOk result (out.new.items ≡ out.old.items ++ turn_line (map section_view sections.now) number (line_view line.now)) }
 {
-    push_place(out, sections, number, line.turn.caller)?;
-    push_levels(out, line.turn)?;
+    push_labelled(out, b"turn ", u64::from(number))?;
+    push_holder(out, pu_of(sections, line.turn.caller), line.turn)?;
     push_quoted(out, line.command)?;
     push_quoted(out, line.reply)?;
     out.extend_from_slice(b"\n")
 }
 
-// Appends the first numbers of a turn's line: its own, its caller and where that stands.
-fn push_place(
-    out: &mut Vec<u8>,
-    sections: &[Section<'_>],
-    number: u32,
-    caller: u32,
-) -> Result<(), AllocError>
+// Appends the numbers of a turn's line behind its own: its caller, where that stands, and how it found and left the lock. Under a lock of
+// one level the last are all 0.
+fn push_holder(out: &mut Vec<u8>, pu: u32, turn: Turn) -> Result<(), AllocError>
     ensures { OnOk result (out.new.items
-        ≡ out.old.items ++ labelled (place_numbers (map section_view sections.now) number caller)) }
+        ≡ out.old.items ++ labelled ((codes " caller ", turn.caller) ∷ (codes " pu ", pu) ∷ level_numbers turn)) }
 {
-    push_labelled(out, b"turn ", u64::from(number))?;
-    let pu = pu_of(sections, caller);
-    if caller < 10 && pu < 10 {
-        return out.extend_from_slice(&short_place(caller as u8, pu as u8));
+    if turn.caller < 10 && pu < 10 && turn.climb == 0 && turn.tests == 0 && turn.left == 0 {
+        return out.extend_from_slice(&short_holder(turn.caller as u8, pu as u8));
     }
-    push_labelled(out, b" caller ", u64::from(caller))?;
-    push_labelled(out, b" pu ", u64::from(pu))
+    push_labelled(out, b" caller ", u64::from(turn.caller))?;
+    push_labelled(out, b" pu ", u64::from(pu))?;
+    push_levels(out, turn)
 }
 
-// A caller and where it stands, with their names, where both numbers have one digit.
+// A caller and where it stands, of one digit each, and the numbers of a turn under a lock of one level, with their names.
 #[inline(always)]
-fn short_place(caller: u8, pu: u8) -> [u8; 14]
+fn short_holder(caller: u8, pu: u8) -> [u8; 37]
     requires caller { caller < 10 }
     requires pu { pu < 10 }
-    ensures { result ≡ labelled ((codes " caller ", caller) ∷ (codes " pu ", pu) ∷ []) }
+    ensures { result ≡ labelled ((codes " caller ", caller) ∷ (codes " pu ", pu) ∷ (codes " climb ", 0) ∷ (codes " tests ", 0)
+        ∷ (codes " left ", 0) ∷ []) }
 {
     let caller = b'0' + caller;
     let pu = b'0' + pu;
     [
-        b' ', b'c', b'a', b'l', b'l', b'e', b'r', b' ', caller, b' ', b'p', b'u', b' ', pu,
+        b' ', b'c', b'a', b'l', b'l', b'e', b'r', b' ', caller, b' ', b'p', b'u', b' ', pu, b' ',
+        b'c', b'l', b'i', b'm', b'b', b' ', b'0', b' ', b't', b'e', b's', b't', b's', b' ', b'0',
+        b' ', b'l', b'e', b'f', b't', b' ', b'0',
     ]
 }
 
-// Appends the other numbers of a turn's line: how it found and left the lock. Under a lock of one level they are all 0.
+// Appends how a turn found and left the lock.
 fn push_levels(out: &mut Vec<u8>, turn: Turn) -> Result<(), AllocError>
     ensures { OnOk result (out.new.items ≡ out.old.items ++ labelled (level_numbers turn)) }
 {
-    if turn.climb == 0 && turn.tests == 0 && turn.left == 0 {
-        return out.extend_from_slice(b" climb 0 tests 0 left 0");
-    }
     push_labelled(out, b" climb ", u64::from(turn.climb))?;
     push_labelled(out, b" tests ", u64::from(turn.tests))?;
     push_labelled(out, b" left ", u64::from(turn.left))
