@@ -25,20 +25,20 @@ module _ {P : Type 0} {rest : P → Rest} {has : Context → Type 0} {sound : Ty
   })
 
   module _ {kinds : List LockKind} {sections : List (List ℕ)} {shares : List ShareState} (may : MayRun high shape kinds sections shares)
-      where
-    -- which is the one that the run needs
-    pub may_still : MayRun tag shape kinds sections shares
-    may_still = subst (λ (t : Tag). MayRun t shape kinds sections shares) (sym raised.tag_is) may
+    where
+      -- which is the one that the run needs
+      pub may_still : MayRun tag shape kinds sections shares
+      may_still = subst (λ (t : Tag). MayRun t shape kinds sections shares) (sym raised.tag_is) may
 
-    -- and with its lowest level it is ready
-    pub made_ready : lowest ≡ 0 → IsReady rest has sound level count tag sections passes shares
-    made_ready is =
-        let own = may_still in
-        let whole = subst (λ (n : ℕ). IsRaised rest has sound level count tag shape n high passes) is raised in
-        record {
-          sound_is = whole.sound_is;
-          lowest = whole.level_is;
-          count_is = whole.contexts.lowest refl ∙ sym (ap callers_of own.shape_is) ∙ own.dealt.callers;
-          all = whole.all;
-          dealt = own.dealt;
-        }
+      -- and with its lowest level it is ready
+      pub made_ready : lowest ≡ 0 → IsReady rest has sound level count tag sections passes shares
+      made_ready is =
+          let own = may_still in
+          let whole = subst (λ (n : ℕ). IsRaised rest has sound level count tag shape n high passes) is raised in
+          record {
+            sound_is = whole.sound_is;
+            lowest = whole.level_is;
+            count_is = whole.contexts.lowest refl ∙ sym (ap callers_of own.shape_is) ∙ own.dealt.callers;
+            all = whole.all;
+            dealt = own.dealt;
+          }

@@ -5,6 +5,12 @@ ghost use Rattle.clof_compose.specs.contracts.level_tokens.LevelPass.{the_row as
 
 use keep_local::receipts_are_shared;
 use lock_rules::passes_are_shared;
+use lock_tree::LowPass;
+
+// What its type says may be shared.
+fn is_shared<T: Sync>()
+    ensures { IsSync T.row }
+{}
 
 /// An idle pass of a lock of more than one level may be shared between threads.
 pub(crate) fn low_passes_are_shared()
@@ -12,4 +18,5 @@ pub(crate) fn low_passes_are_shared()
 {
     passes_are_shared();
     receipts_are_shared();
+    is_shared::<LowPass>();
 }

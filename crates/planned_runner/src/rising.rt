@@ -37,8 +37,8 @@ pub(crate) fn run_flat<
     requires shape { root.trail.shape ≡ given.shape.now }
     requires may { MayRun (root_tag P.tag root) given.shape.now given.plan.now.kinds (P.told given.sections) given.shares.items }
     ensures finished { IfOk result (λ l. IsFinished (P.left l).trail (P.left l).journal) }
-    ensures shape { IfOk result (λ l. (P.left l).trail.shape ≡ given.shape.now) }
-    ensures sections { IfOk result (λ l. (P.left l).journal.sections ≡ P.told given.sections) }
+    ensures shape { IfOk result (λ l. (P.left l).trail.shape ≡ given.entry.shape.now) }
+    ensures sections { IfOk result (λ l. (P.left l).journal.sections ≡ P.told given.entry.sections) }
 {
     passes_are_shared();
     match make_top_of::<P>(given.alloc, given.plan, root, given.shape, 0) {
@@ -67,8 +67,8 @@ pub(crate) fn run_deep<
     requires shape { root.trail.shape ≡ given.shape.now }
     requires may { MayRun (root_tag P.tag root) given.shape.now given.plan.now.kinds (P.told given.sections) given.shares.items }
     ensures finished { IfOk result (λ l. IsFinished (P.left l).trail (P.left l).journal) }
-    ensures shape { IfOk result (λ l. (P.left l).trail.shape ≡ given.shape.now) }
-    ensures sections { IfOk result (λ l. (P.left l).journal.sections ≡ P.told given.sections) }
+    ensures shape { IfOk result (λ l. (P.left l).trail.shape ≡ given.entry.shape.now) }
+    ensures sections { IfOk result (λ l. (P.left l).journal.sections ≡ P.told given.entry.sections) }
 {
     passes_are_shared();
     match make_top_of::<P>(given.alloc, given.plan, root, given.shape, top) {
@@ -101,8 +101,8 @@ where
     requires level { level < top_of given.shape.now }
     requires most { level < 4 }
     ensures finished { IfOk result (λ l. IsFinished (P.left l).trail (P.left l).journal) }
-    ensures shape { IfOk result (λ l. (P.left l).trail.shape ≡ given.shape.now) }
-    ensures sections { IfOk result (λ l. (P.left l).journal.sections ≡ P.told given.sections) }
+    ensures shape { IfOk result (λ l. (P.left l).trail.shape ≡ given.entry.shape.now) }
+    ensures sections { IfOk result (λ l. (P.left l).journal.sections ≡ P.told given.entry.sections) }
 {
     passes_are_shared();
     low_passes_are_shared();
@@ -141,8 +141,8 @@ where
     requires level { level < top_of given.shape.now }
     requires most { level < 3 }
     ensures finished { IfOk result (λ l. IsFinished (P.left l).trail (P.left l).journal) }
-    ensures shape { IfOk result (λ l. (P.left l).trail.shape ≡ given.shape.now) }
-    ensures sections { IfOk result (λ l. (P.left l).journal.sections ≡ P.told given.sections) }
+    ensures shape { IfOk result (λ l. (P.left l).trail.shape ≡ given.entry.shape.now) }
+    ensures sections { IfOk result (λ l. (P.left l).journal.sections ≡ P.told given.entry.sections) }
 {
     passes_are_shared();
     low_passes_are_shared();
@@ -181,8 +181,8 @@ where
     requires level { level < top_of given.shape.now }
     requires most { level < 2 }
     ensures finished { IfOk result (λ l. IsFinished (P.left l).trail (P.left l).journal) }
-    ensures shape { IfOk result (λ l. (P.left l).trail.shape ≡ given.shape.now) }
-    ensures sections { IfOk result (λ l. (P.left l).journal.sections ≡ P.told given.sections) }
+    ensures shape { IfOk result (λ l. (P.left l).trail.shape ≡ given.entry.shape.now) }
+    ensures sections { IfOk result (λ l. (P.left l).journal.sections ≡ P.told given.entry.sections) }
 {
     passes_are_shared();
     low_passes_are_shared();
@@ -221,8 +221,8 @@ where
     requires level { level < top_of given.shape.now }
     requires most { level ≡ 0 }
     ensures finished { IfOk result (λ l. IsFinished (P.left l).trail (P.left l).journal) }
-    ensures shape { IfOk result (λ l. (P.left l).trail.shape ≡ given.shape.now) }
-    ensures sections { IfOk result (λ l. (P.left l).journal.sections ≡ P.told given.sections) }
+    ensures shape { IfOk result (λ l. (P.left l).trail.shape ≡ given.entry.shape.now) }
+    ensures sections { IfOk result (λ l. (P.left l).journal.sections ≡ P.told given.entry.sections) }
 {
     passes_are_shared();
     low_passes_are_shared();

@@ -115,7 +115,7 @@ where
         passes.items given.shares.items }
     ensures finished { IfOk result (λ l. IsFinished (P.left l).trail (P.left l).journal) }
     ensures shape { IfOk result (λ l. (P.left l).trail.shape ≡ (course_of (C.tag lock)).shape) }
-    ensures sections { IfOk result (λ l. (P.left l).journal.sections ≡ P.told given.sections) }
+    ensures sections { IfOk result (λ l. (P.left l).journal.sections ≡ P.told given.entry.sections) }
 {
     if given.walk {
         let Given {
