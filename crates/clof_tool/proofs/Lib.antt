@@ -2,7 +2,6 @@ pub mod Checks
 pub mod Codes
 pub mod Drills
 pub mod Judgements
-pub mod LockPlans
 pub mod Machine
 pub mod Pairs
 pub mod Places

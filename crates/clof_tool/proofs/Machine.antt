@@ -1,5 +1,5 @@
 -- The machine of a drill, and the plan of its lock.
-use Rattle.std.proofs.Common.{◌≡◌, ◌⊎◌, ℕ, List, [], ◌∷◌, length, Some, None, Err, codes, refl, ap, sym, ◌∙◌, subst, inl, inr, arith}
+use Rattle.std.proofs.Common.{◌≡◌, ◌⊎◌, ℕ, List, Some, None, Err, codes, refl, sym, ◌∙◌, subst, inl, inr, arith}
 use Rattle.std.specs.Prelude.{IsOk, Option, Result}
 use Rattle.out_of_memory.specs.Memory.{UnlessMemory}
 use Rattle.synth_text.specs.declared.description.Description.{Description}
@@ -17,12 +17,7 @@ use Rattle.topo_tree.specs.Numbers.{first_fault, indexes_fault, numbers_of}
 use Rattle.lock_select.specs.Texts.{keep_of}
 use Rattle.lock_plan.specs.declared.fault.PlanFault.{PlanFault}
 use Rattle.lock_plan.specs.declared.fault.PlanFault.TheVariants.{OutOfMemory}
-use Rattle.synth_text.specs.IndexTexts.{entries_of}
-use Rattle.lock_plan.specs.Lists.{dash_list}
-use Rattle.lock_plan.specs.declared.kind.LockKind.{LockKind}
-use Rattle.lock_plan.specs.declared.kind.LockKind.TheVariants.{Mcs, Clh, Hem}
-use Rattle.lock_plan.specs.declared.plan.Plan.{Plan}
-use Rattle.lock_plan.specs.Plans.{IsPlan, PlanRefused, first_misplaced, kind_named, plan_fault}
+use Rattle.lock_plan.specs.Plans.{PlanRefused, first_misplaced, kind_named, plan_fault}
 use Rattle.command_texts.specs.declared.status.Status.{Status}
 use Rattle.command_texts.specs.declared.status.Status.TheVariants as statuses
 use Rattle.command_texts.specs.TopoText.{IsBuilt}
@@ -79,16 +74,3 @@ memory_for_plan described fault same (inl refused) =
     (subst (λ (d : Description). plan_fault d (codes "l3,package,machine") (Some (codes "mcs-clh-hem")) (codes "16") ≡ None) (sym same)
     lock_planned) refused
 memory_for_plan described fault same (inr memory) = memory
-
--- the plan of its lock has three levels
-lock_kinds : entries_of kind_named (dash_list (codes "mcs-clh-hem")) ≡ Some (Mcs ∷ Clh ∷ Hem ∷ [])
-unfolding kind_named
-lock_kinds = refl
-
-some_kinds : (one other : List LockKind) → Some one ≡ Some other → one ≡ other
-some_kinds one other same = cc
-
-pub lock_levels : (described : Description) (plan : Plan)
-    → IsPlan described (codes "l3,package,machine") (Some (codes "mcs-clh-hem")) (codes "16") plan → length plan.depths ≡ 3
-lock_levels described plan is =
-    sym is.kinds_are.1 ∙ ap length (some_kinds plan.kinds (Mcs ∷ Clh ∷ Hem ∷ []) (sym is.kinds_are.0 ∙ lock_kinds))

@@ -1,6 +1,5 @@
 pub mod Checking
 pub mod Drilling
-pub mod LockPlan
 pub mod Outcome
 pub mod Answered
 pub mod Ended

@@ -10,7 +10,6 @@ use Rattle.cpu_set.specs.declared.fault.SetFault.{SetFault}
 use Rattle.clof_tool.specs.Run.{input_limit, PrintsSections, RefusesSections, RefusesPlanned, RunRefuses, OnDescribed}
 use Rattle.drill_text.specs.Drill.{drill_text}
 use Rattle.clof_tool.specs.Checking.{pair_limit, CheckRefuses, RefusesChecked, RefusesPair, TellsChecked}
-use Rattle.clof_tool.specs.LockPlan.{HasLock}
 use Rattle.command_texts.specs.RunPlan.{HasPlan}
 use Rattle.command_texts.specs.SetText.{PrintsSet, IsRefused}
 use Rattle.command_texts.specs.CalcText.{PrintsCalc, CalcRefuses}
@@ -122,9 +121,9 @@ Found left given given_now status described =
     ((status ≡ statuses.Limit Input) × WasTooLong input_limit left given given_now)
     ⊎ ((input : List ℕ) × WasRead left given given_now input × (length input ≤ input_limit) × RefusesSections described input status)
 
--- there is a plan whose lock the program has, and what was read tells so
+-- there is a plan, and what was read tells so
 abbrev pub FoundPlanned : Running → Option (List ℕ) → ℕ → ℕ → Status → Description → Type 0
-FoundPlanned asked left given given_now status described = HasLock described asked × Found left given given_now status described
+FoundPlanned asked left given given_now status described = HasPlan described asked × Found left given given_now status described
 
 -- what was read tells that `select` refuses it with this status: too much of it, or no trace
 abbrev pub FoundNoTrace : Option (List ℕ) → ℕ → ℕ → Status → Description → Type 0

@@ -12,9 +12,8 @@ use Rattle.command_texts.specs.declared.status.Fault.TheVariants.{Section, Input
 use Rattle.command_texts.specs.declared.status.Status.{Status}
 use Rattle.command_texts.specs.declared.status.Status.TheVariants as statuses
 use Rattle.command_texts.specs.TopoText.{IsBuilt, TopoRefuses}
-use Rattle.command_texts.specs.RunPlan.{PlanOf}
+use Rattle.command_texts.specs.RunPlan.{PlanOf, HasPlan, RefusesPlan}
 use Rattle.command_words.specs.Asked.{Running}
-use Rattle.clof_tool.specs.LockPlan.{HasLock, RefusesLock}
 
 -- the greatest length of an input
 abbrev pub input_limit : ℕ
@@ -68,8 +67,8 @@ pub record OnDescribed (text : List ℕ) (P : Description → Type 0) : Type 0 w
 -- the words are refused: the description, or on what it describes the plan
 abbrev pub RunRefuses : Running → Status → Type 0
 RunRefuses asked status =
-    TopoRefuses asked.description status ⊎ OnDescribed asked.description (λ described. RefusesLock described asked status)
+    TopoRefuses asked.description status ⊎ OnDescribed asked.description (λ described. RefusesPlan described asked status)
 
--- there is a plan whose lock the program has, and an input is refused
+-- there is a plan, and an input is refused
 abbrev pub RefusesPlanned : Running → List ℕ → Status → Description → Type 0
-RefusesPlanned asked input status described = HasLock described asked × Refuses described input status
+RefusesPlanned asked input status described = HasPlan described asked × Refuses described input status

@@ -1,9 +1,8 @@
 // What `drill` prints.
-ghost use Rattle.std.specs.Prelude.{◌≡◌, ◌≤◌, length, IfOk, IfErr};
+ghost use Rattle.std.specs.Prelude.{◌≡◌, IfOk, IfErr};
 ghost use Rattle.lock_plan.specs.Plans.{IsPlanFor};
 ghost use Rattle.drill_text.specs.Drill.{drill_text};
 ghost use Rattle.clof_tool.specs.Drilling.{drilled_machine};
-ghost use Rattle.clof_tool.specs.LockPlan.{level_limit};
 
 use crate::Status;
 use crate::running::shape_for;
@@ -72,8 +71,7 @@ fn only_memory(_status: Status) -> OutOfMemory
 // The plan of a drill's lock.
 fn plan_on(alloc: Global, tree: &Tree) -> Result<Plan, OutOfMemory>
     requires { tree.now ≡ drilled_machine }
-    ensures plan { IfOk result (IsPlanFor tree.now) }
-    ensures few { IfOk result (λ plan. length plan.depths ≤ level_limit) }
+    ensures { IfOk result (IsPlanFor tree.now) }
 {
     match Plan::read(alloc, tree, LEVELS, Some(LOCKS), KEEPS) {
         Ok(plan) => Ok(plan),

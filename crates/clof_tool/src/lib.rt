@@ -6,7 +6,6 @@ mod checking;
 mod drilling;
 mod judging;
 mod laws;
-mod planning;
 mod process;
 mod report;
 mod running;

@@ -7,7 +7,6 @@ ghost use Rattle.lock_plan.specs.Shapes.{IsShapeOf};
 ghost use Rattle.placed_runner.specs.Sections.{caller_limit};
 ghost use Rattle.placed_runner.specs.Views.{section_view};
 ghost use Rattle.command_texts.specs.declared.status.Status.{Status as AnyStatus};
-ghost use Rattle.clof_tool.specs.LockPlan.{level_limit};
 ghost use Rattle.clof_tool.specs.Run.{input_limit, section_status, PrintsUnder, RefusesSections, RunsUnder};
 ghost use Rattle.command_texts.specs.Ends.{EndsEarly};
 
@@ -34,7 +33,6 @@ pub(crate) fn run_text<R: Threads + Wait + Sync, G: Gate + Sync>(
     gate: &G,
 ) -> Result<Vec<u8>, Status>
     requires plan { IsPlanFor tree.now plan.now }
-    requires few_levels { length plan.now.depths ≤ level_limit }
     requires input { length input.now ≤ input_limit }
     ensures ok { IfOk result (λ printed. PrintsUnder tree.now plan.now input.now printed.items) }
     ensures err { IfErr result (λ status. (status ≡ Status.OutOfMemory) ⊎ RefusesSections tree.now input.now status) }
@@ -66,7 +64,6 @@ fn run_under<R: Threads + Wait + Sync, G: Gate + Sync>(
     gate: &G,
 ) -> Result<Vec<u8>, OutOfMemory>
     requires plan { IsPlanFor tree.now plan.now }
-    requires few_levels { length plan.now.depths ≤ level_limit }
     requires pus { All (λ section. section.pu < pu_count tree.now) sections.now }
     requires few { length sections.now ≤ caller_limit }
     requires small { sum_by (λ section. length section.bytes.now) sections.now < 2 ^ 32 }

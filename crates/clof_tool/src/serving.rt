@@ -8,15 +8,15 @@ ghost use Rattle.command_words.specs.Asked.{Run};
 ghost use Rattle.command_words.specs.Plain.{plain_running};
 ghost use Rattle.command_texts.specs.declared.status.Status.{Status as AnyStatus};
 ghost use Rattle.command_texts.specs.Ends.{IsRefusal, HasWritten};
-ghost use Rattle.clof_tool.specs.LockPlan.{level_limit, RefusesLock};
+ghost use Rattle.command_texts.specs.RunPlan.{RefusesPlan};
 ghost use Rattle.clof_tool.specs.Run.{input_limit, PrintsSections, PrintsUnder, Refuses, RefusesPlanned, RunRefuses};
 ghost use Rattle.clof_tool.specs.Outcome.{WasRead, Found, FoundPlanned};
 ghost use Rattle.clof_tool.specs.Answered.{Answered, AnswersUnrefused};
 
 use crate::Status;
 use crate::answer::read_input;
-use crate::planning::plan_for;
 use crate::running::run_text;
+use command_texts::read_plan;
 use command_texts::topology::tree;
 use command_words::Running;
 use edge_io::Source;
@@ -60,7 +60,7 @@ fn run_in<R: Threads + Wait + Sync, S: Source, G: Gate + Sync>(
         × WasRead (S.left source.old) (S.given source.old) (S.given source.new) input
         × (length input ≤ input_limit) × PrintsSections tree.now (plain_running asked.entry) input printed.items) }
     ensures at_end { OnOk result (IsDrained (S.left source.old) (S.left source.new)) }
-    ensures cause { IfErr result (λ status. IsRefusal status → RefusesLock tree.now (plain_running asked.entry) status
+    ensures cause { IfErr result (λ status. IsRefusal status → RefusesPlan tree.now (plain_running asked.entry) status
         ⊎ FoundPlanned (plain_running asked.entry) (S.left source.old) (S.given source.old) (S.given source.new) status tree.now) }
     ensures silent { IfErr result (λ status. HasWritten status → ⊥) }
     ensures not_usage { result ≢ Err Status.Usage }
@@ -68,19 +68,19 @@ fn run_in<R: Threads + Wait + Sync, S: Source, G: Gate + Sync>(
     ensures read_in_part { result ≡ Err Status.ReadFault →
         HasGiven input_limit (S.left source.old) (S.left source.new) (S.given source.old) (S.given source.new) }
     ensures read_calm { result ≢ Err Status.ReadFault → S.faults source.new ≡ S.faults source.old }
-    ensures plan_refused { (status : AnyStatus) → RefusesLock tree.now (plain_running asked.entry) status →
+    ensures plan_refused { (status : AnyStatus) → RefusesPlan tree.now (plain_running asked.entry) status →
         (result ≡ Err status) ⊎ (result ≡ Err Status.OutOfMemory) }
-    ensures plan_unread { (status : AnyStatus) → RefusesLock tree.now (plain_running asked.entry) status →
+    ensures plan_unread { (status : AnyStatus) → RefusesPlan tree.now (plain_running asked.entry) status →
         source.new ≡ source.old }
     ensures input_refused { (input : List ℕ) (status : AnyStatus) →
         S.left source.old ≡ Some input → RefusesPlanned (plain_running asked.entry) input status tree.now →
         (Rose (S.faults source.old) (S.faults source.new) → ⊥) → (result ≡ Err status) ⊎ (result ≡ Err Status.OutOfMemory) }
     ensures complete { (input : List ℕ) → S.left source.old ≡ Some input →
-        ((status : AnyStatus) → RefusesLock tree.now (plain_running asked.entry) status → ⊥) →
+        ((status : AnyStatus) → RefusesPlan tree.now (plain_running asked.entry) status → ⊥) →
         ((status : AnyStatus) → RefusesPlanned (plain_running asked.entry) input status tree.now → ⊥) →
         (Rose (S.faults source.old) (S.faults source.new) → ⊥) → IsOk result ⊎ (result ≡ Err Status.OutOfMemory) }
 {
-    match plan_for(alloc, tree, asked) {
+    match read_plan(alloc, tree, asked) {
         Ok(plan) => served(rt, alloc, tree, &plan, asked.walk, source, gate),
         Err(status) => Err(status),
     }
@@ -97,7 +97,6 @@ fn served<R: Threads + Wait + Sync, S: Source, G: Gate + Sync>(
     gate: &G,
 ) -> Result<Vec<u8>, Status>
     requires plan { IsPlanFor tree.now plan.now }
-    requires few_levels { length plan.now.depths ≤ level_limit }
     ensures answer { IfOk result (λ printed. (input : List ℕ)
         × WasRead (S.left source.old) (S.given source.old) (S.given source.new) input
         × (length input ≤ input_limit) × PrintsUnder tree.now plan.now input printed.items) }

@@ -1,6 +1,7 @@
 //! Locks for a plan: a basic lock of any of the four kinds, and composed locks of one to five levels of them.
 //!
 //! `make_1` to `make_5` make a composed lock of as many levels for the callers of a shape, whose levels have the kinds of the plan.
+//! `make_top_of` and `add_below` make one level of it, from the top down, where what calls them is to be generic in the lock above.
 #![tactic(auto)]
 
 mod any_leave;
@@ -18,4 +19,4 @@ pub use depths::{Lock1, Lock2, Lock3, Lock4, Lock5, make_1, make_2, make_3, make
 pub use has_kinds::HasKinds;
 pub use kinds::Kinds;
 pub use lock_plan::{LockKind, Plan};
-pub use tiers::{LevelOver, LowPass, Owned};
+pub use tiers::{LevelOver, LowPass, Owned, TopOf, add_below, kind_at, make_top_of};

@@ -56,8 +56,8 @@ pub(crate) trait Tiers<P: Payload>: HasKinds<P> + Drop {
         ensures tagged { IfErr result (λ r. root_tag P.tag r.value ≡ root_tag P.tag root) };
 }
 
-// The kind of a level.
-fn kind_at(plan: &Plan, level: u32) -> LockKind
+/// The kind of a level.
+pub fn kind_at(plan: &Plan, level: u32) -> LockKind
     requires { level < length plan.now.kinds }
     ensures { slice_get plan.now.kinds level ≡ Some result }
 {
@@ -65,7 +65,7 @@ fn kind_at(plan: &Plan, level: u32) -> LockKind
 }
 
 /// The top lock of a shape, around a root. It is refused for want of memory alone, and gives the root back.
-pub(crate) fn make_top_of<P: Payload>(
+pub fn make_top_of<P: Payload>(
     alloc: Global,
     plan: &Plan,
     root: Root<P>,
@@ -114,7 +114,7 @@ impl<P: Payload> Tiers<P> for Top<AnyLock<Root<P>>, Pass> {
 }
 
 /// One level more, below a lock. For want of memory the lock is closed, and its root comes back.
-fn add_below<P: Payload, H: Composed<P> + Drop>(
+pub fn add_below<P: Payload, H: Composed<P> + Drop>(
     alloc: Global,
     kind: LockKind,
     shape: &Shape,

@@ -4,11 +4,12 @@
 //! on one, takes the lock apart, and gives what they leave.
 #![tactic(auto)]
 
-mod one;
+mod commanded;
+mod given;
+mod laws;
+mod rising;
 mod runs;
 mod shapes;
-mod shift;
-mod three;
-mod two;
+mod under;
 
 pub use runs::run;

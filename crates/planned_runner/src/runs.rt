@@ -4,16 +4,19 @@ ghost use Rattle.keep_local.specs.Shapes.{IsWellFormed, callers_of, top_of};
 ghost use Rattle.placed_runner.specs.Sections.{caller_limit};
 ghost use Rattle.threaded_runner.specs.Finished.{IsFinished};
 
+use crate::given::Given;
+use crate::rising::{run_deep, run_flat};
 use crate::shapes::copied;
-use crate::{one, three, two};
+use clof_compose::TopPass;
 use keep_local::Shape;
-use lock_tree::Plan;
+use lock_rules::Pass;
+use lock_tree::{LowPass, Plan};
 use out_of_memory::OutOfMemory;
 use placed_runner::{Gate, Section};
 use std::alloc::Global;
 use std::sync::Wait;
 use std::thread::Threads;
-use threaded_runner::{Finished, root_of};
+use threaded_runner::{Book, Finished, Job, root_of};
 
 /// Has the callers of these sections give their commands under the lock of a plan with a shape: each in a thread of its own, or, for a
 /// walk, all stepped in rounds on the calling one. It gives what they leave. Without memory for the lock or the run, or for a command in
@@ -28,7 +31,7 @@ pub fn run<'a, R: Threads + Wait + Sync, G: Gate + Sync>(
     gate: &G,
 ) -> Result<Finished<'a>, OutOfMemory>
     requires plan { length plan.now.kinds ≡ top_of shape.now + 1 }
-    requires levels { top_of shape.now < 3 }
+    requires levels { top_of shape.now < 5 }
     requires formed { IsWellFormed shape.now }
     requires callers { callers_of shape.now ≡ length sections.now }
     requires some { 0 < length sections.now }
@@ -39,9 +42,24 @@ pub fn run<'a, R: Threads + Wait + Sync, G: Gate + Sync>(
     ensures sections { IfOk result (λ left. left.journal.sections ≡ map (λ section. section.bytes.now) sections.now) }
 {
     let (root, shares) = root_of(alloc, sections, copied(alloc, shape)?)?;
-    match plan.kinds.as_slice().len() {
-        1 => one::run(rt, alloc, plan, shape, root, shares, sections, walk, gate),
-        2 => two::run(rt, alloc, plan, shape, root, shares, sections, walk, gate),
-        _ => three::run(rt, alloc, plan, shape, root, shares, sections, walk, gate),
+    let given = Given {
+        rt,
+        alloc,
+        plan,
+        shape,
+        shares,
+        sections,
+        walk,
+        gate,
+    };
+    let top = plan.kinds.as_slice().len() - 1;
+    if top == 0 {
+        run_flat::<Job<'a, TopPass<Pass>>, &[Section<'a>], Finished<'a>, Book<'a>, R, G>(
+            given, root,
+        )
+    } else {
+        run_deep::<Job<'a, LowPass>, &[Section<'a>], Finished<'a>, Book<'a>, R, G>(
+            given, root, top as u32,
+        )
     }
 }

@@ -119,16 +119,22 @@ fn checks_a_text_of_five_levels(rt: HostRuntime) -> Result<(), Fail> {
     says(&rt, rt.alloc(), &words, input, text, b"yes\n")
 }
 
-// What a run under three levels prints is one of a run, on threads and stepped on one.
-#[test]
-fn says_yes_of_what_a_run_prints(rt: HostRuntime) -> Result<(), Fail> {
-    let alloc = rt.alloc();
+// Eight callers who count together.
+fn counting(alloc: Global) -> Result<Vec<u8>, Fail> {
     let mut input = Vec::new(alloc);
     for _ in 0..8 {
         input.extend_from_slice(
             b"worker * 43\nadd n 0 0 1\r\n0\r\nget a\r\nincr n 1\r\nincr n 1\r\n\n",
         )?;
     }
+    Ok(input)
+}
+
+// What a run under three levels prints is one of a run, on threads and stepped on one.
+#[test]
+fn says_yes_of_what_a_run_prints(rt: HostRuntime) -> Result<(), Fail> {
+    let alloc = rt.alloc();
+    let input = counting(alloc)?;
     let machine = "Package:2 L3Cache:2 Core:4 PU:2";
     let plan = "--levels=l3,package,machine";
     let checked = ["check", plan, "--keep=16", machine];
@@ -137,6 +143,27 @@ fn says_yes_of_what_a_run_prints(rt: HostRuntime) -> Result<(), Fail> {
     for words in [threads, walk] {
         let ended = call_with(&rt, alloc, words, &input, &OpenGate)?;
         assert_eq!(rt; ended.status, Status::Ok);
+        says(&rt, alloc, &checked, &input, &ended.out, b"yes\n")?;
+    }
+    Ok(())
+}
+
+// So is what is printed on threads under four and under five levels.
+#[test]
+fn says_yes_of_deep_runs(rt: HostRuntime) -> Result<(), Fail> {
+    let alloc = rt.alloc();
+    let input = counting(alloc)?;
+    let machine = "Package:2 Die:1 L3Cache:2 Core:2 PU:1";
+    let four = ["--levels=core,l3,die,machine", "--locks=hem-mcs-tkt-clh"];
+    let five = [
+        "--levels=core,l3,die,package,machine",
+        "--locks=clh-tkt-mcs-hem-mcs",
+    ];
+    for [levels, locks] in [four, five] {
+        let words = ["run", levels, locks, "--keep=2", machine];
+        let ended = call_with(&rt, alloc, &words, &input, &OpenGate)?;
+        assert_eq!(rt; ended.status, Status::Ok);
+        let checked = ["check", levels, "--keep=2", machine];
         says(&rt, alloc, &checked, &input, &ended.out, b"yes\n")?;
     }
     Ok(())

@@ -31,9 +31,6 @@ fn refuses_levels(rt: HostRuntime) -> Result<(), Fail> {
     let fault = PlanFault::LevelUnknown { place: 0 };
     refuses(&rt, alloc, &words, fault, b"clof: plan LevelUnknown 0\n")?;
     let five = "Package:1 Die:1 L3Cache:1 Core:1 PU:1";
-    let words = ["run", "--levels", "core,die,package,machine", five];
-    let line = b"clof: plan TooDeep\n";
-    refuses(&rt, alloc, &words, PlanFault::TooDeep, line)?;
     let words = [
         "run",
         "--levels",

@@ -144,6 +144,37 @@ fn climbs_three_levels(rt: HostRuntime) -> Result<(), Fail> {
     prints(&rt, rt.alloc(), &words, NEAR_AND_FAR, text)
 }
 
+// Five levels, as a plain model of the locks has them. The first caller has a second command, and queues again behind the second one; a
+// keep of 1 lets the second take the core from the first, and no more.
+#[test]
+fn climbs_five_levels(rt: HostRuntime) -> Result<(), Fail> {
+    let words = [
+        "run",
+        "--walk",
+        "--levels",
+        "core,l3,die,package,machine",
+        "--locks",
+        "tkt-mcs-clh-hem-mcs",
+        "--keep",
+        "1,2,1,1",
+        MACHINE,
+    ];
+    let input = b"worker pu:0 14\nget a\r\nget a\r\n\nworker pu:0 7\nget a\r\n\n\
+          worker pu:1 7\nget a\r\n\nworker pu:2 7\nget a\r\n\nworker pu:7 7\nget a\r\n\n";
+    let text = b"turn 0 caller 0 pu 0 climb 4 tests 1 left 0 \"get a\\r\\n\" \"END\\r\\n\"\n\
+          turn 1 caller 1 pu 0 climb 0 tests 3 left 1 \"get a\\r\\n\" \"END\\r\\n\"\n\
+          turn 2 caller 2 pu 1 climb 1 tests 2 left 1 \"get a\\r\\n\" \"END\\r\\n\"\n\
+          turn 3 caller 0 pu 0 climb 1 tests 4 left 2 \"get a\\r\\n\" \"END\\r\\n\"\n\
+          turn 4 caller 3 pu 2 climb 2 tests 0 left 4 \"get a\\r\\n\" \"END\\r\\n\"\n\
+          turn 5 caller 4 pu 7 climb 4 tests 0 left 4 \"get a\\r\\n\" \"END\\r\\n\"\n\
+          caller 0 pu 0 commands 2 rest 0\n\
+          caller 1 pu 0 commands 1 rest 0\n\
+          caller 2 pu 1 commands 1 rest 0\n\
+          caller 3 pu 2 commands 1 rest 0\n\
+          caller 4 pu 7 commands 1 rest 0\n";
+    prints(&rt, rt.alloc(), &words, input, text)
+}
+
 // Under one lock the callers take turns. A walk tells no gate of its callers.
 #[test]
 fn takes_turns_under_one_lock(rt: HostRuntime) -> Result<(), Fail> {

@@ -14,7 +14,7 @@ returns-in-Ok-clause-answer g c =
 pub returns-in-Ok-clause-cause : goal.returns-in-Ok-clause-cause
 returns-in-Ok-clause-cause g c =
     IfErr-weaker c.served.result _ _ (λ status is refusal.
-    inr (record { plan = c.in-Ok.plan; plan_is = c.in-Ok.ensures.ok; few = c.in-Ok.ensures.few }, is refusal))
+    inr (record { plan = c.in-Ok.plan; is = c.in-Ok.ensures.ok }, is refusal))
     c.served.ensures.cause
 
 pub returns-in-Ok-clause-plan_refused : goal.returns-in-Ok-clause-plan_refused
@@ -30,7 +30,7 @@ returns-in-Ok-clause-input_refused g c input status left refuses calm =
 pub returns-in-Ok-clause-complete : goal.returns-in-Ok-clause-complete
 returns-in-Ok-clause-complete g c input left words none calm =
     c.served.ensures.complete input left
-    (λ status refuses. none status (record { plan = c.in-Ok.plan; plan_is = c.in-Ok.ensures.ok; few = c.in-Ok.ensures.few }, refuses)) calm
+    (λ status refuses. none status (record { plan = c.in-Ok.plan; is = c.in-Ok.ensures.ok }, refuses)) calm
 
 pub returns-in-Err-clause-cause : goal.returns-in-Err-clause-cause
 returns-in-Err-clause-cause g c refusal = elim c.in-Err.ensures.err [

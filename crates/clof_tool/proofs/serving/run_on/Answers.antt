@@ -6,9 +6,9 @@ use Rattle.command_words.specs.Plain.{plain_running}
 use Rattle.command_texts.specs.declared.status.Status.{Status}
 use Rattle.command_texts.specs.declared.status.Status.TheVariants as statuses
 use Rattle.command_texts.specs.Ends.{IsRefusal, EndsEarly}
+use Rattle.command_texts.specs.RunPlan.{RefusesPlan}
 use Rattle.command_texts.specs.TopoText.{IsBuilt}
 use Rattle.command_texts.proofs.OnTopologies.{early_silent, err_again, not_refused}
-use Rattle.clof_tool.specs.LockPlan.{RefusesLock}
 use Rattle.clof_tool.specs.Run.{RefusesPlanned}
 use Rattle.clof_tool.specs.Outcome.{FoundPlanned, HasCause}
 use Rattle.clof_tool.proofs.Stops.{memory_again}
@@ -17,7 +17,7 @@ use Rattle.clof_tool.proofs.serving.run_on.Goals as goal
 -- the cause of a refusal on what is described
 cause_on : (asked : Running) (described : Description) (left : Option (List ℕ)) (given given_now : ℕ) (status : Status)
     → IsBuilt asked.description described
-    → RefusesLock described asked status ⊎ FoundPlanned asked left given given_now status described
+    → RefusesPlan described asked status ⊎ FoundPlanned asked left given given_now status described
     → HasCause (Run asked) left given given_now status
 cause_on asked described left given given_now status built (inl refuses) =
     inl (inr (record { described = described; built = built; holds = refuses }))
@@ -43,7 +43,7 @@ returns-in-Ok-clause-answered g c =
       words_refused = λ status refuses. elim refuses [
         | inl topo ↦ absurd (not_refused _ status (built.refused status topo))
         | inr on ↦ found.plan_refused status
-            (subst (λ described. RefusesLock described asked status) (built.only on.described on.built.describes) on.holds)
+            (subst (λ described. RefusesPlan described asked status) (built.only on.described on.built.describes) on.holds)
       ];
       input_refused = λ input status left refuses calm. found.input_refused input status left
           (subst (RefusesPlanned asked input status) (built.only refuses.described refuses.built.describes) refuses.holds) calm;
@@ -53,7 +53,7 @@ pub returns-in-Ok-clause-words_unread : goal.returns-in-Ok-clause-words_unread
 returns-in-Ok-clause-words_unread g c status refuses = elim refuses [
   | inl topo ↦ absurd (not_refused _ status (c.in-Ok.ensures.refused status topo))
   | inr on ↦ c.run_in.ensures.plan_unread status
-      (subst (λ described. RefusesLock described (plain_running c.args.asked) status)
+      (subst (λ described. RefusesPlan described (plain_running c.args.asked) status)
       (c.in-Ok.ensures.only on.described on.built.describes) on.holds)
 ]
 
