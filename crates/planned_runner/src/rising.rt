@@ -11,7 +11,7 @@ ghost use Rattle.planned_runner.specs.Runs.{MayRun};
 
 use crate::commanded::Commanded;
 use crate::given::Given;
-use crate::laws::low_passes_are_shared;
+use crate::laws::{low_passes_are_shared, top_passes_are_shared};
 use crate::under::run_under;
 use clof_compose::{Composed, Resting, Root, TopPass};
 use lock_rules::{Pass, passes_are_shared};
@@ -71,6 +71,7 @@ pub(crate) fn run_deep<
     ensures sections { IfOk result (λ l. (P.left l).journal.sections ≡ P.told given.entry.sections) }
 {
     passes_are_shared();
+    top_passes_are_shared();
     match make_top_of::<P>(given.alloc, given.plan, root, given.shape, top) {
         Ok((lock, passes)) => {
             with_second::<J, S, F, P, TopOf<P>, R, G>(given, lock, passes, top - 1)
