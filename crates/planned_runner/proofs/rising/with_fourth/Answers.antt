@@ -1,4 +1,4 @@
-use Rattle.std.proofs.Common.{◌≡◌, ◌+◌, ◌-◌, arith}
+use Rattle.std.proofs.Common.{◌+◌, ◌-◌, arith}
 use Rattle.planned_runner.proofs.Raised.{risen}
 use Rattle.planned_runner.proofs.rising.with_fourth.Goals as goal
 

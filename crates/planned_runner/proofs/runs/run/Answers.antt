@@ -1,5 +1,4 @@
 use Rattle.std.proofs.Common.{◌≡◌, ◌∙◌, ap, arith}
-use Rattle.keep_local.specs.declared.shape.Shape.{Shape}
 use Rattle.lock_tree.proofs.Levels.{shape_named}
 use Rattle.threaded_runner.specs.Books.{book_tag}
 use Rattle.planned_runner.proofs.runs.run.Goals as goal
