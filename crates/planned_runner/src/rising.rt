@@ -96,8 +96,8 @@ where
     H::Queue: Send,
     H::Held: Send,
     H::Leave: Send,
-    requires raised { IsRaised H.Pass.rest (H.has high) (H.sound high) (H.level high) (H.count high) (H.tag high) given.shape.now (level + 1)
-        (H.tag high) passes.items }
+    requires raised { IsRaised H.Pass.rest (H.has high) (H.sound high) (H.level high) (H.count high) (H.tag high) given.shape.now
+        (level + 1) (H.tag high) passes.items }
     requires may { MayRun (H.tag high) given.shape.now given.plan.now.kinds (P.told given.sections) given.shares.items }
     requires level { level < top_of given.shape.now }
     requires most { level < 4 }
@@ -136,8 +136,8 @@ where
     H::Queue: Send,
     H::Held: Send,
     H::Leave: Send,
-    requires raised { IsRaised H.Pass.rest (H.has high) (H.sound high) (H.level high) (H.count high) (H.tag high) given.shape.now (level + 1)
-        (H.tag high) passes.items }
+    requires raised { IsRaised H.Pass.rest (H.has high) (H.sound high) (H.level high) (H.count high) (H.tag high) given.shape.now
+        (level + 1) (H.tag high) passes.items }
     requires may { MayRun (H.tag high) given.shape.now given.plan.now.kinds (P.told given.sections) given.shares.items }
     requires level { level < top_of given.shape.now }
     requires most { level < 3 }
@@ -176,8 +176,8 @@ where
     H::Queue: Send,
     H::Held: Send,
     H::Leave: Send,
-    requires raised { IsRaised H.Pass.rest (H.has high) (H.sound high) (H.level high) (H.count high) (H.tag high) given.shape.now (level + 1)
-        (H.tag high) passes.items }
+    requires raised { IsRaised H.Pass.rest (H.has high) (H.sound high) (H.level high) (H.count high) (H.tag high) given.shape.now
+        (level + 1) (H.tag high) passes.items }
     requires may { MayRun (H.tag high) given.shape.now given.plan.now.kinds (P.told given.sections) given.shares.items }
     requires level { level < top_of given.shape.now }
     requires most { level < 2 }
@@ -216,8 +216,8 @@ where
     H::Queue: Send,
     H::Held: Send,
     H::Leave: Send,
-    requires raised { IsRaised H.Pass.rest (H.has high) (H.sound high) (H.level high) (H.count high) (H.tag high) given.shape.now (level + 1)
-        (H.tag high) passes.items }
+    requires raised { IsRaised H.Pass.rest (H.has high) (H.sound high) (H.level high) (H.count high) (H.tag high) given.shape.now
+        (level + 1) (H.tag high) passes.items }
     requires may { MayRun (H.tag high) given.shape.now given.plan.now.kinds (P.told given.sections) given.shares.items }
     requires level { level < top_of given.shape.now }
     requires most { level ≡ 0 }
