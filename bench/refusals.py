@@ -135,7 +135,7 @@ def main():
     """Reads the words and runs the rows."""
     words = argparse.ArgumentParser()
     words.add_argument("--clof", default=PROGRAM)
-    words.add_argument("--levels", type=int, default=3, help="at most so many levels; the program has three")
+    words.add_argument("--levels", type=int, default=5, help="at most so many levels")
     asked = words.parse_args()
     if not os.access(asked.clof, os.X_OK):
         sys.exit(f"{asked.clof} isn't there; ./clof builds it")

@@ -340,7 +340,7 @@ def main():
     words.add_argument("--seed", type=int, default=1)
     words.add_argument("--walks", type=int, default=500)
     words.add_argument("--threads", type=int, default=200)
-    words.add_argument("--levels", type=int, default=3, help="at most so many levels; the program has three")
+    words.add_argument("--levels", type=int, default=5, help="at most so many levels")
     words.add_argument("--rows", action="store_true")
     asked = words.parse_args()
     program = None if asked.rows else asked.clof
