@@ -38,8 +38,8 @@ pub fn serve<'a, C: Composed<Book<'a>>, G: Gate, R: Wait>(
     job
 }
 
-// Holds the lock for the next command of a caller that has one left. The caller stops where it was refused.
-fn give_next<'a, C: Composed<Book<'a>>, G: Gate, R: Wait>(
+/// Holds the lock for the next command of a caller that has one left. The caller stops where it was refused, which is for want of memory.
+pub fn give_next<'a, C: Composed<Book<'a>>, G: Gate, R: Wait>(
     rt: &R,
     lock: &C,
     gate: &G,

@@ -18,7 +18,7 @@ mod waiting;
 pub use book::Book;
 pub use crew::Crew;
 pub use finishing::{Finished, close_run, finish, printed};
-pub use holding::{apply, serve};
+pub use holding::{apply, give_next, serve};
 pub use job::Job;
 pub use roots::{journal_of, quotas_of, root_of};
 pub use running::{Prepared, crew_of, not_started, prepare};
