@@ -1,7 +1,7 @@
 /*
- * Holds of the cohort lock of Concurrency Kit (Debian's libck-dev), a ticket lock a cohort under a ticket lock: each thread takes it as often as asked
- * and, as the holders of cohort_bench and compose_bench do, notes its number behind those of the holds before. Threads fall into cohorts of the same
- * size, in order. It prints the number of cohorts, of threads, and of what was noted. With 0 cohorts the lock is one ticket lock.
+ * Holds of the cohort lock of Concurrency Kit (Debian's libck-dev), a ticket lock a cohort under a ticket lock: each thread takes it as
+ * often as asked and, as the holders of plan_bench do, notes its number behind those of the holds before. Threads fall into cohorts of the
+ * same size, in order. It prints the number of cohorts, of threads, and of what was noted. With 0 cohorts the lock is one ticket lock.
  *
  *   cc -O2 -pthread -o ck_cohorts ck_cohorts.c && ./ck_cohorts 2 4 1000000 10
  */

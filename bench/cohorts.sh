@@ -1,41 +1,51 @@
 #!/usr/bin/env bash
-# Times holds of composed locks by one caller (crates/compose_bench) and by several threads (crates/cohort_bench) beside the cohort lock of Concurrency
-# Kit (Debian's libck-dev), and beside composed locks with fewer levels or fewer turns, in turn, five times each, and prints a table: what is held,
-# nanoseconds a hold (the median) of both, and the ratio. Each hold notes its caller in a list, here and over Concurrency Kit. It needs a built
-# compose_bench and cohort_bench (rt run in their folders), those that its rows name.
+# Times holds of composed locks of one to three levels, of a plan's kinds (crates/plan_bench), beside a mutex of the C library and the
+# ticket lock and the cohort lock of Concurrency Kit (Debian's libck-dev), by one, two and four threads. It runs all in turn, five times
+# each, and prints a table: what is held, and nanoseconds a hold (the median) with each number of threads, the start of the process and of
+# its threads included. Each hold notes its caller in a list. Threads stand two by two under a node of the lowest level or in a cohort,
+# which keeps the lock above for nine turns more; of three levels the nodes stand under one. It needs a built plan_bench (rt run in its
+# folder).
 #
-#   bench/cohorts.sh [ROW..]              the rows two levels turns near cohorts, by default all, in a minute
+#   bench/cohorts.sh [ROW..]    the rows pthread, ck (a ticket lock), ck-ck (a cohort lock of two), and kinds as of `clof run --locks`, of
+#                               one to three levels; by default thirteen of them, in some three minutes
+#   bench/cohorts.sh > table && bench/cohorts_picture.py < table > docs/cohorts.svg
 #
-#   two      two levels, beside ck's two tickets
-#   levels   five levels, beside one
-#   turns    two levels and 8,000,000 turns, beside 500,000
-#   near     two threads: five levels with both under one lowest node, beside one level
-#   cohorts  four threads in two cohorts: two levels, beside ck's cohort lock
+# HOLDS is how many holds all threads of a run make together, 1,000,000 by default; ROUNDS how often each is run, 5 by default.
 set -eu
 cd "$(dirname "$0")/.."
 . bench/timing.sh
-[ $# -gt 0 ] || set -- two levels turns near cohorts
-case " $* " in *' two '* | *' levels '* | *' turns '*) ours=$(built compose_bench) ;; esac
-case " $* " in *' near '* | *' cohorts '*) threads=$(built cohort_bench) ;; esac
-case " $* " in *' two '* | *' cohorts '*) theirs=$(compiled ck_cohorts) ;; esac
+[ $# -gt 0 ] || set -- pthread ck ck-ck tkt mcs clh hem tkt-tkt mcs-mcs hem-hem mcs-tkt tkt-tkt-tkt mcs-mcs-mcs
+holds=${HOLDS:-1000000} rounds=${ROUNDS:-5} counts='1 2 4'
+ours=$(built plan_bench)
+mutex=$(compiled pthread_mutex)
+kit=$(compiled ck_cohorts)
+taken=$(mktemp -d)
 
-# NAME, the holds of the one and of the other, then the words of the one -- and of the other
-row() {
-  local name=$1 holds=$2 others=$3
-  shift 3
-  medians "$@" | awk -v n="$name" -v m="$holds" -v o="$others" \
-    '{ printf "%-44s %10.1f %10.1f %6.2f\n", n, $1 / m, $2 / o, ($1 / m) / ($2 / o) }'
+# ROW THREADS: runs it once
+held() {
+  local each=$((holds / $2)) cohorts=$((($2 + 1) / 2))
+  case $1 in
+    pthread) "$mutex" "$2" "$each" ;;
+    ck) "$kit" 0 "$2" "$each" 10 ;;
+    ck-ck) "$kit" "$cohorts" "$2" "$each" 10 ;;
+    *) "$ours" "$1" 9 "$2" "$each" ;;
+  esac
 }
 
-machine
-printf '%-44s %10s %10s %6s\n' holds 'ns here' 'ns beside' ratio
-for word in "$@"; do
-  case $word in
-    two) row 'two levels, beside ck' 4000000 4000000 "$ours" 2 4000000 -- "$theirs" 1 1 4000000 10 ;;
-    levels) row 'five levels, beside one' 1000000 1000000 "$ours" 5 1000000 -- "$ours" 1 1000000 ;;
-    turns) row 'two levels, 8,000,000 turns, beside 500,000' 8000000 500000 "$ours" 2 8000000 -- "$ours" 2 500000 ;;
-    near) row 'two threads: five levels, beside one' 1000000 1000000 "$threads" 5 2 500000 -- "$threads" 1 2 500000 ;;
-    cohorts) row 'four threads: two cohorts, beside ck' 2000000 2000000 "$threads" 2 4 500000 -- "$theirs" 2 4 500000 10 ;;
-    *) echo "there is no row $word" >&2; exit 1 ;;
-  esac
+for row in "$@"; do held "$row" 1 > /dev/null; done
+for _ in $(seq "$rounds"); do
+  for row in "$@"; do
+    for threads in $counts; do nanoseconds held "$row" "$threads" >> "$taken/$row.$threads"; done
+  done
 done
+
+machine
+printf '%-14s %10s %10s %10s\n' 'ns a hold' '1 thread' '2 threads' '4 threads'
+for row in "$@"; do
+  printf '%-14s' "$row"
+  for threads in $counts; do
+    awk -v t="$(median "$taken/$row.$threads")" -v n=$((holds / threads * threads)) 'BEGIN { printf " %10.1f", t / n }'
+  done
+  printf '\n'
+done
+rm -rf "$taken"

@@ -14,6 +14,9 @@ use Rattle.level_trials.specs.declared.roll.Roll.{Roll}
 use Rattle.level_trials.specs.declared.walker.Walker.{Walker}
 use Rattle.level_trials.specs.declared.walker.State.{State}
 use Rattle.level_trials.specs.declared.walker.State.TheVariants.{Idle, Queued, Holding, Leaving, Stepping}
+use Rattle.level_trials.specs.declared.walker.Stood.{Stood}
+use Rattle.level_trials.specs.declared.walker.Stood.TheVariants.{Idle as StoodIdle, Queued as StoodQueued, Holding as StoodHolding}
+use Rattle.level_trials.specs.declared.walker.Stood.TheVariants.{Leaving as StoodLeaving, Nowhere}
 
 module _ {P Q H L : Type 0} (rest : P → Rest) (climb : Q → Climb) (climbs : Q → Type 0) (stand : H → Stand (Root Roll))
     (stands : H → Type 0) (descent : L → Descent) (descends : L → Type 0) (has : Context → Type 0) (level : ℕ) (tag : Tag) where
@@ -30,6 +33,15 @@ module _ {P Q H L : Type 0} (rest : P → Rest) (climb : Q → Climb) (climbs : 
   pub record IsWalker (number : ℕ) (w : Walker P Q H L) : Type 0 where
     pub share_is : IsShareIn (course_of tag) number w.share
     pub stands_is : Stands w.state w.share
+
+module _ {P Q H L : Type 0} (climb : Q → Climb) (descent : L → Descent) where
+  -- where a caller in this state stands, and at which level
+  abbrev pub stood_of : State P Q H L → Stood
+  stood_of (Idle p) = StoodIdle
+  stood_of (Queued q) = StoodQueued (climb q).level
+  stood_of (Holding h) = StoodHolding
+  stood_of (Leaving l) = StoodLeaving (descent l).level
+  stood_of Stepping = Nowhere
 
 module _ {P Q H L : Type 0} where
   abbrev pub IsIdle : State P Q H L → Type 0

@@ -5,10 +5,10 @@ ghost use Rattle.clof_compose.specs.Courses.{course_of};
 ghost use Rattle.level_trials.specs.Rooms.{HasRoom, roll_tag};
 ghost use Rattle.clof_compose.specs.Passes.{IsNumber};
 ghost use Rattle.clof_compose.specs.Shares.{IsShareIn};
-ghost use Rattle.level_trials.specs.Walkers.{Stands};
+ghost use Rattle.level_trials.specs.Walkers.{Stands, stood_of};
 
 use crate::roll::{Roll, call};
-use clof_compose::{Composed, Standing};
+use clof_compose::{Climbing, Composed, Descending, Standing};
 use keep_local::Share;
 use lock_rules::Step;
 use std::mem;
@@ -28,6 +28,16 @@ pub enum State<P, Q, H, L> {
 pub struct Walker<P, Q, H, L> {
     pub(crate) state: State<P, Q, H, L>,
     pub(crate) share: Share,
+}
+
+/// Where a caller stood behind a step: where it was queued or was leaving, at which level. No caller is nowhere.
+#[derive(Clone, Copy, Debug, Drop, PartialEq, Eq)]
+pub enum Stood {
+    Idle,
+    Queued(u32),
+    Holding,
+    Leaving(u32),
+    Nowhere,
 }
 
 // The state of a caller of C.
@@ -113,6 +123,19 @@ fn go<C: Composed<Roll>>(lock: &C, leave: C::Leave, share: &Share) -> StateIn<C>
     match lock.poll_release(leave) {
         Step::Not(leave) => State::Leaving(leave),
         Step::Got(pass) => State::Idle(pass),
+    }
+}
+
+/// Where the caller stands.
+pub(crate) fn stood_of<P, Q: Climbing, H, L: Descending>(walker: &Walker<P, Q, H, L>) -> Stood
+    ensures { result ≡ stood_of Q.climb L.descent walker.now.state }
+{
+    match &walker.state {
+        State::Idle(_) => Stood::Idle,
+        State::Queued(queue) => Stood::Queued(queue.waits_at()),
+        State::Holding(_) => Stood::Holding,
+        State::Leaving(leave) => Stood::Leaving(leave.leaves_at()),
+        State::Stepping => Stood::Nowhere,
     }
 }
 

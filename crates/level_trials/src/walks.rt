@@ -11,24 +11,32 @@ ghost use Rattle.clof_compose.specs.Shares.{IsShareIn};
 ghost use Rattle.level_trials.specs.Walkers.{IsDone, IsWalker};
 
 use crate::roll::Roll;
-use crate::rounds::{are_done, round};
-use crate::walker::{State, Walker, WalkerIn};
+use crate::rounds::{are_done, round, steps};
+use crate::walker::{State, Stood, Walker, WalkerIn};
 use clof_compose::{Composed, Resting, Root};
 use keep_local::{Share, Turn};
 use std::alloc::Global;
 use std::sync::Wait;
 
-/// All callers take turns on one thread. A round is a step of each, in ascending order: an idle caller with turns left begins to take the
-/// lock, a queued one asks again, a holder makes one call and begins to leave, and one that leaves asks again. The lock is taken apart when
-/// all are idle with no turn left. The answer is its root, or `None` for want of memory, or where a pass tells other tests than those of
-/// its caller's last turn.
+/// What a walk leaves: the root, and where each caller that was told to step stood behind its step.
+#[derive(Drop)]
+pub struct Walked {
+    pub root: Root<Roll>,
+    pub stood: Vec<Stood>,
+}
+
+/// All callers take turns on one thread. First the callers that `order` names make a step each, in that order, and then all make rounds. A
+/// round is a step of each, in ascending order: an idle caller with turns left begins to take the lock, a queued one asks again, a holder
+/// makes one call and begins to leave, and one that leaves asks again. The lock is taken apart when all are idle with no turn left. The
+/// answer is `None` for want of memory, or where a pass tells other tests than those of its caller's last turn.
 pub fn walk<C: Composed<Roll> + Drop, R: Wait>(
     rt: &R,
     alloc: Global,
     lock: C,
     passes: Vec<C::Pass>,
     shares: Vec<Share>,
-) -> Option<Root<Roll>>
+    order: &[usize],
+) -> Option<Walked>
     requires sound { C.sound lock }
     requires lowest { C.level lock ≡ 0 }
     requires count { C.count lock ≡ callers_of (course_of (C.tag lock)).shape }
@@ -36,19 +44,44 @@ pub fn walk<C: Composed<Roll> + Drop, R: Wait>(
     requires quotas { length (course_of (C.tag lock)).quotas ≡ callers_of (course_of (C.tag lock)).shape }
     requires shares { shares.items ≡ new_shares (course_of (C.tag lock)).name (course_of (C.tag lock)).quotas }
     requires room { HasRoom (course_of (C.tag lock)) }
-    ensures fit { IfSome result (IsFit (λ r. r.callers.items)) }
-    ensures tagged { IfSome result (λ r. root_tag roll_tag r ≡ C.tag lock) }
+    ensures fit { IfSome result (λ w. IsFit (λ r. r.callers.items) w.root) }
+    ensures tagged { IfSome result (λ w. root_tag roll_tag w.root ≡ C.tag lock) }
 {
+    let stood = Vec::with_capacity(alloc, order.len()).ok()?;
     let walkers = Vec::with_capacity(alloc, passes.len()).ok()?;
     let (mut walkers, passes) = seat(&lock, passes, shares, walkers);
-    make_rounds(rt, &lock, &mut walkers);
+    let stood = make_steps(rt, &lock, &mut walkers, order, stood);
     let passes = idle_passes(&lock, walkers, passes);
     let told = tests_of(alloc, &passes)?;
     let root = lock.close(passes);
     if !tell_last(root.trail().turns(), &told) {
         return None;
     }
-    Some(root)
+    Some(Walked { root, stood })
+}
+
+// Makes the steps of an order, and then rounds until every caller is idle with no turn left.
+fn make_steps<C: Composed<Roll>, R: Wait>(
+    rt: &R,
+    lock: &C,
+    walkers: &mut [WalkerIn<C>],
+    order: &[usize],
+    stood: Vec<Stood>,
+) -> Vec<Stood>
+    requires sound { C.sound lock.now }
+    requires lowest { C.level lock.now ≡ 0 }
+    requires room { HasRoom (course_of (C.tag lock.now)) }
+    requires each { (k : ℕ) (w : _) → slice_get walkers.old k ≡ Some w → IsWalker C.Pass.rest C.Queue.climb C.Queue.climbs C.Held.stand
+        C.Held.stands C.Leave.descent C.Leave.descends (C.has lock.now) (C.level lock.now) (C.tag lock.now) k w }
+    requires empty { stood.items ≡ [] }
+    requires capacity { length order.now ≤ vec_capacity stood }
+    ensures each { (k : ℕ) (w : _) → slice_get walkers.new k ≡ Some w → IsWalker C.Pass.rest C.Queue.climb C.Queue.climbs C.Held.stand
+        C.Held.stands C.Leave.descent C.Leave.descends (C.has lock.now) (C.level lock.now) (C.tag lock.now) k w }
+    ensures done { (k : ℕ) (w : _) → slice_get walkers.new k ≡ Some w → IsDone w }
+{
+    let stood = steps(lock, walkers, order, stood);
+    make_rounds(rt, lock, walkers);
+    stood
 }
 
 // The tests that each pass tells. The answer is `None` for want of memory.

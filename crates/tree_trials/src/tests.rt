@@ -1,0 +1,108 @@
+//! What the tests share.
+ghost use Rattle.std.specs.Prelude.{◌≡◌, ◌+◌, ◌^◌, ◌<◌, length, sum};
+
+mod made;
+mod steps;
+mod threads;
+mod walks;
+
+use crate::{Makes, Threaded, close_over, hold_over, walk_over};
+use clof_compose::Root;
+use keep_local::{Turn, is_lawful};
+use level_trials::{Roll, Walked, shape_of};
+use lock_tree::LockKind;
+use std::alloc::Global;
+use std::sync::Wait;
+use std::thread::Threads;
+
+/// What a lock is made of: the kinds of the levels, the paths of the callers, the keeps of the levels below the top, and how many turns
+/// each caller makes.
+#[derive(Drop)]
+pub(crate) struct Setting<'a> {
+    pub(crate) kinds: &'a [LockKind],
+    pub(crate) paths: &'a [&'a [u32]],
+    pub(crate) keeps: &'a [u32],
+    pub(crate) quotas: &'a [u32],
+}
+
+/// One row of a table of turns.
+pub(crate) const fn turn(caller: u32, climb: u32, tests: u32, left: u32) -> Turn {
+    Turn {
+        caller,
+        climb,
+        tests,
+        left,
+    }
+}
+
+/// Whether the turns are lawful by the plain checker, and the roll has a call of each one's caller, in order.
+pub(crate) fn is_of_its_turns(root: &Root<Roll>) -> bool {
+    let trail = root.trail();
+    let turns = trail.turns();
+    let callers = root.payload().callers.get().as_slice();
+    is_lawful(trail.shape(), turns)
+        && callers.len() == turns.len()
+        && callers
+            .iter()
+            .zip(turns)
+            .all(|(caller, turn)| *caller == turn.caller)
+}
+
+/// Whether the turns are those of the table, and the rest of the root fits them.
+pub(crate) fn has_turns(root: &Root<Roll>, turns: &[Turn]) -> bool {
+    root.trail().turns() == turns && is_of_its_turns(root)
+}
+
+/// The callers of a setting walk, those that `order` names first.
+pub(crate) fn walked<L: Makes, R: Wait>(
+    rt: &R,
+    alloc: Global,
+    setting: &Setting<'_>,
+    order: &[usize],
+) -> Option<Walked>
+    requires kinds { length setting.now.kinds.now ≡ L.lower + 1 }
+    requires top { length setting.now.keeps.now ≡ L.lower }
+    requires few { length setting.now.paths.now < 2 ^ 32 }
+    requires quotas { length setting.now.quotas.now ≡ length setting.now.paths.now }
+    requires fits { sum setting.now.quotas.now < 2 ^ 32 }
+{
+    let shape = shape_of(alloc, setting.paths, setting.keeps)?;
+    if !shape.is_well_formed() {
+        return None;
+    }
+    walk_over::<L, R>(rt, alloc, setting.kinds, shape, setting.quotas, order)
+}
+
+/// The callers of a setting hold its lock in threads of their own.
+pub(crate) fn held<L: Makes + Threaded<R>, R: Threads + Wait + Sync>(
+    rt: &R,
+    alloc: Global,
+    setting: &Setting<'_>,
+) -> Option<Root<Roll>>
+    requires kinds { length setting.now.kinds.now ≡ L.lower + 1 }
+    requires top { length setting.now.keeps.now ≡ L.lower }
+    requires few { length setting.now.paths.now < 2 ^ 32 }
+    requires quotas { length setting.now.quotas.now ≡ length setting.now.paths.now }
+    requires fits { sum setting.now.quotas.now < 2 ^ 32 }
+{
+    let shape = shape_of(alloc, setting.paths, setting.keeps)?;
+    if !shape.is_well_formed() {
+        return None;
+    }
+    hold_over::<L, R>(rt, alloc, setting.kinds, shape, setting.quotas)
+}
+
+/// The lock of a setting is made, or refused, and its root comes back.
+pub(crate) fn closed<L: Makes>(alloc: Global, setting: &Setting<'_>) -> Option<Root<Roll>>
+    requires kinds { length setting.now.kinds.now ≡ L.lower + 1 }
+    requires top { length setting.now.keeps.now ≡ L.lower }
+    requires few { length setting.now.paths.now < 2 ^ 32 }
+    requires quotas { length setting.now.quotas.now ≡ length setting.now.paths.now }
+    requires fits { sum setting.now.quotas.now < 2 ^ 32 }
+{
+    let shape = shape_of(alloc, setting.paths, setting.keeps)?;
+    if !shape.is_well_formed() {
+        return None;
+    }
+    close_over::<L>(alloc, setting.kinds, shape, setting.quotas)
+}

@@ -1,0 +1,91 @@
+//! Orders of steps that no round makes: a caller that leaves asks more than once before the one behind it looks.
+use super::{Setting, has_turns, turn, walked};
+use level_trials::Roll;
+use level_trials::Stood::{Holding, Idle, Leaving, Nowhere, Queued};
+use lock_tree::Lock2;
+use lock_tree::LockKind::{Hem, Mcs, Tkt};
+
+/// The node lets the top go, and its own Hemlock has the grant taken late.
+#[test]
+fn a_caller_leaves_the_lowest_level_late(rt: HostRuntime) {
+    let setting = Setting {
+        kinds: &[Hem, Mcs],
+        paths: &[&[0, 0], &[0, 0]],
+        keeps: &[0],
+        quotas: &[1, 1],
+    };
+    let order = [0, 1, 0, 0, 0, 1, 0];
+    let Some(walked) = walked::<Lock2<Roll>, _>(&rt, rt.alloc(), &setting, &order) else {
+        panic!(rt; "there was no memory")
+    };
+    let stood = [
+        Holding,
+        Queued(0),
+        Leaving(0),
+        Leaving(0),
+        Leaving(0),
+        Holding,
+        Idle,
+    ];
+    assert!(rt; walked.stood.as_slice() == stood.as_slice());
+    assert!(rt; has_turns(&walked.root, &[turn(0, 1, 1, 1), turn(1, 1, 0, 1)]));
+}
+
+/// Nobody is behind in the node, and the top Hemlock has the grant taken late.
+#[test]
+fn a_caller_leaves_the_top_late(rt: HostRuntime) {
+    let setting = Setting {
+        kinds: &[Tkt, Hem],
+        paths: &[&[0, 0], &[1, 0]],
+        keeps: &[1],
+        quotas: &[1, 1],
+    };
+    let order = [0, 0, 1, 1, 0, 0, 0, 1, 0];
+    let Some(walked) = walked::<Lock2<Roll>, _>(&rt, rt.alloc(), &setting, &order) else {
+        panic!(rt; "there was no memory")
+    };
+    let stood = [
+        Queued(0),
+        Holding,
+        Queued(0),
+        Queued(1),
+        Leaving(1),
+        Leaving(1),
+        Leaving(1),
+        Holding,
+        Idle,
+    ];
+    assert!(rt; walked.stood.as_slice() == stood.as_slice());
+    assert!(rt; has_turns(&walked.root, &[turn(0, 1, 0, 1), turn(1, 1, 0, 1)]));
+}
+
+/// Both levels have the grant taken late, the top first; in between the caller goes down a level.
+#[test]
+fn a_caller_leaves_both_levels_late(rt: HostRuntime) {
+    let setting = Setting {
+        kinds: &[Hem, Hem],
+        paths: &[&[0, 0], &[0, 0], &[1, 0]],
+        keeps: &[0],
+        quotas: &[1, 1, 1],
+    };
+    let order = [0, 1, 2, 0, 0, 2, 0, 0, 1, 0, 5];
+    let Some(walked) = walked::<Lock2<Roll>, _>(&rt, rt.alloc(), &setting, &order) else {
+        panic!(rt; "there was no memory")
+    };
+    let stood = [
+        Holding,
+        Queued(0),
+        Queued(1),
+        Leaving(1),
+        Leaving(1),
+        Holding,
+        Leaving(0),
+        Leaving(0),
+        Queued(1),
+        Idle,
+        Nowhere,
+    ];
+    assert!(rt; walked.stood.as_slice() == stood.as_slice());
+    let turns = [turn(0, 1, 1, 1), turn(2, 1, 0, 1), turn(1, 1, 0, 1)];
+    assert!(rt; has_turns(&walked.root, &turns));
+}
