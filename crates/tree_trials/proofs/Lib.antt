@@ -1,1 +1,2 @@
+pub mod OneJob
 pub mod Shifts

@@ -6,7 +6,7 @@ mod steps;
 mod threads;
 mod walks;
 
-use crate::{Makes, Threaded, close_over, hold_over, walk_over};
+use crate::{Makes, Threaded, close_over, hold_by_one, hold_over, walk_over};
 use clof_compose::Root;
 use keep_local::{Turn, is_lawful};
 use level_trials::{Roll, Walked, shape_of};
@@ -90,6 +90,25 @@ pub(crate) fn held<L: Makes + Threaded<R>, R: Threads + Wait + Sync>(
         return None;
     }
     hold_over::<L, R>(rt, alloc, setting.kinds, shape, setting.quotas)
+}
+
+/// The one caller of a setting holds its lock.
+pub(crate) fn held_by_one<L: Makes, R: Wait>(
+    rt: &R,
+    alloc: Global,
+    setting: &Setting<'_>,
+) -> Option<Root<Roll>>
+    requires kinds { length setting.now.kinds.now ≡ L.lower + 1 }
+    requires top { length setting.now.keeps.now ≡ L.lower }
+    requires few { length setting.now.paths.now < 2 ^ 32 }
+    requires quotas { length setting.now.quotas.now ≡ length setting.now.paths.now }
+    requires fits { sum setting.now.quotas.now < 2 ^ 32 }
+{
+    let shape = shape_of(alloc, setting.paths, setting.keeps)?;
+    if !shape.is_well_formed() {
+        return None;
+    }
+    hold_by_one::<L, R>(rt, alloc, setting.kinds, shape, setting.quotas)
 }
 
 /// The lock of a setting is made, or refused, and its root comes back.

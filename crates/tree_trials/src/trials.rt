@@ -3,6 +3,7 @@ ghost use Rattle.std.specs.Prelude.{◌≡◌, ◌+◌, ◌^◌, ◌<◌, length
 ghost use Rattle.keep_local.specs.Shapes.{IsWellFormed, callers_of, top_of};
 ghost use Rattle.clof_compose.specs.Roots.{IsFit};
 
+use crate::alone::hold_alone;
 use crate::ready::{Makes, Ready, make_ready};
 use crate::shift::{Threaded, run_dealt};
 use crate::start::{Start, make_start};
@@ -75,6 +76,36 @@ pub fn hold_over<L: Makes + Threaded<R>, R: Threads + Wait + Sync>(
     let dealt = deal(alloc, &lock, passes, shares);
     let ended = run_dealt(rt, &lock, dealt);
     close_ended(lock, ended)
+}
+
+/// The one caller of a shape holds a lock of these kinds as often as its quota, on the calling thread, and the lock is taken apart. The answer
+/// is its root, or `None` for want of memory, and where the shape has more callers or none.
+pub fn hold_by_one<L: Makes, R: Wait>(
+    rt: &R,
+    alloc: Global,
+    kinds: &[LockKind],
+    shape: Shape,
+    quotas: &[u32],
+) -> Option<Root<Roll>>
+    requires shaped { IsWellFormed shape }
+    requires few { callers_of shape < 2 ^ 32 }
+    requires kinds { length kinds.now ≡ L.lower + 1 }
+    requires top { top_of shape ≡ L.lower }
+    requires quotas { length quotas.now ≡ callers_of shape }
+    requires fits { sum quotas.now < 2 ^ 32 }
+    ensures fit { IfSome result (IsFit (λ r. r.callers.items)) }
+    ensures shape { IfSome result (λ r. r.trail.shape ≡ shape) }
+    ensures quotas { IfSome result (λ r. r.trail.quotas ≡ quotas.now) }
+{
+    let Some(ready) = make_ready::<L>(alloc, kinds, shape, quotas) else {
+        return None;
+    };
+    let Ready {
+        lock,
+        passes,
+        shares,
+    } = ready;
+    hold_alone(rt, alloc, lock, passes, shares)
 }
 
 /// A lock of these kinds for a shape is made and closed again. The answer is its root, also where the lock was refused; it is `None` where

@@ -1,9 +1,9 @@
 //! Callers in threads of their own. In which order they come is up to the machine.
-use super::{Setting, held, is_of_its_turns};
+use super::{Setting, held, held_by_one, is_of_its_turns};
 use clof_compose::Root;
 use level_trials::Roll;
 use lock_tree::LockKind::{Clh, Hem, Mcs, Tkt};
-use lock_tree::{Lock1, Lock2, Lock3};
+use lock_tree::{Lock1, Lock2, Lock3, Lock5};
 
 /// How often each thread holds the lock.
 const HOLDS: u32 = 1000;
@@ -69,17 +69,17 @@ fn four_threads_hold_three_levels(rt: HostRuntime) {
 
 /// One caller alone climbs to the top at each hold, and leaves there.
 #[test]
-fn one_caller_holds_three_levels_twice(rt: HostRuntime) {
+fn one_caller_holds_five_levels_twice(rt: HostRuntime) {
     let setting = Setting {
-        kinds: &[Tkt, Tkt, Tkt],
-        paths: &[&[0, 0, 0]],
-        keeps: &[1, 1],
+        kinds: &[Tkt; 5],
+        paths: &[&[0, 0, 0, 0, 0]],
+        keeps: &[1; 4],
         quotas: &[2],
     };
-    let Some(root) = held::<Lock3<Roll>, _>(&rt, rt.alloc(), &setting) else {
+    let Some(root) = held_by_one::<Lock5<Roll>, _>(&rt, rt.alloc(), &setting) else {
         panic!(rt; "there was no memory")
     };
     let mut turns = root.trail().turns().iter();
-    assert!(rt; turns.all(|turn| turn.climb == 2 && turn.tests == 0 && turn.left == 2));
+    assert!(rt; turns.all(|turn| turn.climb == 4 && turn.tests == 0 && turn.left == 4));
     assert!(rt; has_all(&root, 1, 2));
 }

@@ -12,11 +12,11 @@ returns-in-Ok-clause-quotas g c =
     quotas_named c.close.result _ c.close.ensures.tagged
     ∙ sym (quotas_named c.in-Some.start.root _ (sym c.in-Ok.ensures.made.tag_is)) ∙ c.in-Some.ensures.quotas
 
-pub returns-in-Err-clause-shape : goal.returns-in-Err-clause-shape
-returns-in-Err-clause-shape g c =
+pub returns-clause-shape : goal.returns-clause-shape
+returns-clause-shape g c =
     shape_named c.in-Err.refused.value _ c.in-Err.ensures.tagged ∙ sym (shape_named c.in-Some.start.root _ refl) ∙ c.in-Some.ensures.same
 
-pub returns-in-Err-clause-quotas : goal.returns-in-Err-clause-quotas
-returns-in-Err-clause-quotas g c =
+pub returns-clause-quotas : goal.returns-clause-quotas
+returns-clause-quotas g c =
     quotas_named c.in-Err.refused.value _ c.in-Err.ensures.tagged ∙ sym (quotas_named c.in-Some.start.root _ refl)
     ∙ c.in-Some.ensures.quotas

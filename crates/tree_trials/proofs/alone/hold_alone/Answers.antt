@@ -1,8 +1,8 @@
 use Rattle.std.proofs.Common.{◌≡◌, length, rules}
 use Rattle.level_trials.specs.Jobs.{IsJob}
 use Rattle.level_trials.proofs.Items.{at_end}
-use Rattle.compose_bench.proofs.OneJob.{one_ended, own_pass, own_share}
-use Rattle.compose_bench.proofs.alone.hold_alone.Goals as goal
+use Rattle.tree_trials.proofs.OneJob.{one_ended, own_pass, own_share}
+use Rattle.tree_trials.proofs.alone.hold_alone.Goals as goal
 
 pub hold_all-requires-clause-pass : goal.hold_all-requires-clause-pass
 hold_all-requires-clause-pass g c =

@@ -1,4 +1,4 @@
-//! Holds by one caller.
+//! Holds by one caller, on the calling thread.
 ghost use Rattle.std.specs.Prelude.{◌≡◌, length, IfSome};
 ghost use Rattle.keep_local.specs.Shapes.{callers_of};
 ghost use Rattle.keep_local.specs.States.{new_shares};
@@ -8,14 +8,14 @@ ghost use Rattle.clof_compose.specs.Roots.{IsFit, root_tag};
 ghost use Rattle.level_trials.specs.Rooms.{HasRoom, roll_tag};
 
 use clof_compose::{Composed, Resting, Root};
-use keep_local::{Shape, Share};
-use level_trials::{Lacking, Roll, close_ended, deal, hold_all};
+use keep_local::Share;
+use level_trials::{Roll, close_ended, deal, hold_all};
 use std::alloc::Global;
 use std::sync::Wait;
 
 /// The one caller of a lock holds it once for each turn of its share, and the lock is taken apart. The answer is its root, or `None` for
 /// want of memory, and where there is more than one caller.
-fn hold_alone<C: Composed<Roll> + Drop, R: Wait>(
+pub(crate) fn hold_alone<C: Composed<Roll> + Drop, R: Wait>(
     rt: &R,
     alloc: Global,
     lock: C,
@@ -41,23 +41,4 @@ fn hold_alone<C: Composed<Roll> + Drop, R: Wait>(
     }
     jobs.push_reserved(hold_all(rt, &lock, job));
     close_ended(lock, Some((jobs, passes)))
-}
-
-/// No level is lacking, and there is one caller.
-pub(crate) struct Alone;
-
-impl Lacking for Alone {
-    ghost levels = { 0 };
-
-    fn walk_below<C: Composed<Roll> + Drop, R: Wait>(
-        rt: &R,
-        alloc: Global,
-        shape: &Shape,
-        level: u32,
-        lock: C,
-        passes: Vec<C::Pass>,
-        shares: Vec<Share>,
-    ) -> Option<Root<Roll>> {
-        hold_alone(rt, alloc, lock, passes, shares)
-    }
 }
