@@ -2,7 +2,8 @@
 use lock_tree::LockKind;
 use std::alloc::Global;
 
-/// The kinds that `tkt`, `mcs`, `clh` and `hem` joined by dashes name. The answer is `None` for want of memory, and where a word names no kind.
+/// The kinds that `tkt`, `mcs`, `clh` and `hem` joined by dashes name. The answer is `None` for want of memory, and where a word names no
+/// kind.
 pub(crate) fn read_kinds(alloc: Global, words: &str) -> Option<Vec<LockKind>> {
     let mut kinds = Vec::new(alloc);
     for word in words.split('-') {

@@ -1,7 +1,12 @@
 //! Locks of four levels.
+ghost use Rattle.std.specs.Prelude.{◌≡◌, ◌<◌, length, IfOk, IfErr};
+ghost use Rattle.keep_local.specs.Shapes.{callers_of, top_of};
+ghost use Rattle.clof_compose.specs.Roots.{IsFit, root_tag};
+ghost use Rattle.level_trials.specs.Rooms.{roll_tag};
+ghost use Rattle.lock_tree.specs.Made.{IsMade};
 
 use crate::ready::Makes;
-use clof_compose::Root;
+use clof_compose::{Composed, Resting, Root};
 use keep_local::Shape;
 use level_trials::Roll;
 use lock_rules::Refused;
@@ -16,7 +21,19 @@ impl Makes for Lock4<Roll> {
         plan: &Plan,
         root: Root<Roll>,
         shape: &Shape,
-    ) -> Result<(Lock4<Roll>, Vec<LowPass>), Refused<Root<Roll>>> {
+    ) -> Result<(Lock4<Roll>, Vec<LowPass>), Refused<Root<Roll>>>
+        requires kinds { length plan.now.kinds ≡ 4 }
+        requires top { top_of shape.now ≡ 3 }
+        requires callers { 0 < callers_of shape.now }
+        requires fit { IsFit (λ r. r.callers.items) root }
+        requires shape { root.trail.shape ≡ shape.now }
+        ensures made { IfOk result (λ m. IsMade ⟦<LowPass as Resting>⟧.rest (⟦<Lock4<Roll> as Composed<Roll>>⟧.has m.0)
+            (⟦<Lock4<Roll> as Composed<Roll>>⟧.sound m.0) (⟦<Lock4<Roll> as Composed<Roll>>⟧.level m.0)
+            (⟦<Lock4<Roll> as Composed<Roll>>⟧.count m.0) (⟦<Lock4<Roll> as Composed<Roll>>⟧.tag m.0) shape.now
+            (root_tag roll_tag root) m.1.items) }
+        ensures fit { IfErr result (λ r. IsFit (λ l. l.callers.items) r.value) }
+        ensures tagged { IfErr result (λ r. root_tag roll_tag r.value ≡ root_tag roll_tag root) }
+    {
         make_4::<Roll>(alloc, plan, root, shape)
     }
 }

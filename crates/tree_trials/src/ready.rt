@@ -47,8 +47,8 @@ pub struct Ready<C, P> {
     pub shares: Vec<Share>,
 }
 
-/// A lock of these kinds for a shape, with a new trail of these quotas and a roll that has room for all turns. The answer is `None` for want
-/// of memory, and where the shape has no callers.
+/// A lock of these kinds for a shape, with a new trail of these quotas and a roll that has room for all turns. The answer is `None` for
+/// want of memory, and where the shape has no callers.
 pub fn make_ready<L: Makes>(
     alloc: Global,
     kinds: &[LockKind],

@@ -11,8 +11,8 @@ use lock_threads::{Works, by_all};
 use std::sync::Wait;
 use std::thread::Threads;
 
-/// A lock, one of whose callers a thread can serve. Each number of levels says what this asks of a caller's job, and what comes of it; so the
-/// function that starts the threads knows no lock.
+/// A lock, one of whose callers a thread can serve. Each number of levels says what this asks of a caller's job, and what comes of it; so
+/// the function that starts the threads knows no lock.
 pub(crate) trait Serves<J, R> {
     // This job may be done.
     ghost allows: { Self → J → Type 0 };

@@ -1,4 +1,9 @@
 //! Locks of three levels.
+ghost use Rattle.std.specs.Prelude.{◌≡◌, ◌<◌, ℕ, length, slice_get, Some, IfOk, IfErr};
+ghost use Rattle.keep_local.specs.Shapes.{callers_of, top_of};
+ghost use Rattle.clof_compose.specs.Roots.{IsFit, root_tag};
+ghost use Rattle.level_trials.specs.Rooms.{roll_tag};
+ghost use Rattle.lock_tree.specs.Made.{IsMade};
 ghost use Rattle.tree_trials.specs.Shifts.{HasWorked, MayWork};
 
 use crate::ready::Makes;
@@ -20,7 +25,19 @@ impl Makes for Lock3<Roll> {
         plan: &Plan,
         root: Root<Roll>,
         shape: &Shape,
-    ) -> Result<(Lock3<Roll>, Vec<LowPass>), Refused<Root<Roll>>> {
+    ) -> Result<(Lock3<Roll>, Vec<LowPass>), Refused<Root<Roll>>>
+        requires kinds { length plan.now.kinds ≡ 3 }
+        requires top { top_of shape.now ≡ 2 }
+        requires callers { 0 < callers_of shape.now }
+        requires fit { IsFit (λ r. r.callers.items) root }
+        requires shape { root.trail.shape ≡ shape.now }
+        ensures made { IfOk result (λ m. IsMade ⟦<LowPass as Resting>⟧.rest (⟦<Lock3<Roll> as Composed<Roll>>⟧.has m.0)
+            (⟦<Lock3<Roll> as Composed<Roll>>⟧.sound m.0) (⟦<Lock3<Roll> as Composed<Roll>>⟧.level m.0)
+            (⟦<Lock3<Roll> as Composed<Roll>>⟧.count m.0) (⟦<Lock3<Roll> as Composed<Roll>>⟧.tag m.0) shape.now
+            (root_tag roll_tag root) m.1.items) }
+        ensures fit { IfErr result (λ r. IsFit (λ l. l.callers.items) r.value) }
+        ensures tagged { IfErr result (λ r. root_tag roll_tag r.value ≡ root_tag roll_tag root) }
+    {
         make_3::<Roll>(alloc, plan, root, shape)
     }
 }
@@ -40,7 +57,14 @@ impl<R: Wait> Serves<Job<LowPass>, R> for Lock3<Roll> {
 }
 
 impl<R: Threads + Wait + Sync> Threaded<R> for Lock3<Roll> {
-    fn serve(rt: &R, lock: &Lock3<Roll>, jobs: Vec<Job<LowPass>>) -> Vec<Job<LowPass>> {
+    fn serve(rt: &R, lock: &Lock3<Roll>, jobs: Vec<Job<LowPass>>) -> Vec<Job<LowPass>>
+        requires allowed { (k : ℕ) (j : _) → slice_get jobs.items k ≡ Some j → MayWork ⟦<LowPass as Resting>⟧.rest
+            (⟦<Lock3<Roll> as Composed<Roll>>⟧.has lock.now) (⟦<Lock3<Roll> as Composed<Roll>>⟧.level lock.now)
+            (⟦<Lock3<Roll> as Composed<Roll>>⟧.tag lock.now) (⟦<Lock3<Roll> as Composed<Roll>>⟧.sound lock.now) j }
+        ensures many { length result.items ≡ length jobs.items }
+        ensures each { (k : ℕ) (j left : _) → slice_get jobs.items k ≡ Some j → slice_get result.items k ≡ Some left
+            → HasWorked ⟦<LowPass as Resting>⟧.rest j left }
+    {
         passes_are_shared();
         receipts_are_shared();
         serve_all(rt, lock, jobs)

@@ -78,8 +78,8 @@ pub fn hold_over<L: Makes + Threaded<R>, R: Threads + Wait + Sync>(
     close_ended(lock, ended)
 }
 
-/// The one caller of a shape holds a lock of these kinds as often as its quota, on the calling thread, and the lock is taken apart. The answer
-/// is its root, or `None` for want of memory, and where the shape has more callers or none.
+/// The one caller of a shape holds a lock of these kinds as often as its quota, on the calling thread, and the lock is taken apart. The
+/// answer is its root, or `None` for want of memory, and where the shape has more callers or none.
 pub fn hold_by_one<L: Makes, R: Wait>(
     rt: &R,
     alloc: Global,

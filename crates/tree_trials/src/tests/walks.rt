@@ -111,8 +111,8 @@ fn five_callers_walk_over_five_levels_of_four_kinds(rt: HostRuntime) {
     assert!(rt; has_turns(&walked.root, &turns));
 }
 
-/// Six choices of kinds and their turns, by the plain model: a caller and its tests at level 0, for each turn. All climb to the top and leave
-/// there, since no node keeps the lock.
+/// Six choices of kinds and their turns, by the plain model: a caller and its tests at level 0, for each turn. All climb to the top and
+/// leave there, since no node keeps the lock.
 const CHOICES: [([LockKind; 2], [u32; 11], [u32; 11]); 6] = [
     (
         [Tkt, Tkt],
