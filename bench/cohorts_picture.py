@@ -7,7 +7,7 @@ beside each bar its number.
 import html
 import sys
 
-LEFT, WIDTH, BAR, GAP, HEAD = 120, 520, 14, 12, 64
+LEFT, WIDTH, BAR, GAP, HEAD = 150, 520, 14, 12, 64
 COLOURS = ["#9ecae1", "#4292c6", "#084594"]
 
 
@@ -18,7 +18,7 @@ def read(lines):
     table = []
     for row in rows:
         name, *numbers = row.split()
-        if len(numbers) != len(columns):
+        if not 0 < len(numbers) <= len(columns):
             sys.exit(f"the row {name} has {len(numbers)} numbers for {len(columns)} columns")
         table.append((name, [float(number) for number in numbers]))
     return machine, columns, table
