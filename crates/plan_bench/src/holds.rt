@@ -1,51 +1,65 @@
-//! Holds of a lock of any number of levels.
-ghost use Rattle.std.specs.Prelude.{◌≡◌, ◌+◌, length};
+//! Holds of a lock of one to five levels.
+ghost use Rattle.std.specs.Prelude.{◌≡◌, ◌+◌, ◌<◌, ◌≤◌, IfSome};
+ghost use Rattle.keep_local.specs.Shapes.{callers_of, top_of};
 
 use crate::quotas::equal_quotas;
 use clof_compose::Root;
+use keep_local::Shape;
 use level_trials::{Roll, shape_of};
 use lock_tree::LockKind;
 use std::alloc::Global;
 use std::sync::Wait;
 use std::thread::Threads;
-use tree_trials::{Makes, Threaded, hold_by_one, hold_over};
+use tree_trials::{End, Outcome, Trial, try_lock};
 
-/// Callers on these paths hold a lock of these kinds, each in a thread of its own and equally often. The answer is the root of the lock, or
-/// `None` for want of memory, where the holds are 2^32 or more in all, and where the paths are no tree.
-pub(crate) fn hold<L: Makes + Threaded<R>, R: Threads + Wait + Sync>(
+/// Up to four callers hold a lock of these kinds, each in a thread of its own and equally often. The answer is the root of the lock, or
+/// `None` for want of memory, where the holds are 2^32 or more in all, and where there is no level, more than five, or no caller.
+pub(crate) fn hold<R: Threads + Wait + Sync>(
     rt: &R,
     alloc: Global,
     kinds: &[LockKind],
-    keeps: &[u32],
-    paths: &[&[u32]],
+    keep: u32,
+    threads: usize,
     holds: u32,
 ) -> Option<Root<Roll>>
-    requires kinds { length kinds.now ≡ L.lower + 1 }
-    requires keeps { length keeps.now ≡ L.lower }
+    requires { threads ≤ 4 }
 {
-    let quotas = equal_quotas(alloc, paths.len(), holds)?;
-    let shape = shape_of(alloc, paths, keeps)?;
+    let levels = kinds.len();
+    if levels == 0 || levels > 5 {
+        return None;
+    }
+    let quotas = equal_quotas(alloc, threads, holds)?;
+    let shape = two_by_two(alloc, levels, keep, threads)?;
     if !shape.is_well_formed() {
         return None;
     }
-    hold_over::<L, R>(rt, alloc, kinds, shape, &quotas)
+    match try_lock(rt, alloc, kinds, shape, &quotas, Trial::Hold) {
+        Some(
+            Outcome {
+                root,
+                end: End::Done(_),
+            },
+        ) => Some(root),
+        _ => None,
+    }
 }
 
-/// The one caller of a lock of these kinds holds it so often. The answer is the root of the lock, or `None` for want of memory.
-pub(crate) fn hold_alone<L: Makes, R: Wait>(
-    rt: &R,
-    alloc: Global,
-    kinds: &[LockKind],
-    keeps: &[u32],
-    path: &[u32],
-    holds: u32,
-) -> Option<Root<Roll>>
-    requires kinds { length kinds.now ≡ L.lower + 1 }
-    requires keeps { length keeps.now ≡ L.lower }
+// The shape of up to four callers, of whom two stand under each node of the lowest level; the nodes stand under one.
+fn two_by_two(alloc: Global, levels: usize, keep: u32, callers: usize) -> Option<Shape>
+    requires some { 0 < levels }
+    requires most { levels ≤ 5 }
+    requires callers { callers ≤ 4 }
+    ensures callers { IfSome result (λ s. callers_of s ≡ callers) }
+    ensures top { IfSome result (λ s. top_of s + 1 ≡ levels) }
 {
-    let shape = shape_of(alloc, &[path], keeps)?;
-    if !shape.is_well_formed() {
-        return None;
-    }
-    hold_by_one::<L, R>(rt, alloc, kinds, shape, &[holds])
+    let path = &FIRST[..levels];
+    let other = if levels == 1 { path } else { &SECOND[..levels] };
+    let paths = [path, path, other, other];
+    shape_of(alloc, &paths[..callers], &[keep; 4][..levels - 1])
 }
+
+/// The path of the first two callers, from the lowest level up.
+const FIRST: [u32; 5] = [0; 5];
+
+/// That of the others, where they have a node of their own.
+const SECOND: [u32; 5] = [1, 0, 0, 0, 0];

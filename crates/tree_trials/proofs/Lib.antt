@@ -1,2 +1,2 @@
-pub mod OneJob
+pub mod Raised
 pub mod Shifts

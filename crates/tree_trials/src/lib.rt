@@ -1,21 +1,19 @@
-//! Trials of the locks of `lock_tree`: a lock is made for a plan's kinds and a shape of callers, who then walk over it
-//! on one thread, or hold it in threads of their own; or it is closed again at once.
+//! Trials of the locks that `lock_tree` makes: a lock is made for a plan's kinds and a shape of callers, who then walk over it on one
+//! thread or hold it in threads of their own, or it is closed again at once.
 #![tactic(auto)]
 
-mod alone;
-mod five;
-mod four;
-mod one;
-mod ready;
-mod shift;
+mod given;
+mod laws;
+mod outcome;
+mod rising;
 mod start;
 #[cfg(test)]
 mod tests;
-mod three;
 mod trials;
-mod two;
+mod tried;
+mod under;
 
-pub use ready::{Makes, Ready, make_ready};
-pub use shift::Threaded;
+pub use given::Trial;
+pub use outcome::{End, Outcome};
 pub use start::{Start, make_start};
-pub use trials::{close_over, hold_by_one, hold_over, walk_over};
+pub use trials::try_lock;

@@ -6,10 +6,10 @@ mod steps;
 mod threads;
 mod walks;
 
-use crate::{Makes, Threaded, close_over, hold_by_one, hold_over, walk_over};
+use crate::{End, Outcome, Trial, try_lock};
 use clof_compose::Root;
 use keep_local::{Turn, is_lawful};
-use level_trials::{Roll, Walked, shape_of};
+use level_trials::{Roll, Stood, shape_of};
 use lock_tree::LockKind;
 use std::alloc::Global;
 use std::sync::Wait;
@@ -53,15 +53,23 @@ pub(crate) fn has_turns(root: &Root<Roll>, turns: &[Turn]) -> bool {
     root.trail().turns() == turns && is_of_its_turns(root)
 }
 
-/// The callers of a setting walk, those that `order` names first.
-pub(crate) fn walked<L: Makes, R: Wait>(
+/// Whether a walk was made, and the callers that were named stood there behind their steps.
+pub(crate) fn stood_at(outcome: &Outcome<Roll>, places: &[Stood]) -> bool {
+    match &outcome.end {
+        End::Done(stood) => stood.as_slice() == places,
+        End::Refused => false,
+    }
+}
+
+/// The callers of a setting have a trial of its lock.
+pub(crate) fn tried<R: Threads + Wait + Sync>(
     rt: &R,
     alloc: Global,
     setting: &Setting<'_>,
-    order: &[usize],
-) -> Option<Walked>
-    requires kinds { length setting.now.kinds.now ≡ L.lower + 1 }
-    requires top { length setting.now.keeps.now ≡ L.lower }
+    trial: Trial<'_>,
+) -> Option<Outcome<Roll>>
+    requires kinds { length setting.now.kinds.now ≡ length setting.now.keeps.now + 1 }
+    requires levels { length setting.now.keeps.now < 5 }
     requires few { length setting.now.paths.now < 2 ^ 32 }
     requires quotas { length setting.now.quotas.now ≡ length setting.now.paths.now }
     requires fits { sum setting.now.quotas.now < 2 ^ 32 }
@@ -70,58 +78,5 @@ pub(crate) fn walked<L: Makes, R: Wait>(
     if !shape.is_well_formed() {
         return None;
     }
-    walk_over::<L, R>(rt, alloc, setting.kinds, shape, setting.quotas, order)
-}
-
-/// The callers of a setting hold its lock in threads of their own.
-pub(crate) fn held<L: Makes + Threaded<R>, R: Threads + Wait + Sync>(
-    rt: &R,
-    alloc: Global,
-    setting: &Setting<'_>,
-) -> Option<Root<Roll>>
-    requires kinds { length setting.now.kinds.now ≡ L.lower + 1 }
-    requires top { length setting.now.keeps.now ≡ L.lower }
-    requires few { length setting.now.paths.now < 2 ^ 32 }
-    requires quotas { length setting.now.quotas.now ≡ length setting.now.paths.now }
-    requires fits { sum setting.now.quotas.now < 2 ^ 32 }
-{
-    let shape = shape_of(alloc, setting.paths, setting.keeps)?;
-    if !shape.is_well_formed() {
-        return None;
-    }
-    hold_over::<L, R>(rt, alloc, setting.kinds, shape, setting.quotas)
-}
-
-/// The one caller of a setting holds its lock.
-pub(crate) fn held_by_one<L: Makes, R: Wait>(
-    rt: &R,
-    alloc: Global,
-    setting: &Setting<'_>,
-) -> Option<Root<Roll>>
-    requires kinds { length setting.now.kinds.now ≡ L.lower + 1 }
-    requires top { length setting.now.keeps.now ≡ L.lower }
-    requires few { length setting.now.paths.now < 2 ^ 32 }
-    requires quotas { length setting.now.quotas.now ≡ length setting.now.paths.now }
-    requires fits { sum setting.now.quotas.now < 2 ^ 32 }
-{
-    let shape = shape_of(alloc, setting.paths, setting.keeps)?;
-    if !shape.is_well_formed() {
-        return None;
-    }
-    hold_by_one::<L, R>(rt, alloc, setting.kinds, shape, setting.quotas)
-}
-
-/// The lock of a setting is made, or refused, and its root comes back.
-pub(crate) fn closed<L: Makes>(alloc: Global, setting: &Setting<'_>) -> Option<Root<Roll>>
-    requires kinds { length setting.now.kinds.now ≡ L.lower + 1 }
-    requires top { length setting.now.keeps.now ≡ L.lower }
-    requires few { length setting.now.paths.now < 2 ^ 32 }
-    requires quotas { length setting.now.quotas.now ≡ length setting.now.paths.now }
-    requires fits { sum setting.now.quotas.now < 2 ^ 32 }
-{
-    let shape = shape_of(alloc, setting.paths, setting.keeps)?;
-    if !shape.is_well_formed() {
-        return None;
-    }
-    close_over::<L>(alloc, setting.kinds, shape, setting.quotas)
+    try_lock(rt, alloc, setting.kinds, shape, setting.quotas, trial)
 }

@@ -1,45 +1,47 @@
-//! Locks that are made and closed again. Where an allocation is refused, as by `rt try --test --fail-alloc 1..60`, the root comes back from
+//! Locks that are made and closed again. Where an allocation is refused, as by `rt try --test --fail-alloc 1..90`, the root comes back from
 //! the locks that were refused.
-use super::{Setting, closed, has_turns};
-use level_trials::Roll;
+use super::{Setting, has_turns, tried};
+use crate::Trial;
 use lock_tree::LockKind::{Clh, Hem, Mcs, Tkt};
-use lock_tree::{Lock1, Lock2, Lock3};
 
+/// Locks of one to five levels, of which each level has a kind of its own.
 #[test]
-fn a_root_comes_back_from_one_level(rt: HostRuntime) {
-    let setting = Setting {
-        kinds: &[Mcs],
-        paths: &[&[0], &[0]],
-        keeps: &[],
-        quotas: &[1, 1],
-    };
-    if let Some(root) = closed::<Lock1<Roll>>(rt.alloc(), &setting) {
-        assert!(rt; has_turns(&root, &[]));
-    }
-}
-
-#[test]
-fn a_root_comes_back_from_two_levels(rt: HostRuntime) {
-    let setting = Setting {
-        kinds: &[Clh, Mcs],
-        paths: &[&[0, 0], &[1, 0]],
-        keeps: &[1],
-        quotas: &[1, 1],
-    };
-    if let Some(root) = closed::<Lock2<Roll>>(rt.alloc(), &setting) {
-        assert!(rt; has_turns(&root, &[]));
-    }
-}
-
-#[test]
-fn a_root_comes_back_from_three_levels(rt: HostRuntime) {
-    let setting = Setting {
-        kinds: &[Hem, Clh, Tkt],
-        paths: &[&[0, 0, 0], &[1, 0, 0]],
-        keeps: &[1, 1],
-        quotas: &[1, 1],
-    };
-    if let Some(root) = closed::<Lock3<Roll>>(rt.alloc(), &setting) {
-        assert!(rt; has_turns(&root, &[]));
+fn a_root_comes_back_from_each_number_of_levels(rt: HostRuntime) {
+    let settings = [
+        Setting {
+            kinds: &[Mcs],
+            paths: &[&[0], &[0]],
+            keeps: &[],
+            quotas: &[1, 1],
+        },
+        Setting {
+            kinds: &[Clh, Mcs],
+            paths: &[&[0, 0], &[1, 0]],
+            keeps: &[1],
+            quotas: &[1, 1],
+        },
+        Setting {
+            kinds: &[Hem, Clh, Tkt],
+            paths: &[&[0, 0, 0], &[1, 0, 0]],
+            keeps: &[1; 2],
+            quotas: &[1, 1],
+        },
+        Setting {
+            kinds: &[Tkt, Hem, Clh, Mcs],
+            paths: &[&[0, 0, 0, 0], &[1, 1, 0, 0]],
+            keeps: &[1; 3],
+            quotas: &[1, 1],
+        },
+        Setting {
+            kinds: &[Mcs, Tkt, Hem, Clh, Hem],
+            paths: &[&[0, 0, 0, 0, 0], &[1, 1, 1, 0, 0]],
+            keeps: &[1; 4],
+            quotas: &[1, 1],
+        },
+    ];
+    for setting in &settings {
+        if let Some(outcome) = tried(&rt, rt.alloc(), setting, Trial::Close) {
+            assert!(rt; has_turns(&outcome.root, &[]));
+        }
     }
 }

@@ -1,8 +1,7 @@
 //! Orders of steps that no round makes: a caller that leaves asks more than once before the one behind it looks.
-use super::{Setting, has_turns, turn, walked};
-use level_trials::Roll;
+use super::{Setting, has_turns, stood_at, tried, turn};
+use crate::Trial;
 use level_trials::Stood::{Holding, Idle, Leaving, Nowhere, Queued};
-use lock_tree::Lock2;
 use lock_tree::LockKind::{Hem, Mcs, Tkt};
 
 /// The node lets the top go, and its own Hemlock has the grant taken late.
@@ -15,7 +14,7 @@ fn a_caller_leaves_the_lowest_level_late(rt: HostRuntime) {
         quotas: &[1, 1],
     };
     let order = [0, 1, 0, 0, 0, 1, 0];
-    let Some(walked) = walked::<Lock2<Roll>, _>(&rt, rt.alloc(), &setting, &order) else {
+    let Some(outcome) = tried(&rt, rt.alloc(), &setting, Trial::Walk(&order)) else {
         panic!(rt; "there was no memory")
     };
     let stood = [
@@ -27,8 +26,8 @@ fn a_caller_leaves_the_lowest_level_late(rt: HostRuntime) {
         Holding,
         Idle,
     ];
-    assert!(rt; walked.stood.as_slice() == stood.as_slice());
-    assert!(rt; has_turns(&walked.root, &[turn(0, 1, 1, 1), turn(1, 1, 0, 1)]));
+    assert!(rt; stood_at(&outcome, &stood));
+    assert!(rt; has_turns(&outcome.root, &[turn(0, 1, 1, 1), turn(1, 1, 0, 1)]));
 }
 
 /// Nobody is behind in the node, and the top Hemlock has the grant taken late.
@@ -41,7 +40,7 @@ fn a_caller_leaves_the_top_late(rt: HostRuntime) {
         quotas: &[1, 1],
     };
     let order = [0, 0, 1, 1, 0, 0, 0, 1, 0];
-    let Some(walked) = walked::<Lock2<Roll>, _>(&rt, rt.alloc(), &setting, &order) else {
+    let Some(outcome) = tried(&rt, rt.alloc(), &setting, Trial::Walk(&order)) else {
         panic!(rt; "there was no memory")
     };
     let stood = [
@@ -55,8 +54,8 @@ fn a_caller_leaves_the_top_late(rt: HostRuntime) {
         Holding,
         Idle,
     ];
-    assert!(rt; walked.stood.as_slice() == stood.as_slice());
-    assert!(rt; has_turns(&walked.root, &[turn(0, 1, 0, 1), turn(1, 1, 0, 1)]));
+    assert!(rt; stood_at(&outcome, &stood));
+    assert!(rt; has_turns(&outcome.root, &[turn(0, 1, 0, 1), turn(1, 1, 0, 1)]));
 }
 
 /// Both levels have the grant taken late, the top first; in between the caller goes down a level.
@@ -69,7 +68,7 @@ fn a_caller_leaves_both_levels_late(rt: HostRuntime) {
         quotas: &[1, 1, 1],
     };
     let order = [0, 1, 2, 0, 0, 2, 0, 0, 1, 0, 5];
-    let Some(walked) = walked::<Lock2<Roll>, _>(&rt, rt.alloc(), &setting, &order) else {
+    let Some(outcome) = tried(&rt, rt.alloc(), &setting, Trial::Walk(&order)) else {
         panic!(rt; "there was no memory")
     };
     let stood = [
@@ -85,7 +84,7 @@ fn a_caller_leaves_both_levels_late(rt: HostRuntime) {
         Idle,
         Nowhere,
     ];
-    assert!(rt; walked.stood.as_slice() == stood.as_slice());
+    assert!(rt; stood_at(&outcome, &stood));
     let turns = [turn(0, 1, 1, 1), turn(2, 1, 0, 1), turn(1, 1, 0, 1)];
-    assert!(rt; has_turns(&walked.root, &turns));
+    assert!(rt; has_turns(&outcome.root, &turns));
 }

@@ -1,9 +1,9 @@
 //! Callers in threads of their own. In which order they come is up to the machine.
-use super::{Setting, held, held_by_one, is_of_its_turns};
+use super::{Setting, is_of_its_turns, tried};
+use crate::Trial;
 use clof_compose::Root;
 use level_trials::Roll;
 use lock_tree::LockKind::{Clh, Hem, Mcs, Tkt};
-use lock_tree::{Lock1, Lock2, Lock3, Lock5};
 
 /// How often each thread holds the lock.
 const HOLDS: u32 = 1000;
@@ -20,7 +20,7 @@ fn has_all(root: &Root<Roll>, callers: u32, holds: u32) -> bool {
 
 /// Two callers of a lock of one level.
 #[test]
-fn two_threads_hold_one_level(rt: HostRuntime) {
+fn two_threads_hold_one_level_of_each_kind(rt: HostRuntime) {
     for kind in [Tkt, Mcs, Clh, Hem] {
         let setting = Setting {
             kinds: &[kind],
@@ -28,43 +28,59 @@ fn two_threads_hold_one_level(rt: HostRuntime) {
             keeps: &[],
             quotas: &[HOLDS; 2],
         };
-        let Some(root) = held::<Lock1<Roll>, _>(&rt, rt.alloc(), &setting) else {
+        let Some(outcome) = tried(&rt, rt.alloc(), &setting, Trial::Hold) else {
             panic!(rt; "there was no memory")
         };
-        assert!(rt; has_all(&root, 2, HOLDS));
+        assert!(rt; has_all(&outcome.root, 2, HOLDS));
     }
 }
 
-/// Two cohorts of two callers each, which meet at the top.
+/// Two cohorts of two callers each under one to five levels. They meet at the top, and of five levels at the third.
 #[test]
-fn four_threads_hold_two_levels(rt: HostRuntime) {
-    for kinds in [[Tkt, Tkt], [Mcs, Clh], [Hem, Hem]] {
-        let setting = Setting {
-            kinds: &kinds,
+fn four_threads_hold_each_number_of_levels(rt: HostRuntime) {
+    let settings = [
+        Setting {
+            kinds: &[Clh],
+            paths: &[&[0], &[0], &[0], &[0]],
+            keeps: &[],
+            quotas: &[HOLDS; 4],
+        },
+        Setting {
+            kinds: &[Mcs, Clh],
             paths: &[&[0, 0], &[0, 0], &[1, 0], &[1, 0]],
             keeps: &[9],
             quotas: &[HOLDS; 4],
-        };
-        let Some(root) = held::<Lock2<Roll>, _>(&rt, rt.alloc(), &setting) else {
+        },
+        Setting {
+            kinds: &[Tkt, Hem, Mcs],
+            paths: &[&[0, 0, 0], &[0, 0, 0], &[1, 1, 0], &[1, 1, 0]],
+            keeps: &[9; 2],
+            quotas: &[HOLDS; 4],
+        },
+        Setting {
+            kinds: &[Hem, Hem, Tkt, Clh],
+            paths: &[&[0, 0, 0, 0], &[0, 0, 0, 0], &[1, 1, 1, 0], &[1, 1, 1, 0]],
+            keeps: &[9; 3],
+            quotas: &[HOLDS; 4],
+        },
+        Setting {
+            kinds: &[Clh, Tkt, Hem, Mcs, Hem],
+            paths: &[
+                &[0, 0, 0, 0, 0],
+                &[0, 0, 0, 0, 0],
+                &[1, 1, 0, 0, 0],
+                &[1, 1, 0, 0, 0],
+            ],
+            keeps: &[9; 4],
+            quotas: &[HOLDS; 4],
+        },
+    ];
+    for setting in &settings {
+        let Some(outcome) = tried(&rt, rt.alloc(), setting, Trial::Hold) else {
             panic!(rt; "there was no memory")
         };
-        assert!(rt; has_all(&root, 4, HOLDS));
+        assert!(rt; has_all(&outcome.root, 4, HOLDS));
     }
-}
-
-/// Two cohorts of two callers each, which meet at the top of three levels.
-#[test]
-fn four_threads_hold_three_levels(rt: HostRuntime) {
-    let setting = Setting {
-        kinds: &[Tkt, Hem, Mcs],
-        paths: &[&[0, 0, 0], &[0, 0, 0], &[1, 1, 0], &[1, 1, 0]],
-        keeps: &[9, 9],
-        quotas: &[HOLDS; 4],
-    };
-    let Some(root) = held::<Lock3<Roll>, _>(&rt, rt.alloc(), &setting) else {
-        panic!(rt; "there was no memory")
-    };
-    assert!(rt; has_all(&root, 4, HOLDS));
 }
 
 /// One caller alone climbs to the top at each hold, and leaves there.
@@ -76,10 +92,10 @@ fn one_caller_holds_five_levels_twice(rt: HostRuntime) {
         keeps: &[1; 4],
         quotas: &[2],
     };
-    let Some(root) = held_by_one::<Lock5<Roll>, _>(&rt, rt.alloc(), &setting) else {
+    let Some(outcome) = tried(&rt, rt.alloc(), &setting, Trial::Hold) else {
         panic!(rt; "there was no memory")
     };
-    let mut turns = root.trail().turns().iter();
+    let mut turns = outcome.root.trail().turns().iter();
     assert!(rt; turns.all(|turn| turn.climb == 4 && turn.tests == 0 && turn.left == 4));
-    assert!(rt; has_all(&root, 1, 2));
+    assert!(rt; has_all(&outcome.root, 1, 2));
 }

@@ -1,9 +1,8 @@
 //! The turns of walks, in their order, by hand and by the plain model in bench/walk_model.py.
-use super::{Setting, has_turns, turn, walked};
+use super::{Setting, has_turns, tried, turn};
+use crate::Trial;
 use keep_local::Turn;
-use level_trials::Roll;
 use lock_tree::LockKind::{self, Clh, Hem, Mcs, Tkt};
-use lock_tree::{Lock1, Lock2, Lock3, Lock5};
 
 #[test]
 fn two_callers_take_turns_at_one_level(rt: HostRuntime) {
@@ -14,11 +13,11 @@ fn two_callers_take_turns_at_one_level(rt: HostRuntime) {
             keeps: &[],
             quotas: &[2, 1],
         };
-        let Some(walked) = walked::<Lock1<Roll>, _>(&rt, rt.alloc(), &setting, &[]) else {
+        let Some(outcome) = tried(&rt, rt.alloc(), &setting, Trial::Walk(&[])) else {
             panic!(rt; "there was no memory")
         };
         let turns = [turn(0, 0, 0, 0), turn(1, 0, 0, 0), turn(0, 0, 0, 0)];
-        assert!(rt; has_turns(&walked.root, &turns));
+        assert!(rt; has_turns(&outcome.root, &turns));
     }
 }
 
@@ -30,11 +29,11 @@ fn a_node_of_two_hands_the_lock_over_once(rt: HostRuntime) {
         keeps: &[1],
         quotas: &[1, 1],
     };
-    let Some(walked) = walked::<Lock2<Roll>, _>(&rt, rt.alloc(), &setting, &[]) else {
+    let Some(outcome) = tried(&rt, rt.alloc(), &setting, Trial::Walk(&[])) else {
         panic!(rt; "there was no memory")
     };
     let turns = [turn(0, 1, 1, 0), turn(1, 0, 0, 1)];
-    assert!(rt; has_turns(&walked.root, &turns));
+    assert!(rt; has_turns(&outcome.root, &turns));
 }
 
 #[test]
@@ -45,11 +44,11 @@ fn a_node_that_keeps_none_lets_go(rt: HostRuntime) {
         keeps: &[0],
         quotas: &[1, 1],
     };
-    let Some(walked) = walked::<Lock2<Roll>, _>(&rt, rt.alloc(), &setting, &[]) else {
+    let Some(outcome) = tried(&rt, rt.alloc(), &setting, Trial::Walk(&[])) else {
         panic!(rt; "there was no memory")
     };
     let turns = [turn(0, 1, 1, 1), turn(1, 1, 0, 1)];
-    assert!(rt; has_turns(&walked.root, &turns));
+    assert!(rt; has_turns(&outcome.root, &turns));
 }
 
 #[test]
@@ -60,11 +59,11 @@ fn a_node_of_three_lets_go_at_its_threshold(rt: HostRuntime) {
         keeps: &[1],
         quotas: &[1, 1, 1],
     };
-    let Some(walked) = walked::<Lock2<Roll>, _>(&rt, rt.alloc(), &setting, &[]) else {
+    let Some(outcome) = tried(&rt, rt.alloc(), &setting, Trial::Walk(&[])) else {
         panic!(rt; "there was no memory")
     };
     let turns = [turn(0, 1, 1, 0), turn(1, 0, 1, 1), turn(2, 1, 0, 1)];
-    assert!(rt; has_turns(&walked.root, &turns));
+    assert!(rt; has_turns(&outcome.root, &turns));
 }
 
 #[test]
@@ -76,10 +75,10 @@ fn one_caller_climbs_three_levels(rt: HostRuntime) {
             keeps: &[1, 1],
             quotas: &[2],
         };
-        let Some(walked) = walked::<Lock3<Roll>, _>(&rt, rt.alloc(), &setting, &[]) else {
+        let Some(outcome) = tried(&rt, rt.alloc(), &setting, Trial::Walk(&[])) else {
             panic!(rt; "there was no memory")
         };
-        assert!(rt; has_turns(&walked.root, &[turn(0, 2, 0, 2), turn(0, 2, 0, 2)]));
+        assert!(rt; has_turns(&outcome.root, &[turn(0, 2, 0, 2), turn(0, 2, 0, 2)]));
     }
 }
 
@@ -98,7 +97,7 @@ fn five_callers_walk_over_five_levels_of_four_kinds(rt: HostRuntime) {
         keeps: &[128, 128, 128, 128],
         quotas: &[1, 1, 1, 1, 1],
     };
-    let Some(walked) = walked::<Lock5<Roll>, _>(&rt, rt.alloc(), &setting, &[]) else {
+    let Some(outcome) = tried(&rt, rt.alloc(), &setting, Trial::Walk(&[])) else {
         panic!(rt; "there was no memory")
     };
     let turns = [
@@ -108,7 +107,7 @@ fn five_callers_walk_over_five_levels_of_four_kinds(rt: HostRuntime) {
         turn(3, 2, 0, 4),
         turn(4, 4, 0, 4),
     ];
-    assert!(rt; has_turns(&walked.root, &turns));
+    assert!(rt; has_turns(&outcome.root, &turns));
 }
 
 /// Six choices of kinds and their turns, by the plain model: a caller and its tests at level 0, for each turn. All climb to the top and
@@ -165,9 +164,9 @@ fn a_walk_tells_kinds_apart(rt: HostRuntime) {
             keeps: &[0],
             quotas: &[2, 3, 3, 3],
         };
-        let Some(walked) = walked::<Lock2<Roll>, _>(&rt, rt.alloc(), &setting, &[]) else {
+        let Some(outcome) = tried(&rt, rt.alloc(), &setting, Trial::Walk(&[])) else {
             panic!(rt; "there was no memory")
         };
-        assert!(rt; are_turns_of(walked.root.trail().turns(), &callers, &tests));
+        assert!(rt; are_turns_of(outcome.root.trail().turns(), &callers, &tests));
     }
 }
