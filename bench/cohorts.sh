@@ -3,24 +3,25 @@
 # ticket lock and the cohort lock of Concurrency Kit (Debian's libck-dev), by one, two and four threads. It runs all in turn, five times
 # each, and prints a table: what is held, and nanoseconds a hold (the median) with each number of threads, the start of the process and of
 # its threads included. Each hold notes its caller in a list. Threads stand two by two under a node of the lowest level or in a cohort,
-# which keeps the lock above for nine turns more; of three levels the nodes stand under one. For rows of plans it needs a built plan_bench
-# (rt run in its folder).
+# which keeps the lock above for nine turns more; of three levels and more the nodes stand under one. For rows of plans it needs a built
+# plan_bench (rt run in its folder).
 #
 #   bench/cohorts.sh [ROW..]    the rows pthread, ck (a ticket lock), ck-ck (a cohort lock of two), and kinds as of `clof run --locks`, of
-#                               one to three levels, and of four and five by one thread alone; by default fourteen rows, in some minutes
+#                               one to five levels; by default fifteen rows, in some minutes
 #   bench/cohorts.sh > table && bench/cohorts_picture.py < table > docs/cohorts.svg
 #
-# HOLDS is how many holds all threads of a run make together, 1,000,000 by default; ROUNDS how often each is run, 5 by default.
+# HOLDS is how many holds all threads of a run make together, 1,000,000 by default; ROUNDS how often each is run, 5 by default; PLAN_BENCH
+# the program that holds locks of plans, by default the built one.
 set -eu
 cd "$(dirname "$0")/.."
 . bench/timing.sh
-[ $# -gt 0 ] || set -- pthread ck ck-ck tkt mcs clh hem tkt-tkt mcs-mcs hem-hem mcs-tkt tkt-tkt-tkt mcs-mcs-mcs tkt-tkt-tkt-tkt-tkt
+[ $# -gt 0 ] || set -- pthread ck ck-ck tkt mcs clh hem tkt-tkt mcs-mcs clh-clh hem-hem mcs-tkt tkt-tkt-tkt mcs-mcs-mcs tkt-tkt-tkt-tkt-tkt
 holds=${HOLDS:-1000000} rounds=${ROUNDS:-5} counts='1 2 4'
 for row in "$@"; do
   case $row in
     pthread) mutex=${mutex:-$(compiled pthread_mutex)} ;;
     ck | ck-ck) kit=${kit:-$(compiled ck_cohorts)} ;;
-    *) ours=${ours:-$(built plan_bench)} ;;
+    *) ours=${ours:-${PLAN_BENCH:-$(built plan_bench)}} ;;
   esac
 done
 taken=$(mktemp -d)
@@ -36,15 +37,10 @@ held() {
   esac
 }
 
-# ROW: with how many threads it is run
-counts_of() {
-  case $1 in *-*-*-*) echo 1 ;; *) echo "$counts" ;; esac
-}
-
 for row in "$@"; do held "$row" 1 > /dev/null; done
 for _ in $(seq "$rounds"); do
   for row in "$@"; do
-    for threads in $(counts_of "$row"); do nanoseconds held "$row" "$threads" >> "$taken/$row.$threads"; done
+    for threads in $counts; do nanoseconds held "$row" "$threads" >> "$taken/$row.$threads"; done
   done
 done
 
@@ -52,7 +48,7 @@ machine
 printf '%-20s %10s %10s %10s\n' 'ns a hold' '1 thread' '2 threads' '4 threads'
 for row in "$@"; do
   printf '%-20s' "$row"
-  for threads in $(counts_of "$row"); do
+  for threads in $counts; do
     awk -v t="$(median "$taken/$row.$threads")" -v n=$((holds / threads * threads)) 'BEGIN { printf " %10.1f", t / n }'
   done
   printf '\n'

@@ -3,17 +3,16 @@ ghost use Rattle.std.specs.Prelude.{◌≡◌, ◌+◌, ◌<◌, ◌≤◌, IfSo
 ghost use Rattle.keep_local.specs.Shapes.{callers_of, top_of};
 
 use crate::quotas::equal_quotas;
-use clof_compose::Root;
 use keep_local::Shape;
 use level_trials::{Roll, shape_of};
 use lock_tree::LockKind;
 use std::alloc::Global;
 use std::sync::Wait;
 use std::thread::Threads;
-use tree_trials::{End, Outcome, Trial, try_lock};
+use tree_trials::{Outcome, Trial, try_lock};
 
-/// Up to four callers hold a lock of these kinds, each in a thread of its own and equally often. The answer is the root of the lock, or
-/// `None` for want of memory, where the holds are 2^32 or more in all, and where there is no level, more than five, or no caller.
+/// Up to four callers hold a lock of these kinds, each in a thread of its own and equally often. The answer is `None` for
+/// want of memory, where the holds are 2^32 or more in all, and where there is no level, more than five, or no caller.
 pub(crate) fn hold<R: Threads + Wait + Sync>(
     rt: &R,
     alloc: Global,
@@ -21,7 +20,7 @@ pub(crate) fn hold<R: Threads + Wait + Sync>(
     keep: u32,
     threads: usize,
     holds: u32,
-) -> Option<Root<Roll>>
+) -> Option<Outcome<Roll>>
     requires { threads ≤ 4 }
 {
     let levels = kinds.len();
@@ -33,15 +32,7 @@ pub(crate) fn hold<R: Threads + Wait + Sync>(
     if !shape.is_well_formed() {
         return None;
     }
-    match try_lock(rt, alloc, kinds, shape, &quotas, Trial::Hold) {
-        Some(
-            Outcome {
-                root,
-                end: End::Done(_),
-            },
-        ) => Some(root),
-        _ => None,
-    }
+    try_lock(rt, alloc, kinds, shape, &quotas, Trial::Hold)
 }
 
 // The shape of up to four callers, of whom two stand under each node of the lowest level; the nodes stand under one.

@@ -13,6 +13,7 @@ use crate::holds::hold;
 use crate::kinds::read_kinds;
 use anyhow::{Context, bail};
 use std::env;
+use tree_trials::{End, Outcome};
 
 fn main(rt: HostRuntime) -> anyhow::Result<()> {
     let mut words = env::args(&rt)?;
@@ -29,14 +30,17 @@ fn main(rt: HostRuntime) -> anyhow::Result<()> {
     if threads != 1 && threads != 2 && threads != 4 {
         bail!("name 1, 2 or 4 threads");
     }
-    let root = hold(&rt, alloc, &kinds, keep, threads, holds).context(
+    let Outcome { root, end } = hold(&rt, alloc, &kinds, keep, threads, holds).context(
         "there was no memory, or these are too many levels or holds",
     )?;
     let (trail, roll) = root.into_parts();
-    println!(rt;
-        "{locks} {keep} {threads} {} {}",
-        trail.turns().len(),
-        roll.callers.get().len()
-    )?;
+    let turns = trail.turns().len();
+    let calls = roll.callers.get().len();
+    match end {
+        End::Done(_) => println!(rt; "{locks} {keep} {threads} {turns} {calls}")?,
+        End::Refused => bail!(
+            "there was no memory for the lock; its root came back with {turns} turns and {calls} calls"
+        ),
+    }
     Ok(())
 }

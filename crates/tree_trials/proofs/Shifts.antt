@@ -1,21 +1,16 @@
 -- What a thread has made of its job.
-use Rattle.std.proofs.Common.{◌≡◌, ℕ, List, length, get_or, ap, sym, ◌∙◌, subst, arith, Option, Some, None}
-use Rattle.std.specs.Prelude.{IfSome, slice_get}
+use Rattle.std.proofs.Common.{◌≡◌, ℕ, List, length, get_or, ap, sym, ◌∙◌, subst, arith, Some}
+use Rattle.std.specs.Prelude.{slice_get}
 use Rattle.std.proofs.lemmas.Option.{slice_get_within, slice_get-get_or}
 use Rattle.lock_rules.specs.Tag.{Tag}
-use Rattle.keep_local.specs.declared.shape.Shape.{Shape}
 use Rattle.keep_local.specs.States.{ShareState}
 use Rattle.clof_compose.specs.Contexts.{Context}
 use Rattle.clof_compose.specs.Courses.{course_of}
 use Rattle.clof_compose.specs.Meanings.{Rest}
 use Rattle.clof_compose.specs.Passes.{IsNumber}
-use Rattle.clof_compose.specs.Roots.{root_tag}
-use Rattle.clof_compose.specs.declared.root.Root.{Root}
 use Rattle.level_trials.specs.Jobs.{IsEnded, IsJob}
-use Rattle.level_trials.specs.Rooms.{HasRoom, roll_tag}
+use Rattle.level_trials.specs.Rooms.{HasRoom}
 use Rattle.level_trials.specs.declared.holds.Job.{Job}
-use Rattle.level_trials.specs.declared.roll.Roll.{Roll}
-use Rattle.level_trials.proofs.Making.{if_some, quotas_named, shape_named}
 use Rattle.tree_trials.specs.Shifts.{HasWorked, MayWork}
 
 module _ {P : Type 0} (rest : P → Rest) (has : Context → Type 0) (level : ℕ) (tag : Tag) where
@@ -53,21 +48,3 @@ module _ {P : Type 0} (rest : P → Rest) (has : Context → Type 0) (level : �
       let within = slice_get_within done k j' e in
       let at : slice_get jobs k ≡ Some (get_or jobs k j') = slice_get-get_or jobs k j' (omega (arith, within, many)) in
       ended k (get_or jobs k j') j' (each k (get_or jobs k j') at) (worked k (get_or jobs k j') j' at e)
-
--- what is known of an option's value
-pub at_some : {A : Type 0} (P : A → Type 0) (o : Option A) (a : A) → o ≡ Some a → IfSome o P → P a
-at_some {A = A} P o a is known = subst (λ (x : Option A). IfSome x P) is known
-
--- what follows from two things that a value is known for
-pub if_both : {A : Type 0} (P Q R : A → Type 0) (o : Option A) → ((a : A) → P a → Q a → R a) → IfSome o P → IfSome o Q → IfSome o R
-if_both P Q R None both p q = tt
-if_both P Q R (Some a) both p q = both a p q
-
--- a root that has the tag of a lock has the shape and the quotas that the tag names
-pub shape_known : (t : Tag) (shape : Shape) (o : Option (Root Roll)) → (course_of t).shape ≡ shape → IfSome o (λ r. root_tag roll_tag r ≡ t)
-    → IfSome o (λ r. r.trail.shape ≡ shape)
-shape_known t shape o known = if_some _ _ o (λ r same. shape_named r t same ∙ known)
-
-pub quotas_known : (t : Tag) (quotas : List ℕ) (o : Option (Root Roll)) → (course_of t).quotas ≡ quotas
-    → IfSome o (λ r. root_tag roll_tag r ≡ t) → IfSome o (λ r. r.trail.quotas ≡ quotas)
-quotas_known t quotas o known = if_some _ _ o (λ r same. quotas_named r t same ∙ known)

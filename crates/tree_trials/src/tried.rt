@@ -73,7 +73,10 @@ pub(crate) trait Tried<Q: Resting>: Payload {
 }
 
 impl<Q: Resting> Tried<Q> for Roll {
-    fn serve<C: Composed<Roll, Pass = Q>, R: Wait>(rt: &R, lock: &C, job: Job<Q>) -> Job<Q> {
+    fn serve<C: Composed<Roll, Pass = Q>, R: Wait>(rt: &R, lock: &C, job: Job<Q>) -> Job<Q>
+        requires { MayWork Q.rest (C.has lock.now) (C.level lock.now) (C.tag lock.now) (C.sound lock.now) job }
+        ensures { HasWorked Q.rest job result }
+    {
         hold_all(rt, lock, job)
     }
 
@@ -103,7 +106,15 @@ impl<Q: Resting> Tried<Q> for Roll {
         lock: &C,
         passes: Vec<Q>,
         shares: Vec<Share>,
-    ) -> Option<Dealt<Q>> {
+    ) -> Option<Dealt<Q>>
+        requires { IsReady Q.rest (C.has lock.now) (C.sound lock.now) (C.level lock.now) (C.count lock.now) (C.tag lock.now) passes.items
+            shares.items }
+        ensures each { IfSome result (λ d. (k : ℕ) (j : _) → slice_get d.jobs.items k ≡ Some j → IsJob Q.rest (C.has lock.now)
+            (C.level lock.now) (C.tag lock.now) k j) }
+        ensures many { IfSome result (λ d. length d.jobs.items ≡ C.count lock.now) }
+        ensures empty { IfSome result (λ d. d.passes.items ≡ []) }
+        ensures room { IfSome result (λ d. C.count lock.now ≤ vec_capacity d.passes) }
+    {
         match deal(alloc, lock, passes, shares) {
             Some((jobs, passes)) => Some(Dealt { jobs, passes }),
             None => None,
