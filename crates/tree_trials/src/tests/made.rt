@@ -110,60 +110,100 @@ fn start_of(alloc: Global, kinds: &[LockKind], paths: &[&[u32]; 2], keeps: &[u32
 
 #[test]
 fn a_root_comes_back_from_one_level(rt: HostRuntime) {
-    let Some(start) = start_of(rt.alloc(), &[Mcs], &[&[0], &[0]], &[]) else {
+    let Some(
+        Start {
+            plan,
+            shape,
+            root,
+            ..
+        },
+    ) = start_of(rt.alloc(), &[Mcs], &[&[0], &[0]], &[])
+    else {
         panic!(rt; "there was no memory")
     };
-    let root = back_from_1(rt.alloc(), &start.plan, start.root, &start.shape);
+    let root = back_from_1(rt.alloc(), &plan, root, &shape);
     assert!(rt; has_turns(&root, &[]));
 }
 
 #[test]
 fn a_root_comes_back_from_two_levels(rt: HostRuntime) {
-    let Some(start) = start_of(rt.alloc(), &[Clh, Mcs], &[&[0, 0], &[1, 0]], &[1]) else {
+    let Some(
+        Start {
+            plan,
+            shape,
+            root,
+            ..
+        },
+    ) = start_of(rt.alloc(), &[Clh, Mcs], &[&[0, 0], &[1, 0]], &[1])
+    else {
         panic!(rt; "there was no memory")
     };
-    let root = back_from_2(rt.alloc(), &start.plan, start.root, &start.shape);
+    let root = back_from_2(rt.alloc(), &plan, root, &shape);
     assert!(rt; has_turns(&root, &[]));
 }
 
 #[test]
 fn a_root_comes_back_from_three_levels(rt: HostRuntime) {
-    let Some(start) = start_of(
+    let Some(
+        Start {
+            plan,
+            shape,
+            root,
+            ..
+        },
+    ) = start_of(
         rt.alloc(),
         &[Hem, Clh, Tkt],
         &[&[0, 0, 0], &[1, 0, 0]],
         &[1; 2],
-    ) else {
+    )
+    else {
         panic!(rt; "there was no memory")
     };
-    let root = back_from_3(rt.alloc(), &start.plan, start.root, &start.shape);
+    let root = back_from_3(rt.alloc(), &plan, root, &shape);
     assert!(rt; has_turns(&root, &[]));
 }
 
 #[test]
 fn a_root_comes_back_from_four_levels(rt: HostRuntime) {
-    let Some(start) = start_of(
+    let Some(
+        Start {
+            plan,
+            shape,
+            root,
+            ..
+        },
+    ) = start_of(
         rt.alloc(),
         &[Tkt, Hem, Clh, Mcs],
         &[&[0, 0, 0, 0], &[1, 1, 0, 0]],
         &[1; 3],
-    ) else {
+    )
+    else {
         panic!(rt; "there was no memory")
     };
-    let root = back_from_4(rt.alloc(), &start.plan, start.root, &start.shape);
+    let root = back_from_4(rt.alloc(), &plan, root, &shape);
     assert!(rt; has_turns(&root, &[]));
 }
 
 #[test]
 fn a_root_comes_back_from_five_levels(rt: HostRuntime) {
-    let Some(start) = start_of(
+    let Some(
+        Start {
+            plan,
+            shape,
+            root,
+            ..
+        },
+    ) = start_of(
         rt.alloc(),
         &[Mcs, Tkt, Hem, Clh, Hem],
         &[&[0, 0, 0, 0, 0], &[1, 1, 1, 0, 0]],
         &[1; 4],
-    ) else {
+    )
+    else {
         panic!(rt; "there was no memory")
     };
-    let root = back_from_5(rt.alloc(), &start.plan, start.root, &start.shape);
+    let root = back_from_5(rt.alloc(), &plan, root, &shape);
     assert!(rt; has_turns(&root, &[]));
 }
