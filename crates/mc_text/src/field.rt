@@ -1,5 +1,5 @@
 // The words of a line that carry a value.
-ghost use Rattle.std.specs.Prelude.{◌≡◌, ◌+◌, ◌^◌, ◌≤◌, IfSome};
+ghost use Rattle.std.specs.Prelude.{◌≡◌, ◌+◌, ◌^◌, ◌≤◌, ◌&&◌, ◌==◌, nat_lt, not, IfSome};
 ghost use Rattle.std.specs.List.{list_all};
 ghost use Rattle.byte_text.specs.Numerals.{number_below};
 ghost use Rattle.byte_text.specs.Words.{words_left};
@@ -41,7 +41,18 @@ pub(crate) fn read_key(word: &[u8]) -> Result<&[u8], LineFault>
 fn is_key(word: &[u8]) -> bool
     ensures { result ≡ is_key word.now }
 {
-    word.len() <= KEY_LIMIT && word.iter().all(|byte| *byte > b' ' && *byte != 127)
+    word.len() <= KEY_LIMIT && are_seen(word)
+}
+
+// Whether no byte is a space, a control character or 127. All are looked at, whatever the first ones are.
+fn are_seen(word: &[u8]) -> bool
+    ensures { result ≡ list_all (λ byte. nat_lt 32 byte && not (byte == 127)) word.now }
+{
+    let mut seen = true;
+    for byte in word {
+        seen &= (*byte > b' ') & (*byte != 127);
+    }
+    seen
 }
 
 /// The words as keys, of which there is one at least.

@@ -9,7 +9,7 @@ use Rattle.std.proofs.lemmas.Bool.Decides.{Decides-eqb}
 use Rattle.std.proofs.lemmas.Grind.{flat_map-append}
 use Rattle.std.proofs.lemmas.List.{take_more, take-append-drop}
 use Rattle.std.proofs.lemmas.Slice.Eq.{slice_eq-Decides}
-use Rattle.placed_runner.specs.Text.{escaped, escaped_byte, quoted}
+use Rattle.placed_runner.specs.Text.{escaped, escaped_byte}
 
 not_true : (b : Bool) → not b ≡ true → b ≡ false
 not_true true is = cc
@@ -53,15 +53,14 @@ other_at text place byte within byte_is so_far =
     so_far ∙ ap (λ rest. take place text ++ rest)
     (escaped_from text place within ∙ ap (λ b. escaped_byte b ++ escaped (drop (place + 1) text)) (sym byte_is))
 
--- a text that ends with a line end
-pub quoted_line : (text line : List ℕ) → pointwise nat_eq (drop (length text - 2) text) (13 ∷ 10 ∷ []) ≡ true → line ≡ take (length text - 2) text
-    → quoted text ≡ codes " \"" ++ (escaped line ++ codes "\\r\\n\"")
-unfolding quoted
-quoted_line text line ends front =
+-- a text that ends with a line end, and what stands behind it
+pub escaped_line : (text line behind : List ℕ) → pointwise nat_eq (drop (length text - 2) text) (13 ∷ 10 ∷ []) ≡ true
+    → line ≡ take (length text - 2) text → escaped text ++ behind ≡ escaped line ++ (codes "\\r\\n" ++ behind)
+escaped_line text line behind ends front =
     let end : drop (length text - 2) text ≡ 13 ∷ 10 ∷ [] = (slice_eq-Decides Decides-eqb (drop (length text - 2) text) (13 ∷ 10 ∷ []) true (sym ends)).0 refl in
     let parts : text ≡ line ++ 13 ∷ 10 ∷ [] =
     sym (take-append-drop (length text - 2) text) ∙ ap (λ (back : List ℕ). take (length text - 2) text ++ back) end
     ∙ ap (λ (part : List ℕ). part ++ 13 ∷ 10 ∷ []) (sym front) in
-    ap (λ (t : List ℕ). codes " \"" ++ (escaped t ++ codes "\"")) parts
-    ∙ ap (λ (t : List ℕ). codes " \"" ++ (t ++ codes "\"")) (flat_map-append escaped_byte line (13 ∷ 10 ∷ []))
-    ∙ ap (λ (t : List ℕ). codes " \"" ++ t) (append_assoc (escaped line) (codes "\\r\\n") (codes "\""))
+    ap (λ (t : List ℕ). escaped t ++ behind) parts
+    ∙ ap (λ (t : List ℕ). t ++ behind) (flat_map-append escaped_byte line (13 ∷ 10 ∷ []))
+    ∙ append_assoc (escaped line) (codes "\\r\\n") behind

@@ -1,6 +1,7 @@
 pub mod Appending
 pub mod Cuts
 pub mod Escapes
+pub mod Fronts
 pub mod Histories
 pub mod Numbered
 pub mod Printed

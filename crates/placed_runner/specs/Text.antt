@@ -1,5 +1,5 @@
 -- The printed text of a run: a line for each turn and then one for each caller. The form is this project's own.
-use Rattle.std.specs.Prelude.{ℕ, ◌/◌, ◌%◌, ◌==◌, ◌&&◌, nat_lt, if◌then◌else◌, List, [], ◌∷◌, ◌++◌, length, map, codes, decimal}
+use Rattle.std.specs.Prelude.{◌+◌, ℕ, ◌/◌, ◌%◌, ◌==◌, ◌&&◌, nat_lt, if◌then◌else◌, List, [], ◌∷◌, ◌++◌, length, map, codes, decimal}
 use Rattle.std.specs.Prelude.{Option, Some, None, option_map, option_and_then, slice_get, replicate}
 use Rattle.std.specs.List.{flat_map, enumerate_from, count_by}
 use Rattle.std.specs.Option.{option_map_or}
@@ -54,11 +54,25 @@ place_numbers sections number caller =
 abbrev pub level_numbers : Turn → List (List ℕ × ℕ)
 level_numbers turn = (codes " climb ", turn.climb) ∷ (codes " tests ", turn.tests) ∷ (codes " left ", turn.left) ∷ []
 
+-- all but its own
+abbrev pub holder_numbers : List Placed → Turn → List (List ℕ × ℕ)
+holder_numbers sections turn = (codes " caller ", turn.caller) ∷ (codes " pu ", pu_of sections turn.caller) ∷ level_numbers turn
+
 -- the line of a turn
 unfoldable pub turn_line : List Placed → ℕ → Told → List ℕ
 turn_line sections number told =
     labelled (place_numbers sections number told.turn.caller)
     ++ (labelled (level_numbers told.turn) ++ (quoted told.command ++ (quoted told.reply ++ codes "\n")))
+
+-- the front of the lines of ten turns, before the last digit of their numbers
+unfoldable pub line_front : ℕ → List ℕ
+line_front tens = codes "turn " ++ (if tens == 0 then [] else decimal tens)
+
+-- the line of a turn from the last digit of its number on
+unfoldable pub line_behind : List Placed → ℕ → Told → List ℕ
+line_behind sections number told =
+    ((48 + number % 10) ∷ []) ++ (labelled (holder_numbers sections told.turn)
+    ++ (quoted told.command ++ (quoted told.reply ++ codes "\n")))
 
 -- the numbers of a caller's line: its own, where it stands, how many commands it gave, and how many bytes stand behind them
 abbrev pub caller_numbers : ℕ → Placed → List (List ℕ × ℕ)

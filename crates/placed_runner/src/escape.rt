@@ -1,25 +1,30 @@
 // How bytes are printed between quotes.
-ghost use Rattle.std.specs.Prelude.{◌≡◌, ◌++◌, ◌&&◌, not, ◌==◌, nat_lt, ◌<◌, ◌≤◌, true, drop, length, take};
+ghost use Rattle.std.specs.Prelude.{◌≡◌, ◌++◌, ◌&&◌, not, ◌==◌, nat_lt, ◌<◌, ◌≤◌, true, codes, drop, length, take};
 ghost use Rattle.std.specs.Prelude.{IfOk, IfSome, MatchOption, OnOk};
-ghost use Rattle.placed_runner.specs.Text.{escaped, escaped_byte, quoted};
+ghost use Rattle.placed_runner.specs.Text.{escaped, escaped_byte};
 
 use byte_text::hex_digit;
 use std::alloc::AllocError;
 
-/// Appends a text between quotes, behind a space. Most texts end with `\r\n`.
-#[tactic(auto, unfolding(crate::specs::Text::quoted))]
-pub(crate) fn push_quoted(out: &mut Vec<u8>, text: &[u8]) -> Result<(), AllocError>
-    ensures { OnOk result (out.new.items ≡ out.old.items ++ quoted text.now) }
+/// Appends a text as it is printed between quotes, and what stands behind it, `end`. Most texts end with `\r\n`; `line_end` is that, as it
+/// is printed, and `end`.
+pub(crate) fn push_ended(
+    out: &mut Vec<u8>,
+    text: &[u8],
+    end: &[u8],
+    line_end: &[u8],
+) -> Result<(), AllocError>
+    requires { line_end.now ≡ codes "\\r\\n" ++ end.now }
+    ensures { OnOk result (out.new.items ≡ out.old.items ++ (escaped text.now ++ end.now)) }
 {
-    out.extend_from_slice(b" \"")?;
     match text.strip_suffix(b"\r\n".as_slice()) {
         Some(line) => {
             push_escaped(out, line)?;
-            out.extend_from_slice(b"\\r\\n\"")
+            out.extend_from_slice(line_end)
         }
         None => {
             push_escaped(out, text)?;
-            out.extend_from_slice(b"\"")
+            out.extend_from_slice(end)
         }
     }
 }

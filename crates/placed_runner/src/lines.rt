@@ -1,9 +1,9 @@
 // The lines of a printed run.
-ghost use Rattle.std.specs.Prelude.{◌≡◌, ◌<◌, ◌++◌, ◌∷◌, [], OnOk, Some, codes, decimal, map, slice_get};
-ghost use Rattle.placed_runner.specs.Text.{labelled, place_numbers, level_numbers, turn_line, caller_line, pu_of};
+ghost use Rattle.std.specs.Prelude.{◌≡◌, ◌+◌, ◌/◌, ◌<◌, ◌++◌, ◌∷◌, [], OnOk, Some, codes, decimal, map, slice_get};
+ghost use Rattle.placed_runner.specs.Text.{labelled, level_numbers, line_front, line_behind, turn_line, caller_line, pu_of};
 ghost use Rattle.placed_runner.specs.Views.{section_view, line_view};
 
-use crate::escape::push_quoted;
+use crate::escape::push_ended;
 use crate::sections::Section;
 use byte_text::push_decimal;
 use keep_local::Turn;
@@ -22,7 +22,6 @@ pub struct Line<'a> {
 }
 
 /// Appends the line of a turn, which has this number. The one error is that memory was refused; some of the line may be appended then.
-#[tactic(auto, unfolding(crate::specs::Text::turn_line))]
 pub fn push_turn(
     out: &mut Vec<u8>,
     sections: &[Section<'_>],
@@ -31,41 +30,86 @@ pub fn push_turn(
 ) -> Result<(), AllocError>
     ensures { OnOk result (out.new.items ≡ out.old.items ++ turn_line (map section_view sections.now) number (line_view line.now)) }
 {
-    push_labelled(out, b"turn ", u64::from(number))?;
-    push_holder(out, pu_of(sections, line.turn.caller), line.turn)?;
-    push_quoted(out, line.command)?;
-    push_quoted(out, line.reply)?;
-    out.extend_from_slice(b"\n")
+    push_front(out, number / 10)?;
+    push_behind(out, sections, number, line)
 }
 
-// Appends the numbers of a turn's line behind its own: its caller, where that stands, and how it found and left the lock. Under a lock of
-// one level the last are all 0.
-fn push_holder(out: &mut Vec<u8>, pu: u32, turn: Turn) -> Result<(), AllocError>
-    ensures { OnOk result (out.new.items
-        ≡ out.old.items ++ labelled ((codes " caller ", turn.caller) ∷ (codes " pu ", pu) ∷ level_numbers turn)) }
+/// Appends the line of a turn whose front is given.
+pub(crate) fn push_behind_front(
+    out: &mut Vec<u8>,
+    front: &[u8],
+    sections: &[Section<'_>],
+    number: u32,
+    line: &Line<'_>,
+) -> Result<(), AllocError>
+    requires { front.now ≡ line_front (number / 10) }
+    ensures { OnOk result (out.new.items ≡ out.old.items ++ turn_line (map section_view sections.now) number (line_view line.now)) }
+{
+    out.extend_from_slice(front)?;
+    push_behind(out, sections, number, line)
+}
+
+/// Appends what stands in front of the last digit in the lines of ten turns, whose numbers have these tens.
+#[tactic(auto, unfolding(crate::specs::Text::line_front))]
+pub(crate) fn push_front(out: &mut Vec<u8>, tens: u32) -> Result<(), AllocError>
+    ensures { OnOk result (out.new.items ≡ out.old.items ++ line_front tens) }
+{
+    out.extend_from_slice(b"turn ")?;
+    if tens == 0 {
+        return Ok(());
+    }
+    push_decimal(out, u64::from(tens))
+}
+
+// Appends the line of a turn from the last digit of its number on.
+#[tactic(auto, unfolding(crate::specs::Text::line_behind, crate::specs::Text::quoted))]
+fn push_behind(
+    out: &mut Vec<u8>,
+    sections: &[Section<'_>],
+    number: u32,
+    line: &Line<'_>,
+) -> Result<(), AllocError>
+    ensures { OnOk result (out.new.items ≡ out.old.items ++ line_behind (map section_view sections.now) number (line_view line.now)) }
+{
+    let pu = pu_of(sections, line.turn.caller);
+    push_holder(out, (number % 10) as u8, pu, line.turn)?;
+    push_ended(out, line.command, b"\" \"", b"\\r\\n\" \"")?;
+    push_ended(out, line.reply, b"\"\n", b"\\r\\n\"\n")
+}
+
+// Appends the last digit of a turn's number, the other numbers of its line (its caller, where that stands, and how it found and left the
+// lock) and the quote in front of its command. Under a lock of one level the last numbers are all 0.
+fn push_holder(out: &mut Vec<u8>, digit: u8, pu: u32, turn: Turn) -> Result<(), AllocError>
+    requires { digit < 10 }
+    ensures { OnOk result (out.new.items ≡ out.old.items ++ (((48 + digit) ∷ [])
+        ++ (labelled ((codes " caller ", turn.caller) ∷ (codes " pu ", pu) ∷ level_numbers turn) ++ codes " \""))) }
 {
     if turn.caller < 10 && pu < 10 && turn.climb == 0 && turn.tests == 0 && turn.left == 0 {
-        return out.extend_from_slice(&short_holder(turn.caller as u8, pu as u8));
+        return out.extend_from_slice(&short_holder(digit, turn.caller as u8, pu as u8));
     }
+    out.extend_from_slice(&[b'0' + digit])?;
     push_labelled(out, b" caller ", u64::from(turn.caller))?;
     push_labelled(out, b" pu ", u64::from(pu))?;
-    push_levels(out, turn)
+    push_levels(out, turn)?;
+    out.extend_from_slice(b" \"")
 }
 
-// A caller and where it stands, of one digit each, and the numbers of a turn under a lock of one level, with their names.
+// A digit, a caller and where it stands, of one digit each, the numbers of a turn under a lock of one level, with their names, and a quote.
 #[inline(always)]
-fn short_holder(caller: u8, pu: u8) -> [u8; 37]
+fn short_holder(digit: u8, caller: u8, pu: u8) -> [u8; 40]
+    requires digit { digit < 10 }
     requires caller { caller < 10 }
     requires pu { pu < 10 }
-    ensures { result ≡ labelled ((codes " caller ", caller) ∷ (codes " pu ", pu) ∷ (codes " climb ", 0) ∷ (codes " tests ", 0)
-        ∷ (codes " left ", 0) ∷ []) }
+    ensures { result ≡ ((48 + digit) ∷ []) ++ (labelled ((codes " caller ", caller) ∷ (codes " pu ", pu) ∷ (codes " climb ", 0)
+        ∷ (codes " tests ", 0) ∷ (codes " left ", 0) ∷ []) ++ codes " \"") }
 {
+    let digit = b'0' + digit;
     let caller = b'0' + caller;
     let pu = b'0' + pu;
     [
-        b' ', b'c', b'a', b'l', b'l', b'e', b'r', b' ', caller, b' ', b'p', b'u', b' ', pu, b' ',
-        b'c', b'l', b'i', b'm', b'b', b' ', b'0', b' ', b't', b'e', b's', b't', b's', b' ', b'0',
-        b' ', b'l', b'e', b'f', b't', b' ', b'0',
+        digit, b' ', b'c', b'a', b'l', b'l', b'e', b'r', b' ', caller, b' ', b'p', b'u', b' ', pu,
+        b' ', b'c', b'l', b'i', b'm', b'b', b' ', b'0', b' ', b't', b'e', b's', b't', b's', b' ',
+        b'0', b' ', b'l', b'e', b'f', b't', b' ', b'0', b' ', b'"',
     ]
 }
 

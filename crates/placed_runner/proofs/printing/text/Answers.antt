@@ -8,7 +8,7 @@ use Rattle.kv_history.specs.Log.{Log, Logged}
 use Rattle.placed_runner.proofs.Texts.{IsPrinted, bytes_of, pair_at, pairs_within, text_is, told_pair}
 use Rattle.std.proofs.lemmas.Option.{slice_get_within, slice_get-map, slice_get-get_or, get_or_from_slice_get}
 use Rattle.placed_runner.specs.declared.sections.Section.{Section}
-use Rattle.placed_runner.specs.Text.{turn_line, turn_lines, caller_line, caller_lines}
+use Rattle.placed_runner.specs.Text.{line_front, turn_line, turn_lines, caller_line, caller_lines}
 use Rattle.placed_runner.specs.Entries.{told_entry}
 use Rattle.placed_runner.specs.Views.{section_view}
 use Rattle.placed_runner.proofs.Numbered.{joined_more, take_all}
@@ -57,6 +57,7 @@ loop-number-preserved c =
       lines = pushed.2 ∙ ap (λ front. front ++ turn_line sections number (told_entry turn entry)) c.loop-number.invariant.lines
           ∙ sym (joined_more told_pair (λ at. turn_line sections at.0 at.1) (zip turns entries) number (turn, entry) (turn, entry) within
           (sym (get_or_from_slice_get (zip turns entries) number (turn, entry) (turn, entry) pair)));
+      front = λ same. c.in_ok-set_front.ensures ∙ ap line_front (omega arith);
     }
 
 pub loop-caller-init : goal.loop-caller-init
