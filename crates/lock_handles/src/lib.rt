@@ -1,0 +1,11 @@
+//! The handles of callers: what a C program keeps of a caller of a Ticket, MCS, CLH or Hemlock lock.
+#![tactic(auto)]
+
+mod any;
+mod calls;
+mod handle;
+mod making;
+
+pub use any::AnyCaller;
+pub use handle::ClofCaller;
+pub use making::{clh_boxes, fill, hemlock_boxes, mcs_boxes, ticket_boxes};
