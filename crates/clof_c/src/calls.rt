@@ -14,7 +14,8 @@ use std::alloc::Global;
 /// From Idle: enters the queue.
 #[unsafe(no_mangle)]
 pub extern "C" fn clof_begin(alloc: Global, caller: &mut ClofCaller) -> u32
-    ensures goes { (answer : Maybe Reply) × HandleGoes is_idle Queued Holding caller.old.held caller.new.held answer × (result ≡ code_of answer) }
+    ensures goes { (answer : Maybe Reply) × HandleGoes is_idle Queued Holding caller.old.held caller.new.held answer
+        × (result ≡ code_of answer) }
 {
     reply_code(caller.begin(alloc))
 }
@@ -22,7 +23,8 @@ pub extern "C" fn clof_begin(alloc: Global, caller: &mut ClofCaller) -> u32
 /// From Idle: enters the queue, and asks once whether the caller is its head.
 #[unsafe(no_mangle)]
 pub extern "C" fn clof_enter(alloc: Global, caller: &mut ClofCaller) -> u32
-    ensures goes { (answer : Maybe Reply) × HandleGoes is_idle Queued Holding caller.old.held caller.new.held answer × (result ≡ code_of answer) }
+    ensures goes { (answer : Maybe Reply) × HandleGoes is_idle Queued Holding caller.old.held caller.new.held answer
+        × (result ≡ code_of answer) }
 {
     reply_code(caller.enter(alloc))
 }
@@ -30,7 +32,8 @@ pub extern "C" fn clof_enter(alloc: Global, caller: &mut ClofCaller) -> u32
 /// From Queued: asks once whether the caller is the head of the queue.
 #[unsafe(no_mangle)]
 pub extern "C" fn clof_poll(alloc: Global, caller: &mut ClofCaller) -> u32
-    ensures goes { (answer : Maybe Reply) × HandleGoes is_queued Queued Holding caller.old.held caller.new.held answer × (result ≡ code_of answer) }
+    ensures goes { (answer : Maybe Reply) × HandleGoes is_queued Queued Holding caller.old.held caller.new.held answer
+        × (result ≡ code_of answer) }
 {
     reply_code(caller.poll(alloc))
 }
@@ -38,7 +41,8 @@ pub extern "C" fn clof_poll(alloc: Global, caller: &mut ClofCaller) -> u32
 /// From Holding: leaves the queue.
 #[unsafe(no_mangle)]
 pub extern "C" fn clof_begin_release(alloc: Global, caller: &mut ClofCaller) -> u32
-    ensures goes { (answer : Maybe Reply) × HandleGoes is_holding Leaving Idle caller.old.held caller.new.held answer × (result ≡ code_of answer) }
+    ensures goes { (answer : Maybe Reply) × HandleGoes is_holding Leaving Idle caller.old.held caller.new.held answer
+        × (result ≡ code_of answer) }
 {
     reply_code(caller.begin_release(alloc))
 }
@@ -46,7 +50,8 @@ pub extern "C" fn clof_begin_release(alloc: Global, caller: &mut ClofCaller) -> 
 /// From Leaving: goes on with a release.
 #[unsafe(no_mangle)]
 pub extern "C" fn clof_poll_release(alloc: Global, caller: &mut ClofCaller) -> u32
-    ensures goes { (answer : Maybe Reply) × HandleGoes is_leaving Leaving Idle caller.old.held caller.new.held answer × (result ≡ code_of answer) }
+    ensures goes { (answer : Maybe Reply) × HandleGoes is_leaving Leaving Idle caller.old.held caller.new.held answer
+        × (result ≡ code_of answer) }
 {
     reply_code(caller.poll_release(alloc))
 }
@@ -62,7 +67,8 @@ pub extern "C" fn clof_waiters(alloc: Global, caller: &mut ClofCaller) -> u32
 /// From Idle: lets the caller go, and leaves the handle zero. The last caller of a lock takes it with it.
 #[unsafe(no_mangle)]
 pub extern "C" fn clof_free(alloc: Global, caller: &mut ClofCaller) -> u32
-    ensures frees { (answer : Maybe Reply) × HandleFrees caller.old.held caller.new.held answer × (result ≡ code_of answer) }
+    ensures frees { (answer : Maybe Reply) × HandleFrees caller.old.held caller.new.held answer
+        × (result ≡ code_of answer) }
 {
     reply_code(caller.free(alloc))
 }
