@@ -1,5 +1,10 @@
 -- From which standing a call goes, and what it answers.
-use Rattle.std.specs.Prelude.{◌≡◌, ◌⊎◌, Bool, true, false}
+use Rattle.std.specs.Prelude.{◌≡◌, ◌+◌, ◌<◌, ◌⊎◌, Bool, true, false}
+use Rattle.std.specs.declared.option.Option.{Option}
+use Rattle.std.specs.declared.option.Option.TheVariants.{None, Some}
+use Rattle.lock_rules.specs.Views.{answer_of}
+use Rattle.lock_rules.specs.declared.step.Answer.TheVariants.{Open}
+use Rattle.lock_callers.specs.Seen.{Seen}
 use Rattle.lock_callers.specs.declared.standing.Standing.{Standing}
 use Rattle.lock_callers.specs.declared.standing.Standing.TheVariants.{Idle, Queued, Holding, Leaving, Spent}
 use Rattle.lock_callers.specs.declared.standing.Reply.{Reply}
@@ -33,8 +38,27 @@ is_leaving Holding = false
 is_leaving Leaving = true
 is_leaving Spent = false
 
--- `here` says that the caller stands where the call goes from. Then it goes to `waits`, and the answer is not yet, or to `ends`, and the
--- answer is done. Else it stays where it stands, and the answer says so
-abbrev pub Goes : Bool → Standing → Standing → Standing → Standing → Reply → Type 0
-Goes true waits ends old new reply = ((new ≡ waits) × (reply ≡ NotYet)) ⊎ ((new ≡ ends) × (reply ≡ Done))
+-- `here` says that the caller stands where the call goes from. Then it stays one of its lock and goes to `waits`, and the answer is not yet,
+-- or to `ends`, and the answer is done. Else nothing changes, and the answer says so
+abbrev pub Goes : Bool → Standing → Standing → Seen → Seen → Reply → Type 0
+Goes true waits ends old new reply = (new.lock ≡ old.lock) × (new.tested ≡ Open)
+    × (((new.standing ≡ waits) × (reply ≡ NotYet)) ⊎ ((new.standing ≡ ends) × (reply ≡ Done)))
 Goes false waits ends old new reply = (new ≡ old) × (reply ≡ Elsewhere)
+
+-- not yet is answered only where this call made one load that the token records
+abbrev pub LoadedOnce : Seen → Seen → Reply → Type 0
+LoadedOnce old new NotYet = new.loads ≡ old.loads + 1
+LoadedOnce old new Done = Unit {0}
+LoadedOnce old new Elsewhere = Unit {0}
+
+-- not yet is answered only where a load was made since the caller entered the queue
+abbrev pub WasLoaded : Seen → Reply → Type 0
+WasLoaded new NotYet = 0 < new.loads
+WasLoaded new Done = Unit {0}
+WasLoaded new Elsewhere = Unit {0}
+
+-- a holder is told by one load, which its token notes; any other caller is told nothing, and nothing changes
+abbrev pub Tells : Bool → Seen → Seen → Option Bool → Type 0
+Tells true old new None = ⊥
+Tells true old new (Some told) = new ≡ record old { loads = old.loads + 1; tested = answer_of told }
+Tells false old new told = (new ≡ old) × (told ≡ None)

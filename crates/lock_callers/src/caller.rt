@@ -1,11 +1,11 @@
 //! A caller of a lock.
-ghost use Rattle.std.specs.Prelude.{◌≡◌, false, is_some, IfOk, IfErr};
-ghost use Rattle.lock_callers.specs.Goes.{Goes, is_idle, is_queued, is_holding, is_leaving};
+ghost use Rattle.std.specs.Prelude.{◌≡◌, false, IfOk, IfErr};
+ghost use Rattle.lock_callers.specs.Goes.{Goes, LoadedOnce, WasLoaded, Tells, is_idle, is_queued, is_holding, is_leaving};
 ghost use Rattle.lock_callers.specs.declared.standing.Standing.TheVariants.{Idle, Queued, Holding, Leaving};
 
-use crate::stage::{self, Stage};
+use crate::stage::Stage;
 use crate::standing::{Reply, Standing};
-use lock_rules::{Basic, Plain};
+use lock_rules::{Basic, Plain, Step};
 use std::marker::Model;
 use std::mem;
 use std::sync::Arc;
@@ -21,16 +21,21 @@ pub struct Caller<B: Basic<Plain<()>>> {
 impl<B: Basic<Plain<()>>> Model for Caller<B> {
     ghost use Rattle.std.specs.Arc.{arc_value};
     ghost use Rattle.lock_callers.specs.Seen.{Seen, seen_code};
-    ghost use Rattle.lock_callers.specs.Sound.{IsSound, standing_of};
+    ghost use Rattle.lock_callers.specs.Sound.{IsSound, standing_of, loads_of, tested_of};
 
     ghost Value = { Seen };
 
     ghost coded = { seen_code };
 
-    ghost view = { λ c. record { standing = standing_of c.stage; lock = B.name (arc_value c.lock) } };
+    ghost view = { λ c. record {
+      standing = standing_of c.stage;
+      lock = B.name (arc_value c.lock);
+      loads = loads_of B.Queue.waiting B.Held.holder B.Leave.waiting c.stage;
+      tested = tested_of B.Held.holder c.stage;
+    } };
 
-    ghost invariant = { λ c. IsSound B.Pass.place (λ q. (B.Queue.waiting q).place) (λ h. (B.Held.holder h).place)
-        (λ l. (B.Leave.waiting l).place) B.Leave.rests (B.name (arc_value c.lock)) (B.tag (arc_value c.lock)) c.stage };
+    ghost invariant = { λ c. IsSound B.Pass.place B.Queue.waiting B.Held.holder B.Leave.waiting B.Leave.rests
+        (B.name (arc_value c.lock)) (B.tag (arc_value c.lock)) c.stage };
 }
 
 impl<B: Basic<Plain<()>>> Caller<B> {
@@ -43,68 +48,121 @@ impl<B: Basic<Plain<()>>> Caller<B> {
 
     /// From Idle: enters the queue.
     pub fn begin(&mut self) -> Reply
-        ensures goes { Goes (is_idle self.old.standing) Queued Holding self.old.standing self.new.standing result }
-        ensures lock { self.new.lock ≡ self.old.lock }
+        ensures goes { Goes (is_idle self.old.standing) Queued Holding self.old self.new result }
     {
-        let stage = mem::replace(&mut self.stage, Stage::Spent);
-        let (stage, reply) = stage::begin(&*self.lock, stage);
-        self.stage = stage;
-        reply
-    }
-
-    /// From Idle: enters the queue, and asks once whether the caller is its head.
-    pub fn enter(&mut self) -> Reply
-        ensures goes { Goes (is_idle self.old.standing) Queued Holding self.old.standing self.new.standing result }
-        ensures lock { self.new.lock ≡ self.old.lock }
-    {
-        let stage = mem::replace(&mut self.stage, Stage::Spent);
-        let (stage, reply) = stage::enter(&*self.lock, stage);
-        self.stage = stage;
-        reply
+        match mem::replace(&mut self.stage, Stage::Spent) {
+            Stage::Idle(pass) => match self.lock.begin(pass) {
+                Step::Not(queue) => {
+                    self.stage = Stage::Queued(queue);
+                    Reply::NotYet
+                }
+                Step::Got(held) => {
+                    self.stage = Stage::Holding(held);
+                    Reply::Done
+                }
+            },
+            other => {
+                self.stage = other;
+                Reply::Elsewhere
+            }
+        }
     }
 
     /// From Queued: asks once whether the caller is the head of the queue.
     pub fn poll(&mut self) -> Reply
-        ensures goes { Goes (is_queued self.old.standing) Queued Holding self.old.standing self.new.standing result }
-        ensures lock { self.new.lock ≡ self.old.lock }
+        ensures goes { Goes (is_queued self.old.standing) Queued Holding self.old self.new result }
+        ensures loaded { LoadedOnce self.old self.new result }
     {
-        let stage = mem::replace(&mut self.stage, Stage::Spent);
-        let (stage, reply) = stage::poll(&*self.lock, stage);
-        self.stage = stage;
-        reply
+        match mem::replace(&mut self.stage, Stage::Spent) {
+            Stage::Queued(queue) => match self.lock.poll(queue) {
+                Step::Not(queue) => {
+                    self.stage = Stage::Queued(queue);
+                    Reply::NotYet
+                }
+                Step::Got(held) => {
+                    self.stage = Stage::Holding(held);
+                    Reply::Done
+                }
+            },
+            other => {
+                self.stage = other;
+                Reply::Elsewhere
+            }
+        }
+    }
+
+    /// From Idle: enters the queue, and asks once whether the caller is its head.
+    pub fn enter(&mut self) -> Reply
+        ensures goes { Goes (is_idle self.old.standing) Queued Holding self.old self.new result }
+        ensures loaded { WasLoaded self.new result }
+    {
+        match self.begin() {
+            Reply::NotYet => self.poll(),
+            reply => reply,
+        }
     }
 
     /// From Holding: leaves the queue.
     pub fn begin_release(&mut self) -> Reply
-        ensures goes { Goes (is_holding self.old.standing) Leaving Idle self.old.standing self.new.standing result }
-        ensures lock { self.new.lock ≡ self.old.lock }
+        ensures goes { Goes (is_holding self.old.standing) Leaving Idle self.old self.new result }
+        ensures loaded { LoadedOnce self.old self.new result }
     {
-        let stage = mem::replace(&mut self.stage, Stage::Spent);
-        let (stage, reply) = stage::begin_release(&*self.lock, stage);
-        self.stage = stage;
-        reply
+        match mem::replace(&mut self.stage, Stage::Spent) {
+            Stage::Holding(held) => match self.lock.begin_release(held) {
+                Step::Not(leave) => {
+                    self.stage = Stage::Leaving(leave);
+                    Reply::NotYet
+                }
+                Step::Got(pass) => {
+                    self.stage = Stage::Idle(pass);
+                    Reply::Done
+                }
+            },
+            other => {
+                self.stage = other;
+                Reply::Elsewhere
+            }
+        }
     }
 
     /// From Leaving: goes on with a release.
     pub fn poll_release(&mut self) -> Reply
-        ensures goes { Goes (is_leaving self.old.standing) Leaving Idle self.old.standing self.new.standing result }
-        ensures lock { self.new.lock ≡ self.old.lock }
+        ensures goes { Goes (is_leaving self.old.standing) Leaving Idle self.old self.new result }
+        ensures loaded { LoadedOnce self.old self.new result }
     {
-        let stage = mem::replace(&mut self.stage, Stage::Spent);
-        let (stage, reply) = stage::poll_release(&*self.lock, stage);
-        self.stage = stage;
-        reply
+        match mem::replace(&mut self.stage, Stage::Spent) {
+            Stage::Leaving(leave) => match self.lock.poll_release(leave) {
+                Step::Not(leave) => {
+                    self.stage = Stage::Leaving(leave);
+                    Reply::NotYet
+                }
+                Step::Got(pass) => {
+                    self.stage = Stage::Idle(pass);
+                    Reply::Done
+                }
+            },
+            other => {
+                self.stage = other;
+                Reply::Elsewhere
+            }
+        }
     }
 
     /// At Holding: whether another caller is queued behind this one. `None` at any other standing.
     pub fn waiters(&mut self) -> Option<bool>
-        ensures stays { self.new ≡ self.old }
-        ensures told { is_some result ≡ is_holding self.old.standing }
+        ensures tells { Tells (is_holding self.old.standing) self.old self.new result }
     {
-        let stage = mem::replace(&mut self.stage, Stage::Spent);
-        let (stage, told) = stage::waiters(&*self.lock, stage);
-        self.stage = stage;
-        told
+        match mem::replace(&mut self.stage, Stage::Spent) {
+            Stage::Holding(mut held) => {
+                let told = self.lock.waiter(&mut held);
+                self.stage = Stage::Holding(held);
+                Some(told)
+            }
+            other => {
+                self.stage = other;
+                None
+            }
+        }
     }
 }
 

@@ -3,8 +3,7 @@ use Rattle.std.proofs.lemmas.Grind.{common_steps}
 use Rattle.std.proofs.lemmas.List.Elements.{All-pop, All-push}
 use Rattle.std.specs.Arc.{arc_value}
 use Rattle.lock_rules.specs.Passes.{IsOf}
-use Rattle.lock_callers.specs.Seen.{Seen}
-use Rattle.lock_callers.specs.declared.standing.Standing.TheVariants.{Idle}
+use Rattle.lock_callers.specs.Seen.{Seen, idle_of}
 use Rattle.lock_callers.proofs.making.callers_of.Goals as goal
 
 pub loop-pass-preserved : goal.loop-pass-preserved
@@ -14,10 +13,10 @@ loop-pass-preserved g c =
     c.loop-pass.invariant.own in
     let same : arc_value c.in_ok-lock.lock ≡ arc_value c.args.lock = grind (arith, common_steps) in
     let pushed : c.push.new.self.items
-    ≡ c.loop-pass.callers.items ++ record { standing = Idle; lock = g.B.Basic.name (arc_value c.in_ok-lock.lock) } ∷ [] =
+    ≡ c.loop-pass.callers.items ++ idle_of (g.B.Basic.name (arc_value c.in_ok-lock.lock)) ∷ [] =
     grind (arith, common_steps) in record {
       own = popped.0;
-      made = rw pushed (All-push (λ (s : Seen). s ≡ record { standing = Idle; lock = lock }) _ _ c.loop-pass.invariant.made
-          (ap (λ l. record { standing = Idle; lock = g.B.Basic.name l }) same));
+      made = rw pushed (All-push (λ (s : Seen). s ≡ idle_of lock) _ _ c.loop-pass.invariant.made
+          (ap (λ l. idle_of (g.B.Basic.name l)) same));
       count = grind (arith, common_steps);
     }
