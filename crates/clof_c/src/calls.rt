@@ -1,11 +1,6 @@
 //! The calls.
-ghost use Rattle.std.specs.Prelude.{◌≡◌};
-ghost use Rattle.lock_callers.specs.Goes.{is_idle, is_queued, is_holding, is_leaving};
-ghost use Rattle.lock_callers.specs.declared.standing.Standing.TheVariants.{Idle, Queued, Holding, Leaving};
-ghost use Rattle.lock_callers.specs.declared.standing.Reply.{Reply};
-ghost use Rattle.std.specs.declared.option.Option.{Option as Maybe};
-ghost use Rattle.lock_handles.specs.Calls.{HandleGoes, HandleStays, HandleFrees, IsTold};
-ghost use Rattle.clof_c.specs.Codes.{code_of, waiters_code};
+ghost use Rattle.lock_handles.specs.Calls.{Begins, Enters, Polls, BeginsRelease, PollsRelease};
+ghost use Rattle.clof_c.specs.Codes.{Answers, AnswersWaiters, AnswersFree};
 
 use crate::codes::{reply_code, told_code};
 use lock_handles::ClofCaller;
@@ -14,8 +9,7 @@ use std::alloc::Global;
 /// From Idle: enters the queue.
 #[unsafe(no_mangle)]
 pub extern "C" fn clof_begin(alloc: Global, caller: &mut ClofCaller) -> u32
-    ensures goes { (answer : Maybe Reply) × HandleGoes is_idle Queued Holding caller.old.held caller.new.held answer
-        × (result ≡ code_of answer) }
+    ensures answers { Answers Begins caller.old.held caller.new.held result }
 {
     reply_code(caller.begin(alloc))
 }
@@ -23,8 +17,7 @@ pub extern "C" fn clof_begin(alloc: Global, caller: &mut ClofCaller) -> u32
 /// From Idle: enters the queue, and asks once whether the caller is its head.
 #[unsafe(no_mangle)]
 pub extern "C" fn clof_enter(alloc: Global, caller: &mut ClofCaller) -> u32
-    ensures goes { (answer : Maybe Reply) × HandleGoes is_idle Queued Holding caller.old.held caller.new.held answer
-        × (result ≡ code_of answer) }
+    ensures answers { Answers Enters caller.old.held caller.new.held result }
 {
     reply_code(caller.enter(alloc))
 }
@@ -32,8 +25,7 @@ pub extern "C" fn clof_enter(alloc: Global, caller: &mut ClofCaller) -> u32
 /// From Queued: asks once whether the caller is the head of the queue.
 #[unsafe(no_mangle)]
 pub extern "C" fn clof_poll(alloc: Global, caller: &mut ClofCaller) -> u32
-    ensures goes { (answer : Maybe Reply) × HandleGoes is_queued Queued Holding caller.old.held caller.new.held answer
-        × (result ≡ code_of answer) }
+    ensures answers { Answers Polls caller.old.held caller.new.held result }
 {
     reply_code(caller.poll(alloc))
 }
@@ -41,8 +33,7 @@ pub extern "C" fn clof_poll(alloc: Global, caller: &mut ClofCaller) -> u32
 /// From Holding: leaves the queue.
 #[unsafe(no_mangle)]
 pub extern "C" fn clof_begin_release(alloc: Global, caller: &mut ClofCaller) -> u32
-    ensures goes { (answer : Maybe Reply) × HandleGoes is_holding Leaving Idle caller.old.held caller.new.held answer
-        × (result ≡ code_of answer) }
+    ensures answers { Answers BeginsRelease caller.old.held caller.new.held result }
 {
     reply_code(caller.begin_release(alloc))
 }
@@ -50,8 +41,7 @@ pub extern "C" fn clof_begin_release(alloc: Global, caller: &mut ClofCaller) -> 
 /// From Leaving: goes on with a release.
 #[unsafe(no_mangle)]
 pub extern "C" fn clof_poll_release(alloc: Global, caller: &mut ClofCaller) -> u32
-    ensures goes { (answer : Maybe Reply) × HandleGoes is_leaving Leaving Idle caller.old.held caller.new.held answer
-        × (result ≡ code_of answer) }
+    ensures answers { Answers PollsRelease caller.old.held caller.new.held result }
 {
     reply_code(caller.poll_release(alloc))
 }
@@ -59,7 +49,7 @@ pub extern "C" fn clof_poll_release(alloc: Global, caller: &mut ClofCaller) -> u
 /// At Holding: whether another caller is queued behind this one.
 #[unsafe(no_mangle)]
 pub extern "C" fn clof_waiters(alloc: Global, caller: &mut ClofCaller) -> u32
-    ensures stays { HandleStays caller.old.held caller.new.held }
+    ensures answers { AnswersWaiters caller.old.held caller.new.held result }
 {
     told_code(caller.waiters(alloc))
 }
@@ -67,8 +57,7 @@ pub extern "C" fn clof_waiters(alloc: Global, caller: &mut ClofCaller) -> u32
 /// From Idle: lets the caller go, and leaves the handle zero. The last caller of a lock takes it with it.
 #[unsafe(no_mangle)]
 pub extern "C" fn clof_free(alloc: Global, caller: &mut ClofCaller) -> u32
-    ensures frees { (answer : Maybe Reply) × HandleFrees caller.old.held caller.new.held answer
-        × (result ≡ code_of answer) }
+    ensures answers { AnswersFree caller.old.held caller.new.held result }
 {
     reply_code(caller.free(alloc))
 }

@@ -1,17 +1,9 @@
 //! The codes.
 ghost use Rattle.std.specs.Prelude.{◌≡◌};
-ghost use Rattle.clof_c.specs.Codes.{code_of, waiters_code};
+ghost use Rattle.clof_c.specs.Codes.{code_of, made_code, waiters_code};
 
 use lock_callers::Reply;
-
-/// There was no memory.
-pub const NO_MEMORY: u32 = 4;
-
-/// A handle that callers were to be made for has one.
-pub const IN_USE: u32 = 5;
-
-/// No lock has that number, or no handles were given, or more than 2^32 - 1.
-pub const REFUSED: u32 = 6;
+use lock_handles::Made;
 
 /// The code of what a call answered.
 pub fn reply_code(answer: Option<Reply>) -> u32
@@ -34,5 +26,17 @@ pub fn told_code(answer: Option<Option<bool>>) -> u32
         Some(Some(true)) => 1,
         Some(None) => 2,
         None => 3,
+    }
+}
+
+/// The code of what making answered.
+pub fn making_code(made: Made) -> u32
+    ensures code { result ≡ made_code made }
+{
+    match made {
+        Made::Done => 0,
+        Made::NoMemory => 4,
+        Made::InUse => 5,
+        Made::Refused => 6,
     }
 }

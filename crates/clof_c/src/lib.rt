@@ -7,3 +7,6 @@
 mod calls;
 mod codes;
 mod making;
+
+#[cfg(test)]
+mod tests;

@@ -1,10 +1,10 @@
 -- What a contract sees of a caller of any of the four locks, and what a call on a handle does.
-use Rattle.std.specs.Prelude.{◌≡◌, Bool, true, false, is_some}
+use Rattle.std.specs.Prelude.{◌≡◌, Bool, true, false}
 use Rattle.std.specs.declared.option.Option.{Option}
 use Rattle.std.specs.declared.option.Option.TheVariants.{None, Some}
 use Rattle.lock_callers.specs.Seen.{Seen}
-use Rattle.lock_callers.specs.Goes.{Goes, is_idle, is_holding}
-use Rattle.lock_callers.specs.declared.standing.Standing.{Standing}
+use Rattle.lock_callers.specs.Goes.{Goes, LoadedOnce, WasLoaded, Tells, is_idle, is_queued, is_holding, is_leaving}
+use Rattle.lock_callers.specs.declared.standing.Standing.TheVariants.{Idle, Queued, Holding, Leaving}
 use Rattle.lock_callers.specs.declared.standing.Reply.{Reply}
 use Rattle.lock_callers.specs.declared.standing.Reply.TheVariants.{Done, Elsewhere}
 use Rattle.lock_handles.specs.declared.any.AnyCaller.{AnyCaller}
@@ -16,25 +16,33 @@ seen_of (Mcs c) = c
 seen_of (Clh c) = c
 seen_of (Hemlock c) = c
 
+-- what each call does with a caller, and what it answers
+abbrev pub Begins : Seen → Seen → Reply → Type 0
+Begins old new reply = Goes (is_idle old.standing) Queued Holding old new reply
+
+abbrev pub Enters : Seen → Seen → Reply → Type 0
+Enters old new reply = Goes (is_idle old.standing) Queued Holding old new reply × WasLoaded new reply
+
+abbrev pub Polls : Seen → Seen → Reply → Type 0
+Polls old new reply = Goes (is_queued old.standing) Queued Holding old new reply × LoadedOnce old new reply
+
+abbrev pub BeginsRelease : Seen → Seen → Reply → Type 0
+BeginsRelease old new reply = Goes (is_holding old.standing) Leaving Idle old new reply × LoadedOnce old new reply
+
+abbrev pub PollsRelease : Seen → Seen → Reply → Type 0
+PollsRelease old new reply = Goes (is_leaving old.standing) Leaving Idle old new reply × LoadedOnce old new reply
+
+abbrev pub Waits : Seen → Seen → Option Bool → Type 0
+Waits old new told = Tells (is_holding old.standing) old new told
+
 abbrev pub IsSomeThat : {X : Type 0} → Option X → (X → Type 0) → Type 0
 IsSomeThat None P = ⊥
 IsSomeThat (Some x) P = P x
 
--- an empty handle stays empty, and the answer says so; else the handle has a caller of the same lock, which goes where the call goes
-abbrev pub HandleGoes : (Standing → Bool) → Standing → Standing → Option AnyCaller → Option AnyCaller → Option Reply → Type 0
-HandleGoes here waits ends None new answer = (new ≡ None) × (answer ≡ None)
-HandleGoes here waits ends (Some old) new answer = IsSomeThat new (λ c. ((seen_of c).lock ≡ (seen_of old).lock)
-    × IsSomeThat answer (λ r. Goes (here (seen_of old).standing) waits ends (seen_of old).standing (seen_of c).standing r))
-
--- the handle is as empty as before, or has a caller of the same lock where it stood
-abbrev pub HandleStays : Option AnyCaller → Option AnyCaller → Type 0
-HandleStays None new = new ≡ None
-HandleStays (Some old) new = IsSomeThat new (λ c. seen_of c ≡ seen_of old)
-
--- whether anybody waits is told of a holder, and of nobody else
-abbrev pub IsTold : Option AnyCaller → Option (Option Bool) → Type 0
-IsTold None answer = answer ≡ None
-IsTold (Some old) answer = IsSomeThat answer (λ told. is_some told ≡ is_holding (seen_of old).standing)
+-- an empty handle stays empty, and the answer says so; else the handle has a caller, with which the call does what it does
+abbrev pub HandleDoes : {R : Type 0} → (Seen → Seen → R → Type 0) → Option AnyCaller → Option AnyCaller → Option R → Type 0
+HandleDoes does None new answer = (new ≡ None) × (answer ≡ None)
+HandleDoes does (Some old) new answer = IsSomeThat new (λ c. IsSomeThat answer (λ r. does (seen_of old) (seen_of c) r))
 
 abbrev pub FreesAt : Bool → AnyCaller → Option AnyCaller → Option Reply → Type 0
 FreesAt true old new answer = (new ≡ None) × (answer ≡ Some Done)

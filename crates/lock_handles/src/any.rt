@@ -1,13 +1,16 @@
 //! A caller of any of the four locks.
-ghost use Rattle.std.specs.Prelude.{◌≡◌, is_some};
-ghost use Rattle.lock_callers.specs.Goes.{Goes, is_idle, is_queued, is_holding, is_leaving};
+ghost use Rattle.std.specs.Prelude.{◌≡◌};
+ghost use Rattle.lock_callers.specs.Goes.{Goes, LoadedOnce, WasLoaded, Tells, is_idle, is_queued, is_holding, is_leaving};
 ghost use Rattle.lock_callers.specs.declared.standing.Standing.TheVariants.{Idle, Queued, Holding, Leaving};
 ghost use Rattle.lock_handles.specs.Calls.{seen_of};
+ghost use Rattle.lock_callers.specs.Seen.{Seen};
+ghost use Rattle.lock_handles.specs.declared.any.AnyCaller.{AnyCaller};
+ghost use Rattle.lock_handles.specs.declared.any.AnyCaller.TheVariants as TheVariants;
 
 use clh_lock::Clh;
 use hemlock_lock::Hemlock;
 use lock_callers::{Caller, Reply, Standing};
-use lock_rules::Plain;
+use lock_rules::{Basic, Plain};
 use mcs_lock::Mcs;
 use ticket_lock::Ticket;
 
@@ -35,9 +38,7 @@ impl AnyCaller {
 
     /// From Idle: enters the queue.
     pub fn begin(&mut self) -> Reply
-        ensures goes { Goes (is_idle (seen_of self.old).standing) Queued Holding (seen_of self.old).standing
-            (seen_of self.new).standing result }
-        ensures lock { (seen_of self.new).lock ≡ (seen_of self.old).lock }
+        ensures goes { Goes (is_idle (seen_of self.old).standing) Queued Holding (seen_of self.old) (seen_of self.new) result }
     {
         match self {
             AnyCaller::Ticket(caller) => caller.begin(),
@@ -49,9 +50,8 @@ impl AnyCaller {
 
     /// From Idle: enters the queue, and asks once whether the caller is its head.
     pub fn enter(&mut self) -> Reply
-        ensures goes { Goes (is_idle (seen_of self.old).standing) Queued Holding (seen_of self.old).standing
-            (seen_of self.new).standing result }
-        ensures lock { (seen_of self.new).lock ≡ (seen_of self.old).lock }
+        ensures goes { Goes (is_idle (seen_of self.old).standing) Queued Holding (seen_of self.old) (seen_of self.new) result }
+        ensures loaded { WasLoaded (seen_of self.new) result }
     {
         match self {
             AnyCaller::Ticket(caller) => caller.enter(),
@@ -63,9 +63,8 @@ impl AnyCaller {
 
     /// From Queued: asks once whether the caller is the head of the queue.
     pub fn poll(&mut self) -> Reply
-        ensures goes { Goes (is_queued (seen_of self.old).standing) Queued Holding (seen_of self.old).standing
-            (seen_of self.new).standing result }
-        ensures lock { (seen_of self.new).lock ≡ (seen_of self.old).lock }
+        ensures goes { Goes (is_queued (seen_of self.old).standing) Queued Holding (seen_of self.old) (seen_of self.new) result }
+        ensures loaded { LoadedOnce (seen_of self.old) (seen_of self.new) result }
     {
         match self {
             AnyCaller::Ticket(caller) => caller.poll(),
@@ -77,9 +76,8 @@ impl AnyCaller {
 
     /// From Holding: leaves the queue.
     pub fn begin_release(&mut self) -> Reply
-        ensures goes { Goes (is_holding (seen_of self.old).standing) Leaving Idle (seen_of self.old).standing
-            (seen_of self.new).standing result }
-        ensures lock { (seen_of self.new).lock ≡ (seen_of self.old).lock }
+        ensures goes { Goes (is_holding (seen_of self.old).standing) Leaving Idle (seen_of self.old) (seen_of self.new) result }
+        ensures loaded { LoadedOnce (seen_of self.old) (seen_of self.new) result }
     {
         match self {
             AnyCaller::Ticket(caller) => caller.begin_release(),
@@ -91,9 +89,8 @@ impl AnyCaller {
 
     /// From Leaving: goes on with a release.
     pub fn poll_release(&mut self) -> Reply
-        ensures goes { Goes (is_leaving (seen_of self.old).standing) Leaving Idle (seen_of self.old).standing
-            (seen_of self.new).standing result }
-        ensures lock { (seen_of self.new).lock ≡ (seen_of self.old).lock }
+        ensures goes { Goes (is_leaving (seen_of self.old).standing) Leaving Idle (seen_of self.old) (seen_of self.new) result }
+        ensures loaded { LoadedOnce (seen_of self.old) (seen_of self.new) result }
     {
         match self {
             AnyCaller::Ticket(caller) => caller.poll_release(),
@@ -105,8 +102,7 @@ impl AnyCaller {
 
     /// At Holding: whether another caller is queued behind this one. `None` at any other standing.
     pub fn waiters(&mut self) -> Option<bool>
-        ensures stays { seen_of self.new ≡ seen_of self.old }
-        ensures told { is_some result ≡ is_holding (seen_of self.old).standing }
+        ensures tells { Tells (is_holding (seen_of self.old).standing) (seen_of self.old) (seen_of self.new) result }
     {
         match self {
             AnyCaller::Ticket(caller) => caller.waiters(),
@@ -114,5 +110,46 @@ impl AnyCaller {
             AnyCaller::Clh(caller) => caller.waiters(),
             AnyCaller::Hemlock(caller) => caller.waiters(),
         }
+    }
+}
+
+/// A lock whose callers a handle may have.
+pub trait Handled: Basic<Plain<()>, Recipe = ()> + Drop {
+    // A caller of this lock, as one of any of the four.
+    ghost kind: { Seen → AnyCaller };
+
+    fn any(caller: Caller<Self>) -> AnyCaller
+        ensures kind { result ≡ kind caller };
+}
+
+impl Handled for Ticket<Plain<()>> {
+    ghost kind = { λ c. TheVariants.Ticket c };
+
+    fn any(caller: Caller<Ticket<Plain<()>>>) -> AnyCaller {
+        AnyCaller::Ticket(caller)
+    }
+}
+
+impl Handled for Mcs<Plain<()>> {
+    ghost kind = { λ c. TheVariants.Mcs c };
+
+    fn any(caller: Caller<Mcs<Plain<()>>>) -> AnyCaller {
+        AnyCaller::Mcs(caller)
+    }
+}
+
+impl Handled for Clh<Plain<()>> {
+    ghost kind = { λ c. TheVariants.Clh c };
+
+    fn any(caller: Caller<Clh<Plain<()>>>) -> AnyCaller {
+        AnyCaller::Clh(caller)
+    }
+}
+
+impl Handled for Hemlock<Plain<()>> {
+    ghost kind = { λ c. TheVariants.Hemlock c };
+
+    fn any(caller: Caller<Hemlock<Plain<()>>>) -> AnyCaller {
+        AnyCaller::Hemlock(caller)
     }
 }

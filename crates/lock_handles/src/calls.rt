@@ -2,9 +2,7 @@
 ghost use Rattle.std.specs.Prelude.{◌≡◌, is_none};
 ghost use Rattle.std.specs.Option.{MatchOption};
 ghost use Rattle.std.specs.declared.option.Option.TheVariants.{None, Some};
-ghost use Rattle.lock_callers.specs.Goes.{is_idle, is_queued, is_holding, is_leaving};
-ghost use Rattle.lock_callers.specs.declared.standing.Standing.TheVariants.{Idle, Queued, Holding, Leaving};
-ghost use Rattle.lock_handles.specs.Calls.{HandleGoes, HandleStays, IsTold, HandleFrees};
+ghost use Rattle.lock_handles.specs.Calls.{HandleDoes, HandleFrees, Begins, Enters, Polls, BeginsRelease, PollsRelease, Waits};
 
 use crate::any::AnyCaller;
 use crate::handle::ClofCaller;
@@ -30,7 +28,7 @@ impl ClofCaller {
 
     /// From Idle: enters the queue.
     pub fn begin(&mut self, alloc: Global) -> Option<Reply>
-        ensures goes { HandleGoes is_idle Queued Holding self.old.held self.new.held result }
+        ensures does { HandleDoes Begins self.old.held self.new.held result }
     {
         let mut caller = self.take(alloc)?;
         let reply = caller.begin();
@@ -40,7 +38,7 @@ impl ClofCaller {
 
     /// From Idle: enters the queue, and asks once whether the caller is its head.
     pub fn enter(&mut self, alloc: Global) -> Option<Reply>
-        ensures goes { HandleGoes is_idle Queued Holding self.old.held self.new.held result }
+        ensures does { HandleDoes Enters self.old.held self.new.held result }
     {
         let mut caller = self.take(alloc)?;
         let reply = caller.enter();
@@ -50,7 +48,7 @@ impl ClofCaller {
 
     /// From Queued: asks once whether the caller is the head of the queue.
     pub fn poll(&mut self, alloc: Global) -> Option<Reply>
-        ensures goes { HandleGoes is_queued Queued Holding self.old.held self.new.held result }
+        ensures does { HandleDoes Polls self.old.held self.new.held result }
     {
         let mut caller = self.take(alloc)?;
         let reply = caller.poll();
@@ -60,7 +58,7 @@ impl ClofCaller {
 
     /// From Holding: leaves the queue.
     pub fn begin_release(&mut self, alloc: Global) -> Option<Reply>
-        ensures goes { HandleGoes is_holding Leaving Idle self.old.held self.new.held result }
+        ensures does { HandleDoes BeginsRelease self.old.held self.new.held result }
     {
         let mut caller = self.take(alloc)?;
         let reply = caller.begin_release();
@@ -70,7 +68,7 @@ impl ClofCaller {
 
     /// From Leaving: goes on with a release.
     pub fn poll_release(&mut self, alloc: Global) -> Option<Reply>
-        ensures goes { HandleGoes is_leaving Leaving Idle self.old.held self.new.held result }
+        ensures does { HandleDoes PollsRelease self.old.held self.new.held result }
     {
         let mut caller = self.take(alloc)?;
         let reply = caller.poll_release();
@@ -80,8 +78,7 @@ impl ClofCaller {
 
     /// Whether another caller is queued behind this one: told of a holder alone.
     pub fn waiters(&mut self, alloc: Global) -> Option<Option<bool>>
-        ensures stays { HandleStays self.old.held self.new.held }
-        ensures told { IsTold self.old.held result }
+        ensures tells { HandleDoes Waits self.old.held self.new.held result }
     {
         let mut caller = self.take(alloc)?;
         let told = caller.waiters();

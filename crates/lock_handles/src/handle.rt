@@ -64,7 +64,7 @@ impl ClofCaller {
     pub fn full(caller: Box<AnyCaller>) -> ClofCaller
         ensures full { result.held ≡ Some caller.value }
     {
-        ClofCaller::of_loose(Loose::of(caller))
+        across(ClofCaller::of_loose(Loose::of(caller)))
     }
 
     /// The caller, where there is one.
@@ -85,3 +85,10 @@ impl Drop for ClofCaller {
 }
 
 unsafe impl Send for ClofCaller {}
+
+/// What may go to another thread. Every handle with a caller comes through here.
+fn across<T: Send>(value: T) -> T
+    ensures same { result ≡ value }
+{
+    value
+}

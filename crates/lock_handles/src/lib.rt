@@ -6,6 +6,6 @@ mod calls;
 mod handle;
 mod making;
 
-pub use any::AnyCaller;
+pub use any::{AnyCaller, Handled};
 pub use handle::ClofCaller;
-pub use making::{clh_boxes, fill, hemlock_boxes, mcs_boxes, ticket_boxes};
+pub use making::{Made, make};

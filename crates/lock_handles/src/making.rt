@@ -1,74 +1,91 @@
 //! How the callers of a lock are made and put into handles.
-ghost use Rattle.std.specs.Prelude.{◌≡◌, ◌<◌, length, IfSome};
+ghost use Rattle.std.specs.Prelude.{◌≡◌, ◌<◌, ◌↔◌, length, map, IfSome, IsTrue};
+ghost use Rattle.std.specs.List.{All};
+ghost use Rattle.std.specs.declared.option.Option.TheVariants.{Some};
+ghost use Rattle.lock_rules.specs.Tag.{Tag};
+ghost use Rattle.lock_callers.specs.Seen.{AreOf, idle_of};
+ghost use Rattle.lock_handles.specs.Making.{AreEmpty, Makes};
+ghost use Rattle.lock_handles.specs.declared.any.AnyCaller.{AnyCaller};
 
-use crate::any::AnyCaller;
+use crate::any::{AnyCaller, Handled};
 use crate::handle::ClofCaller;
-use clh_lock::Clh;
-use hemlock_lock::Hemlock;
-use lock_callers::make_callers;
-use lock_rules::Plain;
-use mcs_lock::Mcs;
+use lock_callers::{Caller, make_callers};
 use std::alloc::Global;
-use ticket_lock::Ticket;
 
-/// The callers of a new Ticket lock, each in a box, as many as asked. `None` for want of memory.
-pub fn ticket_boxes(alloc: Global, count: u32) -> Option<Vec<Box<AnyCaller>>>
+/// What making answers. `InUse` is a handle that has a caller already, `Refused` no handles, or more than 2^32 - 1.
+#[derive(Clone, Copy, PartialEq, Eq, Debug, Drop)]
+pub enum Made {
+    Done,
+    NoMemory,
+    InUse,
+    Refused,
+}
+
+/// Makes a lock of this kind, and a caller of it for each of the handles.
+pub fn make<B: Handled>(alloc: Global, handles: &mut [ClofCaller]) -> Made
+    ensures makes { Makes B.kind (map (λ h. h.held) handles.old) (map (λ h. h.held) handles.new) result }
+{
+    let Ok(count) = u32::try_from(handles.len()) else {
+        return Made::Refused;
+    };
+    if count == 0 {
+        return Made::Refused;
+    }
+    if !are_empty(alloc, handles) {
+        return Made::InUse;
+    }
+    match boxes_of::<B>(alloc, count) {
+        None => Made::NoMemory,
+        Some(boxes) => {
+            fill(handles, boxes);
+            Made::Done
+        }
+    }
+}
+
+/// Whether each handle is empty.
+fn are_empty(alloc: Global, handles: &mut [ClofCaller]) -> bool
+    ensures same { map (λ h. h.held) handles.new ≡ map (λ h. h.held) handles.old }
+    ensures empty { IsTrue result ↔ AreEmpty (map (λ h. h.held) handles.old) }
+{
+    for index in 0..handles.len() {
+        if !handles[index].is_empty(alloc) {
+            return false;
+        }
+    }
+    true
+}
+
+/// The callers of a new lock of this kind, each in a box, as many as asked. `None` for want of memory.
+fn boxes_of<B: Handled>(alloc: Global, count: u32) -> Option<Vec<Box<AnyCaller>>>
     requires some { 0 < count }
     ensures count { IfSome result (λ made. length made.items ≡ count) }
+    ensures callers { IfSome result (λ made. (lock : Tag) × All (λ b. b.value ≡ B.kind (idle_of lock)) made.items) }
 {
-    let mut callers = make_callers::<Ticket<Plain<()>>>(alloc, (), count)?;
+    let callers = make_callers::<B>(alloc, (), count)?;
+    boxed::<B>(alloc, callers)
+}
+
+/// These callers, each in a box.
+fn boxed<B: Handled>(alloc: Global, mut callers: Vec<Caller<B>>) -> Option<Vec<Box<AnyCaller>>>
+    ensures count { IfSome result (λ made. length made.items ≡ length callers.items) }
+    ensures callers { IfSome result (λ made. (lock : Tag) → AreOf lock callers.items
+        → All (λ b. b.value ≡ B.kind (idle_of lock)) made.items) }
+{
     let mut boxes = Vec::new(alloc);
     while let Some(caller) = callers.pop() {
-        let boxed = Box::new(alloc, AnyCaller::Ticket(caller)).ok()?;
+        let boxed = Box::new(alloc, B::any(caller)).ok()?;
         boxes.push(boxed).ok()?;
     }
     Some(boxes)
 }
 
-/// The callers of a new Mcs lock, each in a box, as many as asked. `None` for want of memory.
-pub fn mcs_boxes(alloc: Global, count: u32) -> Option<Vec<Box<AnyCaller>>>
-    requires some { 0 < count }
-    ensures count { IfSome result (λ made. length made.items ≡ count) }
+/// Puts a caller into each of the handles.
+fn fill(handles: &mut [ClofCaller], mut boxes: Vec<Box<AnyCaller>>)
+    requires enough { length boxes.items ≡ length handles.old }
+    ensures filled { (caller : AnyCaller) → All (λ b. b.value ≡ caller) boxes.items
+        → All (λ h. h ≡ Some caller) (map (λ h. h.held) handles.new) }
 {
-    let mut callers = make_callers::<Mcs<Plain<()>>>(alloc, (), count)?;
-    let mut boxes = Vec::new(alloc);
-    while let Some(caller) = callers.pop() {
-        let boxed = Box::new(alloc, AnyCaller::Mcs(caller)).ok()?;
-        boxes.push(boxed).ok()?;
-    }
-    Some(boxes)
-}
-
-/// The callers of a new Clh lock, each in a box, as many as asked. `None` for want of memory.
-pub fn clh_boxes(alloc: Global, count: u32) -> Option<Vec<Box<AnyCaller>>>
-    requires some { 0 < count }
-    ensures count { IfSome result (λ made. length made.items ≡ count) }
-{
-    let mut callers = make_callers::<Clh<Plain<()>>>(alloc, (), count)?;
-    let mut boxes = Vec::new(alloc);
-    while let Some(caller) = callers.pop() {
-        let boxed = Box::new(alloc, AnyCaller::Clh(caller)).ok()?;
-        boxes.push(boxed).ok()?;
-    }
-    Some(boxes)
-}
-
-/// The callers of a new Hemlock lock, each in a box, as many as asked. `None` for want of memory.
-pub fn hemlock_boxes(alloc: Global, count: u32) -> Option<Vec<Box<AnyCaller>>>
-    requires some { 0 < count }
-    ensures count { IfSome result (λ made. length made.items ≡ count) }
-{
-    let mut callers = make_callers::<Hemlock<Plain<()>>>(alloc, (), count)?;
-    let mut boxes = Vec::new(alloc);
-    while let Some(caller) = callers.pop() {
-        let boxed = Box::new(alloc, AnyCaller::Hemlock(caller)).ok()?;
-        boxes.push(boxed).ok()?;
-    }
-    Some(boxes)
-}
-
-/// Puts the callers into the handles.
-pub fn fill(handles: &mut [ClofCaller], mut boxes: Vec<Box<AnyCaller>>) {
     for index in 0..handles.len() {
         if let Some(caller) = boxes.pop() {
             handles[index].put(caller);
