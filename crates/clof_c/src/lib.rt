@@ -7,6 +7,5 @@
 mod calls;
 mod codes;
 mod making;
-
 #[cfg(test)]
 mod tests;

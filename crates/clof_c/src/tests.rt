@@ -8,10 +8,15 @@ use lock_handles::ClofCaller;
 use std::alloc::Global;
 
 const DONE: u32 = 0;
+
 const NOT_YET: u32 = 1;
+
 const ELSEWHERE: u32 = 2;
+
 const EMPTY: u32 = 3;
+
 const IN_USE: u32 = 5;
+
 const REFUSED: u32 = 6;
 
 #[derive(Clone, Copy, PartialEq, Eq, Debug, Drop)]

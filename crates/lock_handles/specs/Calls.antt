@@ -9,12 +9,20 @@ use Rattle.lock_callers.specs.declared.standing.Reply.{Reply}
 use Rattle.lock_callers.specs.declared.standing.Reply.TheVariants.{Done, Elsewhere}
 use Rattle.lock_handles.specs.declared.any.AnyCaller.{AnyCaller}
 use Rattle.lock_handles.specs.declared.any.AnyCaller.TheVariants.{Ticket, Mcs, Clh, Hemlock}
+use Rattle.lock_handles.specs.declared.any.Kind.{Kind}
+use Rattle.lock_handles.specs.declared.any.Kind.TheVariants as of
 
 abbrev pub seen_of : AnyCaller → Seen
 seen_of (Ticket c) = c
 seen_of (Mcs c) = c
 seen_of (Clh c) = c
 seen_of (Hemlock c) = c
+
+abbrev pub kind_of : Kind → Seen → AnyCaller
+kind_of of.Ticket c = Ticket c
+kind_of of.Mcs c = Mcs c
+kind_of of.Clh c = Clh c
+kind_of of.Hemlock c = Hemlock c
 
 -- what each call does with a caller, and what it answers
 abbrev pub Begins : Seen → Seen → Reply → Type 0

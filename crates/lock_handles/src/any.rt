@@ -3,16 +3,22 @@ ghost use Rattle.std.specs.Prelude.{◌≡◌};
 ghost use Rattle.lock_callers.specs.Goes.{Goes, LoadedOnce, WasLoaded, Tells, is_idle, is_queued, is_holding, is_leaving};
 ghost use Rattle.lock_callers.specs.declared.standing.Standing.TheVariants.{Idle, Queued, Holding, Leaving};
 ghost use Rattle.lock_handles.specs.Calls.{seen_of};
-ghost use Rattle.lock_callers.specs.Seen.{Seen};
-ghost use Rattle.lock_handles.specs.declared.any.AnyCaller.{AnyCaller};
-ghost use Rattle.lock_handles.specs.declared.any.AnyCaller.TheVariants as TheVariants;
 
 use clh_lock::Clh;
 use hemlock_lock::Hemlock;
 use lock_callers::{Caller, Reply, Standing};
-use lock_rules::{Basic, Plain};
+use lock_rules::Plain;
 use mcs_lock::Mcs;
 use ticket_lock::Ticket;
+
+/// Which of the four locks.
+#[derive(Clone, Copy, PartialEq, Eq, Debug, Drop)]
+pub enum Kind {
+    Ticket,
+    Mcs,
+    Clh,
+    Hemlock,
+}
 
 /// A caller of a Ticket, MCS, CLH or Hemlock lock.
 #[derive(Drop)]
@@ -110,46 +116,5 @@ impl AnyCaller {
             AnyCaller::Clh(caller) => caller.waiters(),
             AnyCaller::Hemlock(caller) => caller.waiters(),
         }
-    }
-}
-
-/// A lock whose callers a handle may have.
-pub trait Handled: Basic<Plain<()>, Recipe = ()> + Drop {
-    // A caller of this lock, as one of any of the four.
-    ghost kind: { Seen → AnyCaller };
-
-    fn any(caller: Caller<Self>) -> AnyCaller
-        ensures kind { result ≡ kind caller };
-}
-
-impl Handled for Ticket<Plain<()>> {
-    ghost kind = { λ c. TheVariants.Ticket c };
-
-    fn any(caller: Caller<Ticket<Plain<()>>>) -> AnyCaller {
-        AnyCaller::Ticket(caller)
-    }
-}
-
-impl Handled for Mcs<Plain<()>> {
-    ghost kind = { λ c. TheVariants.Mcs c };
-
-    fn any(caller: Caller<Mcs<Plain<()>>>) -> AnyCaller {
-        AnyCaller::Mcs(caller)
-    }
-}
-
-impl Handled for Clh<Plain<()>> {
-    ghost kind = { λ c. TheVariants.Clh c };
-
-    fn any(caller: Caller<Clh<Plain<()>>>) -> AnyCaller {
-        AnyCaller::Clh(caller)
-    }
-}
-
-impl Handled for Hemlock<Plain<()>> {
-    ghost kind = { λ c. TheVariants.Hemlock c };
-
-    fn any(caller: Caller<Hemlock<Plain<()>>>) -> AnyCaller {
-        AnyCaller::Hemlock(caller)
     }
 }

@@ -2,10 +2,11 @@
 #![tactic(auto)]
 
 mod any;
+mod boxes;
 mod calls;
 mod handle;
 mod making;
 
-pub use any::{AnyCaller, Handled};
+pub use any::{AnyCaller, Kind};
 pub use handle::ClofCaller;
 pub use making::{Made, make};

@@ -3,13 +3,14 @@ ghost use Rattle.std.specs.Prelude.{◌≡◌, ◌<◌, ◌↔◌, length, map, 
 ghost use Rattle.std.specs.List.{All};
 ghost use Rattle.std.specs.declared.option.Option.TheVariants.{Some};
 ghost use Rattle.lock_rules.specs.Tag.{Tag};
-ghost use Rattle.lock_callers.specs.Seen.{AreOf, idle_of};
+ghost use Rattle.lock_callers.specs.Seen.{idle_of};
+ghost use Rattle.lock_handles.specs.Calls.{kind_of};
 ghost use Rattle.lock_handles.specs.Making.{AreEmpty, Makes};
 ghost use Rattle.lock_handles.specs.declared.any.AnyCaller.{AnyCaller};
 
-use crate::any::{AnyCaller, Handled};
+use crate::any::{AnyCaller, Kind};
+use crate::boxes::{clh_boxes, hemlock_boxes, mcs_boxes, ticket_boxes};
 use crate::handle::ClofCaller;
-use lock_callers::{Caller, make_callers};
 use std::alloc::Global;
 
 /// What making answers. `InUse` is a handle that has a caller already, `Refused` no handles, or more than 2^32 - 1.
@@ -22,8 +23,8 @@ pub enum Made {
 }
 
 /// Makes a lock of this kind, and a caller of it for each of the handles.
-pub fn make<B: Handled>(alloc: Global, handles: &mut [ClofCaller]) -> Made
-    ensures makes { Makes B.kind (map (λ h. h.held) handles.old) (map (λ h. h.held) handles.new) result }
+pub fn make(alloc: Global, kind: Kind, handles: &mut [ClofCaller]) -> Made
+    ensures makes { Makes (kind_of kind) (map (λ h. h.held) handles.old) (map (λ h. h.held) handles.new) result }
 {
     let Ok(count) = u32::try_from(handles.len()) else {
         return Made::Refused;
@@ -34,7 +35,7 @@ pub fn make<B: Handled>(alloc: Global, handles: &mut [ClofCaller]) -> Made
     if !are_empty(alloc, handles) {
         return Made::InUse;
     }
-    match boxes_of::<B>(alloc, count) {
+    match boxes_of(alloc, kind, count) {
         None => Made::NoMemory,
         Some(boxes) => {
             fill(handles, boxes);
@@ -57,27 +58,17 @@ fn are_empty(alloc: Global, handles: &mut [ClofCaller]) -> bool
 }
 
 /// The callers of a new lock of this kind, each in a box, as many as asked. `None` for want of memory.
-fn boxes_of<B: Handled>(alloc: Global, count: u32) -> Option<Vec<Box<AnyCaller>>>
+fn boxes_of(alloc: Global, kind: Kind, count: u32) -> Option<Vec<Box<AnyCaller>>>
     requires some { 0 < count }
     ensures count { IfSome result (λ made. length made.items ≡ count) }
-    ensures callers { IfSome result (λ made. (lock : Tag) × All (λ b. b.value ≡ B.kind (idle_of lock)) made.items) }
+    ensures callers { IfSome result (λ made. (lock : Tag) × All (λ b. b.value ≡ kind_of kind (idle_of lock)) made.items) }
 {
-    let callers = make_callers::<B>(alloc, (), count)?;
-    boxed::<B>(alloc, callers)
-}
-
-/// These callers, each in a box.
-fn boxed<B: Handled>(alloc: Global, mut callers: Vec<Caller<B>>) -> Option<Vec<Box<AnyCaller>>>
-    ensures count { IfSome result (λ made. length made.items ≡ length callers.items) }
-    ensures callers { IfSome result (λ made. (lock : Tag) → AreOf lock callers.items
-        → All (λ b. b.value ≡ B.kind (idle_of lock)) made.items) }
-{
-    let mut boxes = Vec::new(alloc);
-    while let Some(caller) = callers.pop() {
-        let boxed = Box::new(alloc, B::any(caller)).ok()?;
-        boxes.push(boxed).ok()?;
+    match kind {
+        Kind::Ticket => ticket_boxes(alloc, count),
+        Kind::Mcs => mcs_boxes(alloc, count),
+        Kind::Clh => clh_boxes(alloc, count),
+        Kind::Hemlock => hemlock_boxes(alloc, count),
     }
-    Some(boxes)
 }
 
 /// Puts a caller into each of the handles.
@@ -87,8 +78,9 @@ fn fill(handles: &mut [ClofCaller], mut boxes: Vec<Box<AnyCaller>>)
         → All (λ h. h ≡ Some caller) (map (λ h. h.held) handles.new) }
 {
     for index in 0..handles.len() {
-        if let Some(caller) = boxes.pop() {
-            handles[index].put(caller);
+        match boxes.pop() {
+            Some(caller) => handles[index].put(caller),
+            None => unreachable!(),
         }
     }
 }

@@ -1,5 +1,4 @@
 -- What a handle owns may go to another thread: the box that it has, and the right to free it.
-use Prim.Native.Nat.{ℕ}
 use mir.Raw.{raw}
 use base.Shift.{Keyless}
 use denote.Memory.{lone}
@@ -12,7 +11,7 @@ use Rattle.std.proofs.Crossing as heap
 use Rattle.std.specs.declared.alloc.Global.{Global}
 use Rattle.std.specs.declared.option.Option.{Option}
 use Rattle.std_alloc.proofs.SendSync.{quiet, lies}
-use Rattle.std_heap.proofs.Global.TheSendSync as alloc
+use Rattle.std.proofs.alloc.Global.TheSendSync as alloc
 use Rattle.lock_handles.specs.Handles.{kept}
 use Rattle.lock_handles.specs.contracts.any.AnyCaller as any
 use Rattle.lock_handles.proofs.any.AnyCaller.TheSendSync.{the_send as caller}
