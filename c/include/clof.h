@@ -3,8 +3,8 @@
  * A lock has a fixed number of callers, made with it. A thread takes part by a caller, one thread a caller at a time. A caller is Idle,
  * Queued, Holding or Leaving; each call goes from one of these, and at any other it answers CLOF_ELSEWHERE and changes nothing.
  *
- * What the program promises: a caller begins as zero (CLOF_CALLER_INIT), is not copied, and is in one call at a time; no call is made in a
- * signal handler or behind a fork; guarded data is touched only between clof_acquire and clof_release. docs/C.md says the rest.
+ * What the program promises: a caller begins as zero (CLOF_CALLER_INIT), may be moved and is not copied, and is in one call at a time; no
+ * call is made in a signal handler or behind a fork; guarded data is touched only between clof_acquire and clof_release. docs/C.md says the rest.
  *
  * There is no try that gives up: a caller that has entered a queue lock's queue can't leave it before it held.
  */
@@ -32,7 +32,7 @@ enum {
     CLOF_EMPTY = 3,     /* the handle has no caller */
     CLOF_NO_MEMORY = 4, /* there was no memory; nothing changed */
     CLOF_IN_USE = 5,    /* a handle that callers were to be made for has one; nothing changed */
-    CLOF_REFUSED = 6    /* no handles, or more than 2^32 - 1 */
+    CLOF_REFUSED = 6    /* no handles, or more than 2^32 - 1; nothing changed */
 };
 
 /* Make a lock, and a caller of it for each of the handles, all of which must be empty. Only these take memory. */
