@@ -1,0 +1,12 @@
+//! The callers of a basic lock: each is the lock and a token of it in one, so that no call takes a token of another lock, and a call at a
+//! wrong standing is answered and changes nothing.
+#![tactic(auto)]
+
+mod caller;
+mod making;
+mod stage;
+mod standing;
+
+pub use caller::Caller;
+pub use making::make_callers;
+pub use standing::{Reply, Standing};
