@@ -38,8 +38,8 @@ is_leaving Holding = false
 is_leaving Leaving = true
 is_leaving Spent = false
 
--- `here` says that the caller stands where the call goes from. Then it stays one of its lock and goes to `waits`, and the answer is not yet,
--- or to `ends`, and the answer is done. Else nothing changes, and the answer says so
+-- `here` says that the caller stands where the call goes from. Then it stays one of its lock and goes to `waits`, and the answer is not
+-- yet, or to `ends`, and the answer is done. Else nothing changes, and the answer says so
 abbrev pub Goes : Bool → Standing → Standing → Seen → Seen → Reply → Type 0
 Goes true waits ends old new reply = (new.lock ≡ old.lock) × (new.tested ≡ Open)
     × (((new.standing ≡ waits) × (reply ≡ NotYet)) ⊎ ((new.standing ≡ ends) × (reply ≡ Done)))

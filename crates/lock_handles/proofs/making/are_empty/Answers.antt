@@ -41,5 +41,7 @@ loop-index-preserved c =
 pub returns-clause-empty : goal.returns-clause-empty
 returns-clause-empty c =
     let all = All-from_all_within IsNone c.loop-index.handles (AllWithin-upto IsNone c.loop-index.handles 0 c.loop-index.index
-    (length c.loop-index.handles) (omega arith) c.loop-index.invariant.none) in
-    (λ _. subst AreEmpty c.loop-index.invariant.same (All-map (λ (o : Option AnyCaller). o ≡ None) held c.loop-index.handles all), λ _. refl)
+    (length c.loop-index.handles) (omega arith) c.loop-index.invariant.none) in (
+      λ _. subst AreEmpty c.loop-index.invariant.same (All-map (λ (o : Option AnyCaller). o ≡ None) held c.loop-index.handles all),
+      λ _. refl,
+    )

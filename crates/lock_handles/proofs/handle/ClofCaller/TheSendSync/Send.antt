@@ -22,7 +22,8 @@ R = any.the_row
 
 kept_keyless : (a : Global) (p : Ptr) (held : Option R.Denot) → Keyless (kept R a p held)
 kept_keyless a null_ptr held = λ _. tt
-kept_keyless a (block_ptr b o) held = λ y. ((λ _. tt), (lies R caller (block_ptr b o) y, heap.frees.frees a (raw (lone R.mir)) (block_ptr b o)))
+kept_keyless a (block_ptr b o) held = λ y.
+    ((λ _. tt), (lies R caller (block_ptr b o) y, heap.frees.frees a (raw (lone R.mir)) (block_ptr b o)))
 
 pub send : IsSend the_row
 send =
