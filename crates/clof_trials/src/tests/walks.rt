@@ -144,6 +144,59 @@ fn climbs_three_levels(rt: HostRuntime) -> Result<(), Fail> {
     prints(&rt, rt.alloc(), &words, NEAR_AND_FAR, text)
 }
 
+// Checks a walk of callers near and far, of a command each, under a lock of these levels, of a kind each.
+fn walks_near_and_far<R: Threads + Wait + Sync + Abort>(
+    rt: &R,
+    alloc: Global,
+    levels: &str,
+    locks: &str,
+    text: &[u8],
+) -> Result<(), Fail> {
+    let words = [
+        "run", "--walk", "--levels", levels, "--locks", locks, MACHINE,
+    ];
+    prints(rt, alloc, &words, NEAR_AND_FAR, text)
+}
+
+// Four levels, a lock of each kind.
+#[test]
+fn climbs_four_levels(rt: HostRuntime) -> Result<(), Fail> {
+    let text = b"turn 0 caller 0 pu 0 climb 3 tests 1 left 0 \"get a\\r\\n\" \"END\\r\\n\"\n\
+          turn 1 caller 1 pu 0 climb 0 tests 2 left 1 \"get a\\r\\n\" \"END\\r\\n\"\n\
+          turn 2 caller 2 pu 1 climb 1 tests 4 left 2 \"get a\\r\\n\" \"END\\r\\n\"\n\
+          turn 3 caller 3 pu 2 climb 2 tests 0 left 3 \"get a\\r\\n\" \"END\\r\\n\"\n\
+          turn 4 caller 4 pu 7 climb 3 tests 0 left 3 \"get a\\r\\n\" \"END\\r\\n\"\n\
+          caller 0 pu 0 commands 1 rest 0\n\
+          caller 1 pu 0 commands 1 rest 0\n\
+          caller 2 pu 1 commands 1 rest 0\n\
+          caller 3 pu 2 commands 1 rest 0\n\
+          caller 4 pu 7 commands 1 rest 0\n";
+    walks_near_and_far(
+        &rt,
+        rt.alloc(),
+        "core,l3,die,machine",
+        "tkt-mcs-clh-hem",
+        text,
+    )
+}
+
+// A level more: who goes over to the other package climbs one level higher.
+#[test]
+fn climbs_a_level_more(rt: HostRuntime) -> Result<(), Fail> {
+    let text = b"turn 0 caller 0 pu 0 climb 4 tests 1 left 0 \"get a\\r\\n\" \"END\\r\\n\"\n\
+          turn 1 caller 1 pu 0 climb 0 tests 2 left 1 \"get a\\r\\n\" \"END\\r\\n\"\n\
+          turn 2 caller 2 pu 1 climb 1 tests 4 left 2 \"get a\\r\\n\" \"END\\r\\n\"\n\
+          turn 3 caller 3 pu 2 climb 2 tests 0 left 4 \"get a\\r\\n\" \"END\\r\\n\"\n\
+          turn 4 caller 4 pu 7 climb 4 tests 0 left 4 \"get a\\r\\n\" \"END\\r\\n\"\n\
+          caller 0 pu 0 commands 1 rest 0\n\
+          caller 1 pu 0 commands 1 rest 0\n\
+          caller 2 pu 1 commands 1 rest 0\n\
+          caller 3 pu 2 commands 1 rest 0\n\
+          caller 4 pu 7 commands 1 rest 0\n";
+    let levels = "core,l3,die,package,machine";
+    walks_near_and_far(&rt, rt.alloc(), levels, "tkt-mcs-clh-hem-tkt", text)
+}
+
 // Five levels, as a plain model of the locks has them. The first caller has a second command, and queues again behind the second one; a
 // keep of 1 lets the second take the core from the first, and no more.
 #[test]
