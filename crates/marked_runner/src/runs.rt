@@ -1,0 +1,45 @@
+//! A run under a plan.
+ghost use Rattle.std.specs.Prelude.{◌≡◌, ◌+◌, ◌<◌, ◌≤◌, ◌^◌, length, map, sum_by, IfOk};
+ghost use Rattle.keep_local.specs.Shapes.{IsWellFormed, callers_of, top_of};
+ghost use Rattle.keep_local.specs.States.{callers_in};
+ghost use Rattle.placed_runner.specs.Sections.{caller_limit};
+ghost use Rattle.threaded_runner.specs.Finished.{IsFinished};
+ghost use Rattle.fresh_runner.specs.Marked.{AreMarked};
+
+use crate::one;
+use crate::shapes::copied;
+use fresh_runner::{Marked, fresh_root_of};
+use keep_local::Shape;
+use lock_tree::Plan;
+use out_of_memory::OutOfMemory;
+use placed_runner::{Gate, Section};
+use std::alloc::Global;
+use std::sync::Wait;
+use std::thread::Threads;
+
+/// Has the callers of these sections give their commands under the lock of a plan with a shape, each in a thread of its own. It gives what
+/// they leave, and the numbers of each caller's turns, which its token told it. Without memory for the lock or the run, or for a command in
+/// it, nothing is given. A gate is told of each hold.
+pub fn run_marked<'a, R: Threads + Wait + Sync, G: Gate + Sync>(
+    rt: &R,
+    alloc: Global,
+    plan: &Plan,
+    shape: &Shape,
+    sections: &[Section<'a>],
+    gate: &G,
+) -> Result<Marked<'a>, OutOfMemory>
+    requires plan { length plan.now.kinds ≡ top_of shape.now + 1 }
+    requires levels { top_of shape.now < 1 }
+    requires formed { IsWellFormed shape.now }
+    requires callers { callers_of shape.now ≡ length sections.now }
+    requires some { 0 < length sections.now }
+    requires few { length sections.now ≤ caller_limit }
+    requires small { sum_by (λ section. length section.bytes.now) sections.now < 2 ^ 32 }
+    ensures finished { IfOk result (λ made. IsFinished made.left.trail made.left.journal) }
+    ensures shape { IfOk result (λ made. made.left.trail.shape ≡ shape.now) }
+    ensures sections { IfOk result (λ made. made.left.journal.sections ≡ map (λ section. section.bytes.now) sections.now) }
+    ensures marks { IfOk result (λ made. AreMarked (callers_in made.left.trail.closed) (length sections.now) made.marks.items) }
+{
+    let (root, shares, seens) = fresh_root_of(alloc, sections, copied(alloc, shape)?)?;
+    one::run(rt, alloc, plan, shape, root, shares, seens, sections, gate)
+}
