@@ -1,6 +1,0 @@
-use Rattle.std.proofs.Common.{◌≡◌, take}
-use Rattle.marked_runner.proofs.shapes.copied.Given as goal
-
--- the paths so far
-abbrev pub invariant-loop-path : goal.invariant-loop-path
-invariant-loop-path l = l.paths.items ≡ take l.path-index l.shape.paths
