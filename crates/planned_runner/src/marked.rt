@@ -6,6 +6,7 @@ ghost use Rattle.fresh_runner.specs.Crews.{AreEmptied, IsFreshCrew};
 ghost use Rattle.fresh_runner.specs.Jobs.{IsFreshJob, IsFreshServed};
 ghost use Rattle.fresh_runner.specs.Ready.{IsFreshDealt};
 ghost use Rattle.planned_runner.specs.Runs.{IsLeftMarked, IsSet};
+ghost use Rattle.planned_runner.specs.declared.marked.FreshBrought.{FreshBrought as TheBrought};
 
 use crate::commanded::{Commanded, Dealt, Served};
 use clof_compose::{Composed, Resting};
@@ -49,7 +50,7 @@ impl<'a, Q: Resting> Served<Q, FreshJob<'a, Q>> for FreshBook<'a> {
         requires sound { C.sound lock.now }
         requires lowest { C.level lock.now ≡ 0 }
         requires some { (number : ℕ) × IsFreshJob Q.rest (C.has lock.now) (C.level lock.now) (C.tag lock.now) number job }
-        ensures each { (number : ℕ) → IsFreshJob Q.rest (C.has lock.now) (C.level lock.now) (C.tag lock.now) number job
+        ensures each { (number : ℕ) → IsFreshJob Q.rest (C.has lock.now) (C.level lock.now) (C.tag lock.now) number job.entry
             → IsFreshServed Q.rest (C.has lock.now) (C.level lock.now) (C.tag lock.now) number result }
     {
         serve_fresh(rt, lock, gate, job)
@@ -130,7 +131,7 @@ impl<'s, 'a, Q: Resting> Commanded<Q, FreshJob<'a, Q>, FreshBrought<'s, 'a>, Mar
         requires sound { C.sound lock }
         requires crew { IsFreshCrew Q.rest (C.has lock) (C.level lock) (C.count lock) (C.tag lock) crew }
         requires count { C.count lock ≡ callers_of (course_of (C.tag lock)).shape }
-        requires some { (b : _) × IsFreshDealt (course_of (C.tag lock)) (map (λ section. section.bytes.now) b.sections.now) b.shares.items
+        requires some { (b : TheBrought) × IsFreshDealt (course_of (C.tag lock)) (map (λ section. section.bytes.now) b.sections.now) b.shares.items
             b.seens.items }
         ensures { IfOk result (IsLeftMarked (course_of (C.tag lock))) }
     {

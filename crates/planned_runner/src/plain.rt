@@ -6,6 +6,7 @@ ghost use Rattle.threaded_runner.specs.Crews.{HasRoom, IsCrew};
 ghost use Rattle.threaded_runner.specs.Jobs.{IsJob, IsServed};
 ghost use Rattle.threaded_runner.specs.Ready.{IsDealt};
 ghost use Rattle.planned_runner.specs.Runs.{IsLeft, IsSet};
+ghost use Rattle.planned_runner.specs.declared.plain.Brought.{Brought as TheBrought};
 
 use crate::commanded::{Commanded, Dealt, Served};
 use clof_compose::{Composed, Resting};
@@ -47,7 +48,7 @@ impl<'a, Q: Resting> Served<Q, Job<'a, Q>> for Book<'a> {
         requires sound { C.sound lock.now }
         requires lowest { C.level lock.now ≡ 0 }
         requires some { (number : ℕ) × IsJob Q.rest (C.has lock.now) (C.level lock.now) (C.tag lock.now) number job }
-        ensures each { (number : ℕ) → IsJob Q.rest (C.has lock.now) (C.level lock.now) (C.tag lock.now) number job
+        ensures each { (number : ℕ) → IsJob Q.rest (C.has lock.now) (C.level lock.now) (C.tag lock.now) number job.entry
             → IsServed Q.rest (C.has lock.now) (C.level lock.now) (C.tag lock.now) number result }
     {
         serve(rt, lock, gate, job)
@@ -131,7 +132,7 @@ impl<'s, 'a, Q: Resting> Commanded<Q, Job<'a, Q>, Brought<'s, 'a>, Finished<'a>>
         requires sound { C.sound lock }
         requires crew { IsCrew Q.rest (C.has lock) (C.level lock) (C.count lock) (C.tag lock) crew }
         requires count { C.count lock ≡ callers_of (course_of (C.tag lock)).shape }
-        requires some { (b : _) × IsDealt (course_of (C.tag lock)) (map (λ section. section.bytes.now) b.sections.now) b.shares.items }
+        requires some { (b : TheBrought) × IsDealt (course_of (C.tag lock)) (map (λ section. section.bytes.now) b.sections.now) b.shares.items }
         ensures { IfOk result (IsLeft (course_of (C.tag lock))) }
     {
         close_run(lock, crew)
