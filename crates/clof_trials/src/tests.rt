@@ -3,6 +3,7 @@ mod checks;
 mod drills;
 mod faults;
 mod plans;
+mod receipts;
 mod threads;
 mod walks;
 

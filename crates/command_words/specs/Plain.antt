@@ -58,6 +58,7 @@ plain_running given = record {
   locks = plain_text given.locks;
   keep = given.keep.now;
   walk = given.walk;
+  receipts = given.receipts;
   description = given.description.now;
 }
 

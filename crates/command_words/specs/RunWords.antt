@@ -1,5 +1,5 @@
 -- What the words of `run` ask for.
-use Rattle.std.specs.Prelude.{◌^◌, ◌&&◌, Bool, true, nat_lt, length, if◌then◌else◌}
+use Rattle.std.specs.Prelude.{◌^◌, ◌&&◌, Bool, true, not, nat_lt, length, if◌then◌else◌}
 use Rattle.std.specs.Prelude.{List, [], ◌∷◌, Option, Some, None, codes, option_and_then, unwrap_or}
 use Rattle.std.specs.Option.{option_map_or}
 use Rattle.clap.specs.Words.{App, Row, Rule, Text, first_of}
@@ -10,7 +10,8 @@ use Rattle.command_words.specs.Asked.{Asked, Run, Running}
 abbrev pub run_rules : List Rule
 run_rules =
     option_rule (codes "levels") None ∷ option_rule (codes "locks") None ∷ option_rule (codes "keep") None
-    ∷ flag_rule (codes "walk") None ∷ optional_rule (codes "DESCRIPTION") ∷ []
+    ∷ flag_rule (codes "walk") None ∷ flag_rule (codes "receipts") None
+    ∷ optional_rule (codes "DESCRIPTION") ∷ []
 
 unfoldable pub run_command : App
 run_command = command_of (codes "run") run_rules
@@ -34,6 +35,7 @@ running_of rows = record {
   locks = first_of (codes "locks") rows;
   keep = unwrap_or (first_of (codes "keep") rows) default_keep;
   walk = is_given (codes "walk") rows;
+  receipts = is_given (codes "receipts") rows;
   description = unwrap_or (first_of (codes "DESCRIPTION") rows) default_description;
 }
 
@@ -43,9 +45,13 @@ is_short asked =
     nat_lt (length asked.levels) (2 ^ 32) && option_map_or (λ text. nat_lt (length text) (2 ^ 32)) asked.locks true
     && nat_lt (length asked.keep) (2 ^ 32)
 
+-- callers who are stepped on one thread keep no receipts
+abbrev pub is_one_way : Running → Bool
+is_one_way asked = not (asked.walk && asked.receipts)
+
 -- what the matches ask for
 abbrev pub run_of : List Row → Option Asked
-run_of rows = if is_short (running_of rows) then Some (Run (running_of rows)) else None
+run_of rows = if is_short (running_of rows) && is_one_way (running_of rows) then Some (Run (running_of rows)) else None
 
 abbrev pub run_asked : List Text → Option Asked
 run_asked words = option_and_then run_of (matched run_command words)

@@ -34,6 +34,8 @@ pub struct Running<'a> {
     pub keep: &'a [u8],
     /// The callers are stepped on one thread.
     pub walk: bool,
+    /// The callers keep receipts of their turns.
+    pub receipts: bool,
     /// The description of the topology: `PU:1` where none is given.
     pub description: &'a [u8],
     pub ghost short_levels: { length levels.now < 2 ^ 32 },
@@ -143,6 +145,7 @@ impl<'a> Checking<'a> {
             locks: None,
             keep: self.keep,
             walk: false,
+            receipts: false,
             description: self.description,
         }
     }

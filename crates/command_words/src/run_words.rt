@@ -36,6 +36,7 @@ fn arguments() -> &'static [Argument]
         Argument::Valued("locks", None),
         Argument::Valued("keep", None),
         Argument::Flag("walk", None),
+        Argument::Flag("receipts", None),
         Argument::Optional("DESCRIPTION"),
     ]
 }
@@ -50,11 +51,17 @@ fn asked_of<'a>(matches: &ArgMatches<'a>) -> Option<Asked<'a>>
     if !is_short(levels) || !is_short_where_given(locks) || !is_short(keep) {
         return None;
     }
+    let walk = is_given(matches, "walk");
+    let receipts = is_given(matches, "receipts");
+    if walk && receipts {
+        return None;
+    }
     Some(Asked::Run(Running {
         levels,
         locks,
         keep,
-        walk: is_given(matches, "walk"),
+        walk,
+        receipts,
         description: value_or(matches, "DESCRIPTION", b"PU:1"),
     }))
 }

@@ -103,6 +103,7 @@ fn asks_for<R: Abort>(
             assert_eq!(rt; asked.locks, wanted.locks);
             assert_eq!(rt; asked.keep, wanted.keep);
             assert_eq!(rt; asked.walk, wanted.walk);
+            assert_eq!(rt; asked.receipts, wanted.receipts);
             assert_eq!(rt; asked.description, wanted.description);
         }
         _ => panic!(rt; "no run"),
@@ -118,6 +119,7 @@ fn reads_runs_without_a_plan(rt: HostRuntime) -> Result<(), Fail> {
         locks: None,
         keep: b"128",
         walk: false,
+        receipts: false,
         description: b"PU:1",
     };
     asks_for(&rt, alloc, &["run"], plain)?;
@@ -126,6 +128,7 @@ fn reads_runs_without_a_plan(rt: HostRuntime) -> Result<(), Fail> {
         locks: None,
         keep: b"128",
         walk: false,
+        receipts: false,
         description: b"-1",
     };
     asks_for(&rt, alloc, &["run", "--", "-1"], below_zero)?;
@@ -134,9 +137,19 @@ fn reads_runs_without_a_plan(rt: HostRuntime) -> Result<(), Fail> {
         locks: None,
         keep: b"128",
         walk: true,
+        receipts: false,
         description: b"PU:2",
     };
-    asks_for(&rt, alloc, &["run", "PU:2", "--walk"], walked)
+    asks_for(&rt, alloc, &["run", "PU:2", "--walk"], walked)?;
+    let received = Running {
+        levels: b"machine",
+        locks: None,
+        keep: b"128",
+        walk: false,
+        receipts: true,
+        description: b"PU:2",
+    };
+    asks_for(&rt, alloc, &["run", "--receipts", "PU:2"], received)
 }
 
 #[test]
@@ -157,6 +170,7 @@ fn reads_runs_with_a_plan(rt: HostRuntime) -> Result<(), Fail> {
         locks: Some(b"clh-tkt"),
         keep: b"7",
         walk: false,
+        receipts: false,
         description: b"Core:2 PU:1",
     };
     asks_for(&rt, alloc, words, composed)?;
@@ -166,6 +180,7 @@ fn reads_runs_with_a_plan(rt: HostRuntime) -> Result<(), Fail> {
         locks: Some(b""),
         keep: b"",
         walk: true,
+        receipts: false,
         description: b"",
     };
     asks_for(&rt, alloc, words, empty)?;
@@ -175,6 +190,7 @@ fn reads_runs_with_a_plan(rt: HostRuntime) -> Result<(), Fail> {
         locks: None,
         keep: b"a=b",
         walk: false,
+        receipts: false,
         description: b"--walk",
     };
     asks_for(&rt, alloc, words, dashed)
@@ -290,6 +306,9 @@ fn refuses_words_of_runs_and_drills(rt: HostRuntime) -> Result<(), Fail> {
         &["run", "PU:1", "PU:1"],
         &["run", "--walk", "--walk"],
         &["run", "--walk=true"],
+        &["run", "--receipts", "--walk"],
+        &["run", "--receipts", "--receipts"],
+        &["run", "--receipts=1"],
         &["run", "--levels"],
         &["run", "--levels", "--walk"],
         &["run", "--levels", "pu", "--levels", "pu"],

@@ -1,2 +1,3 @@
+pub mod Ends
 pub mod Raised
-pub mod Seen
+pub mod Served

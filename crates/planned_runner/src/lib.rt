@@ -7,9 +7,13 @@
 mod commanded;
 mod given;
 mod laws;
+mod marked;
+mod marked_runs;
+mod plain;
 mod rising;
 mod runs;
 mod shapes;
 mod under;
 
+pub use marked_runs::run_marked;
 pub use runs::run;

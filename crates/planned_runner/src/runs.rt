@@ -5,6 +5,7 @@ ghost use Rattle.placed_runner.specs.Sections.{caller_limit};
 ghost use Rattle.threaded_runner.specs.Finished.{IsFinished};
 
 use crate::given::Given;
+use crate::plain::Brought;
 use crate::rising::{run_deep, run_flat};
 use crate::shapes::copied;
 use clof_compose::TopPass;
@@ -42,23 +43,26 @@ pub fn run<'a, R: Threads + Wait + Sync, G: Gate + Sync>(
     ensures sections { IfOk result (λ left. left.journal.sections ≡ map (λ section. section.bytes.now) sections.now) }
 {
     let (root, shares) = root_of(alloc, sections, copied(alloc, shape)?)?;
+    let brought = Brought {
+        shares,
+        sections,
+        walk,
+    };
     let given = Given {
         rt,
         alloc,
         plan,
         shape,
-        shares,
-        sections,
-        walk,
+        brought,
         gate,
     };
     let top = plan.kinds.as_slice().len() - 1;
     if top == 0 {
-        run_flat::<Job<'a, TopPass<Pass>>, &[Section<'a>], Finished<'a>, Book<'a>, R, G>(
+        run_flat::<Job<'a, TopPass<Pass>>, Brought<'_, 'a>, Finished<'a>, Book<'a>, R, G>(
             given, root,
         )
     } else {
-        run_deep::<Job<'a, LowPass>, &[Section<'a>], Finished<'a>, Book<'a>, R, G>(
+        run_deep::<Job<'a, LowPass>, Brought<'_, 'a>, Finished<'a>, Book<'a>, R, G>(
             given, root, top as u32,
         )
     }

@@ -11,7 +11,7 @@ run_flat-requires-clause-may g c κs within =
       few = omega (arith, c.requires.few, c.requires.callers);
       shape_is = shape_named book_tag c.in_ok-root.root c.args.shape.now same;
       kinds_each = c.requires.plan;
-      dealt = c.in_ok-root.ensures.dealt;
+      dealt_is = c.in_ok-root.ensures.dealt;
     }
 
 pub run_deep-requires-clause-may : goal.run_deep-requires-clause-may
@@ -22,5 +22,5 @@ run_deep-requires-clause-may g c κs within =
       few = omega (arith, c.requires.few, c.requires.callers);
       shape_is = shape_named book_tag c.in_ok-root.root c.args.shape.now same;
       kinds_each = c.requires.plan;
-      dealt = c.in_ok-root.ensures.dealt;
+      dealt_is = c.in_ok-root.ensures.dealt;
     }
