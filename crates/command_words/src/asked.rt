@@ -34,11 +34,22 @@ pub struct Running<'a> {
     pub keep: &'a [u8],
     /// The callers are stepped on one thread.
     pub walk: bool,
+    /// How the callers share threads, where they do; else each has one of its own.
+    pub sharing: Option<Sharing>,
     /// The description of the topology: `PU:1` where none is given.
     pub description: &'a [u8],
     pub ghost short_levels: { length levels.now < 2 ^ 32 },
     pub ghost short_locks: { IfSome locks (λ text. length text.now < 2 ^ 32) } by { Prim.hlevel props },
     pub ghost short_keep: { length keep.now < 2 ^ 32 },
+}
+
+/// How the callers of a run share threads.
+#[derive(Clone, Copy)]
+pub struct Sharing {
+    /// How many threads there are, from 1 to 256.
+    pub threads: u32,
+    /// How many commands of a caller a thread serves at a time, from 1 to 65,535: 1 where nothing is given.
+    pub quantum: u32,
 }
 
 /// What is asked of a set.
@@ -143,6 +154,7 @@ impl<'a> Checking<'a> {
             locks: None,
             keep: self.keep,
             walk: false,
+            sharing: None,
             description: self.description,
         }
     }
