@@ -1,5 +1,5 @@
 -- Slots that are filled and emptied in order.
-use Rattle.std.proofs.Common.{◌≡◌, ◌<◌, ℕ, List, [], ◌∷◌, ◌++◌, length, refl, ap, sym, ◌∙◌, subst, arith, Option, Some, None}
+use Rattle.std.proofs.Common.{◌≡◌, ◌<◌, ℕ, List, [], ◌∷◌, ◌++◌, length, refl, ap, sym, ◌∙◌, subst, arith, Option, Some, None, length-append}
 use Rattle.std.specs.Prelude.{slice_get}
 use Rattle.lock_rules.specs.Tag.{Tag}
 use Rattle.cohort_desks.specs.Slots.{AreOwn, IsFull}
@@ -39,11 +39,17 @@ next_slot slots yielded more slot e = ap (λ (l : List (Option CallerState)). sl
     here (x ∷ xs) = here xs
 
 -- it has the caller of its number
-pub next_caller : (tag : Tag) (slots yielded more : List (Option CallerState)) (slot : Option CallerState)
-    → slots ≡ yielded ++ slot ∷ more → ((x : ℕ) → x < length slots → IsFull number_of tag_of tag slots x)
-    → length yielded < length slots → IsSeated tag (length yielded) slot
-next_caller tag slots yielded more slot e full within =
-    let is = full (length yielded) within in
+pub next_caller : (tag : Tag) (slots yielded left more : List (Option CallerState)) (slot : Option CallerState)
+    → slots ≡ yielded ++ left → left ≡ slot ∷ more → ((x : ℕ) → x < length slots → IsFull number_of tag_of tag slots x)
+    → IsSeated tag (length yielded) slot
+next_caller tag slots yielded left more slot all first full =
+    let e : slots ≡ yielded ++ slot ∷ more = all ∙ ap (λ (l : List (Option CallerState)). yielded ++ l) first in
+    let is = full (length yielded) (longer yielded e) in
     let at : ◌≡◌ {A = Option (Option CallerState)} (Some slot) (Some (Some is.job)) = sym (next_slot slots yielded more slot e) ∙ is.at in
     let same : slot ≡ Some is.job = cc in
     record { caller = is.job; is = same; number_is = is.number_is; tag_is = is.tag_is }
+  where
+    longer : (before : List (Option CallerState)) → slots ≡ before ++ slot ∷ more → length before < length slots
+    longer before e =
+        let many = ap (λ (l : List (Option CallerState)). length l) e in
+        let sum = length-append before (slot ∷ more) in omega (arith, many, sum)

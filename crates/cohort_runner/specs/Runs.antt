@@ -1,5 +1,7 @@
 -- A run of more callers than threads, before, between and after its threads.
 use Rattle.std.specs.Prelude.{◌≡◌, ◌≤◌, ℕ, List, [], Some, length, slice_get, vec_capacity}
+use Rattle.std.specs.declared.alloc.Global.{Global}
+use Rattle.std.specs.declared.vec.Vec.{Vec}
 use Rattle.lock_rules.specs.Tag.{Tag}
 use Rattle.cohort_queue.specs.States.{CohortState}
 use Rattle.cohort_desks.specs.Desks.{IsDesk}
@@ -10,6 +12,8 @@ use Rattle.clof_compose.specs.Meanings.{Rest}
 use Rattle.threaded_runner.specs.Crews.{HasRoom}
 use Rattle.cohort_runner.specs.Callers.{CallerState}
 use Rattle.cohort_runner.specs.Rolls.{IsRoll, contexts_of, roll_tag}
+use Rattle.cohort_runner.specs.declared.run.Aside.{Aside}
+use Rattle.cohort_runner.specs.declared.run.Floor.{Floor}
 use Rattle.cohort_runner.specs.declared.run.Run.{Run}
 
 abbrev pub number_of : CallerState → ℕ
@@ -28,6 +32,14 @@ pub record IsOpen {P : Type 0} (rest : P → Rest) (has : Context → Type 0) (l
   pub jobs_room : count ≤ vec_capacity run.lists.jobs
   pub lists_are : HasRoom count run.lists.passes run.lists.shares run.lists.stopped
 
+-- the run of which these are the parts: what all threads have before them, their desks, and what is put aside
+abbrev pub run_of : {P : Type 0} → Floor P → Vec (Desk CallerState) Global → Aside P → Run P
+run_of floor desks aside = record {
+  roll = floor.roll;
+  hall = record { cohorts = floor.cohorts; desks = desks; emptied = aside.emptied; slots = aside.slots };
+  lists = aside.lists;
+}
+
 -- What a thread asks of its desk: the lock is sound and of the lowest level, its callers are those of the roll, all Cohorts are of callers
 -- on the roll, and the desk has a place at each
 pub record MaySit (has : Context → Type 0) (level : ℕ) (tag : Tag) (sound : Type 0) (roll : List Context) (cohorts : List CohortState)
@@ -42,3 +54,10 @@ pub record MaySit (has : Context → Type 0) (level : ℕ) (tag : Tag) (sound : 
 pub record HasSat (cohorts : List CohortState) (before after : Desk CallerState) : Type 0 where
   pub number_is : after.number ≡ before.number
   pub desk_is : IsDesk number_of tag_of cohorts after
+
+-- The desks to which threads were sent have come back: they are as many, and of each came what may
+pub record HaveSat {D : Type 0} (was_open : Vec D Global → Type 0) (sat : D → D → Type 0) (desks : Vec D Global) : Type 0 where
+  pub before : Vec D Global
+  pub open_is : was_open before
+  pub many : length desks.items ≡ length before.items
+  pub each : (i : ℕ) (d e : D) → slice_get before.items i ≡ Some d → slice_get desks.items i ≡ Some e → sat d e

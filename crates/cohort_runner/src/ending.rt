@@ -73,7 +73,7 @@ pub fn end_run<'a, C: Composed<Book<'a>>, G: Gate, R: Wait>(
 ) -> Crew<C::Pass>
     requires sound { C.sound lock.now }
     requires lowest { C.level lock.now ≡ 0 }
-    requires open { IsOpen C.Pass.rest (C.has lock.now) (C.level lock.now) (C.count lock.now) (C.tag lock.now) run }
+    requires opened { IsOpen C.Pass.rest (C.has lock.now) (C.level lock.now) (C.count lock.now) (C.tag lock.now) run }
     ensures { IsCrew C.Pass.rest (C.has lock.now) (C.level lock.now) (C.count lock.now) (C.tag lock.now) result }
 {
     let Run { roll, hall, lists } = run;

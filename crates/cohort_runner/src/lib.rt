@@ -16,5 +16,5 @@ pub use caller::Caller;
 pub use ending::end_run;
 pub use opening::open_run;
 pub use roll::Roll;
-pub use run::{Lists, Run};
+pub use run::{Aside, Floor, Lists, Run};
 pub use serving::serve_desk;

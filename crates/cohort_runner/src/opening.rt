@@ -102,7 +102,7 @@ fn begin<'a, C: Composed<Book<'a>>, R: Wait>(
     requires slots_room { length homes.now ≤ vec_capacity slots }
     requires homes { length homes.now ≡ C.count _lock.now }
     requires threads { 0 < threads }
-    ensures open { IsOpen C.Pass.rest (C.has _lock.now) (C.level _lock.now) (C.count _lock.now) (C.tag _lock.now) result }
+    ensures opened { IsOpen C.Pass.rest (C.has _lock.now) (C.level _lock.now) (C.count _lock.now) (C.tag _lock.now) result }
 {
     let Prepared {
         jobs,
@@ -140,7 +140,7 @@ pub fn open_run<'a, C: Composed<Book<'a>>, R: Wait>(
     requires dealt { IsDealt (course_of (C.tag lock.now)) (map (λ section. section.bytes.now) sections.now) shares.items }
     requires homes { length homes.now ≡ length sections.now }
     requires threads { 0 < threads }
-    ensures open { IfOk result (IsOpen C.Pass.rest (C.has lock.now) (C.level lock.now) (C.count lock.now) (C.tag lock.now)) }
+    ensures opened { IfOk result (IsOpen C.Pass.rest (C.has lock.now) (C.level lock.now) (C.count lock.now) (C.tag lock.now)) }
     ensures refused { IfErr result (λ crew. IsCrew C.Pass.rest (C.has lock.now) (C.level lock.now) (C.count lock.now) (C.tag lock.now)
         crew) }
 {

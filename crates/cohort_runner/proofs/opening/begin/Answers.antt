@@ -29,7 +29,7 @@ returns g c =
     let kept = c.seat_all-slots.ensures.jobs_room in
     let fits : length jobs.items ≤ vec_capacity jobs = search rules in
     record {
-      open = record {
+      opened = record {
         roll_is = subst (λ (l : List (Job g.row.C-Pass.Denot)). IsRoll has level tag (contexts_of rest l))
             (sym (ap (λ v. v.items) c.of-roll.ensures)) (roll_is rest has level tag jobs.items c.requires.each);
         all = c.deal-hall.ensures.slots ∙ ap (λ v. length v.items) c.seat.ensures.slots ∙ c.seat_all-slots.ensures.many ∙ many;
