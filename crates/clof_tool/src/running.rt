@@ -15,7 +15,7 @@ use keep_local::Shape;
 use lock_plan::Plan;
 use out_of_memory::OutOfMemory;
 use placed_runner::{Gate, Section, SectionFault, read_sections};
-use planned_runner::run;
+use planned_runner::{Manner, run};
 use std::alloc::{AllocError, Global};
 use std::sync::Wait;
 use std::thread::Threads;
@@ -29,7 +29,7 @@ pub(crate) fn run_text<R: Threads + Wait + Sync, G: Gate + Sync>(
     tree: &Tree,
     plan: &Plan,
     input: &[u8],
-    walk: bool,
+    manner: Manner,
     gate: &G,
 ) -> Result<Vec<u8>, Status>
     requires plan { IsPlanFor tree.now plan.now }
@@ -45,7 +45,7 @@ pub(crate) fn run_text<R: Threads + Wait + Sync, G: Gate + Sync>(
     // Tells what every tree keeps.
     let _depths = tree.depths();
     match read_sections(alloc, tree, input) {
-        Ok(sections) => match run_under(rt, alloc, tree, plan, &sections, walk, gate) {
+        Ok(sections) => match run_under(rt, alloc, tree, plan, &sections, manner, gate) {
             Ok(printed) => Ok(printed),
             Err(OutOfMemory) => Err(Status::OutOfMemory),
         },
@@ -60,7 +60,7 @@ fn run_under<R: Threads + Wait + Sync, G: Gate + Sync>(
     tree: &Tree,
     plan: &Plan,
     sections: &[Section<'_>],
-    walk: bool,
+    manner: Manner,
     gate: &G,
 ) -> Result<Vec<u8>, OutOfMemory>
     requires plan { IsPlanFor tree.now plan.now }
@@ -73,7 +73,7 @@ fn run_under<R: Threads + Wait + Sync, G: Gate + Sync>(
     if sections.is_empty() {
         return Ok(Vec::new(alloc));
     }
-    let left = run(rt, alloc, plan, &shape, sections, walk, gate)?;
+    let left = run(rt, alloc, plan, &shape, sections, manner, gate)?;
     printed(alloc, sections, &left)
 }
 

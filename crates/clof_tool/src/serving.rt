@@ -22,6 +22,7 @@ use command_words::Running;
 use edge_io::Source;
 use lock_plan::Plan;
 use placed_runner::Gate;
+use planned_runner::{Manner, Sharing};
 use std::alloc::Global;
 use std::sync::Wait;
 use std::thread::Threads;
@@ -81,8 +82,19 @@ fn run_in<R: Threads + Wait + Sync, S: Source, G: Gate + Sync>(
         (Rose (S.faults source.old) (S.faults source.new) → ⊥) → IsOk result ⊎ (result ≡ Err Status.OutOfMemory) }
 {
     match read_plan(alloc, tree, asked) {
-        Ok(plan) => served(rt, alloc, tree, &plan, asked.walk, source, gate),
+        Ok(plan) => served(rt, alloc, tree, &plan, manner_of(&asked), source, gate),
         Err(status) => Err(status),
+    }
+}
+
+// How the callers of a run come to their holds.
+fn manner_of(asked: &Running<'_>) -> Manner {
+    match asked.sharing {
+        Some(sharing) => Manner::Cohorts(Sharing {
+            threads: sharing.threads,
+            quantum: sharing.quantum,
+        }),
+        None => if asked.walk { Manner::Walk } else { Manner::Threads },
     }
 }
 
@@ -92,7 +104,7 @@ fn served<R: Threads + Wait + Sync, S: Source, G: Gate + Sync>(
     alloc: Global,
     tree: &Tree,
     plan: &Plan,
-    walk: bool,
+    manner: Manner,
     source: &mut S,
     gate: &G,
 ) -> Result<Vec<u8>, Status>
@@ -117,7 +129,7 @@ fn served<R: Threads + Wait + Sync, S: Source, G: Gate + Sync>(
         (Rose (S.faults source.old) (S.faults source.new) → ⊥) → IsOk result ⊎ (result ≡ Err Status.OutOfMemory) }
 {
     match read_input(alloc, source) {
-        Ok(input) => run_text(rt, alloc, tree, plan, &input, walk, gate),
+        Ok(input) => run_text(rt, alloc, tree, plan, &input, manner, gate),
         Err(status) => Err(status),
     }
 }

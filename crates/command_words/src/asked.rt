@@ -1,5 +1,5 @@
 // What words ask for.
-ghost use Rattle.std.specs.Prelude.{◌<◌, ◌^◌, IfSome, length, vec_len};
+ghost use Rattle.std.specs.Prelude.{◌<◌, ◌≤◌, ◌^◌, IfSome, length, vec_len};
 ghost use Rattle.std.proofs.Props.{props};
 
 /// What the words ask for.
@@ -50,6 +50,10 @@ pub struct Sharing {
     pub threads: u32,
     /// How many commands of a caller a thread serves at a time, from 1 to 65,535: 1 where nothing is given.
     pub quantum: u32,
+    pub ghost some_threads: { 0 < threads },
+    pub ghost few_threads: { threads ≤ 256 },
+    pub ghost some_commands: { 0 < quantum },
+    pub ghost few_commands: { quantum ≤ 65535 },
 }
 
 /// What is asked of a set.

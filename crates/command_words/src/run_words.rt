@@ -69,7 +69,11 @@ fn sharing_of(matches: &ArgMatches<'_>) -> Option<Option<Sharing>>
     ensures { option_map (option_map plain_sharing) result ≡ sharing_of (rows_of (found_of matches.now)) }
 {
     let Some(threads) = value(matches, "threads") else {
-        return if value(matches, "quantum").is_some() { None } else { Some(None) };
+        return if value(matches, "quantum").is_some() {
+            None
+        } else {
+            Some(None)
+        };
     };
     if is_given(matches, "walk") {
         return None;

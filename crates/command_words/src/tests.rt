@@ -300,10 +300,15 @@ fn shares<R: Abort>(
     quantum: u32,
 ) -> Result<(), Fail> {
     let words = strings(alloc, words)?;
-    let Ok(Asked::Run(Running {
-        sharing: Some(sharing),
-        ..
-    })) = read_words(alloc, &words) else {
+    let Ok(
+        Asked::Run(
+            Running {
+                sharing: Some(sharing),
+                ..
+            },
+        ),
+    ) = read_words(alloc, &words)
+    else {
         panic!(rt; "no run whose callers share threads");
     };
     assert_eq!(rt; sharing.threads, threads);
@@ -315,8 +320,20 @@ fn shares<R: Abort>(
 fn reads_runs_whose_callers_share_threads(rt: HostRuntime) -> Result<(), Fail> {
     let alloc = rt.alloc();
     shares(&rt, alloc, &["run", "--threads", "1", "PU:2"], 1, 1)?;
-    shares(&rt, alloc, &["run", "--quantum=65535", "--threads=256"], 256, 65_535)?;
-    shares(&rt, alloc, &["run", "PU:2", "--threads", "012", "--quantum", "01"], 12, 1)
+    shares(
+        &rt,
+        alloc,
+        &["run", "--quantum=65535", "--threads=256"],
+        256,
+        65_535,
+    )?;
+    shares(
+        &rt,
+        alloc,
+        &["run", "PU:2", "--threads", "012", "--quantum", "01"],
+        12,
+        1,
+    )
 }
 
 #[test]

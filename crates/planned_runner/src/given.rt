@@ -1,4 +1,5 @@
 //! What a run is given.
+use crate::manner::Manner;
 use keep_local::{Shape, Share};
 use lock_tree::Plan;
 use std::alloc::Global;
@@ -13,7 +14,6 @@ pub(crate) struct Given<'r, S, R, G> {
     /// The share of each caller.
     pub(crate) shares: Vec<Share>,
     pub(crate) sections: S,
-    /// Whether the callers walk.
-    pub(crate) walk: bool,
+    pub(crate) manner: Manner,
     pub(crate) gate: &'r G,
 }

@@ -1,15 +1,20 @@
 //! Runs of callers with sections under the composed lock of a plan.
 //!
-//! `run` makes the lock of a plan's levels over a journal, has its callers give their commands, each in a thread of its own or all stepped
-//! on one, takes the lock apart, and gives what they leave.
+//! `run` makes the lock of a plan's levels over a journal, has its callers give their commands, each in a thread of its own, served in turn
+//! by fewer threads, or all stepped on one, takes the lock apart, and gives what they leave.
 #![tactic(auto)]
 
 mod commanded;
 mod given;
 mod laws;
+mod manner;
+mod parts;
 mod rising;
 mod runs;
+mod seated;
 mod shapes;
+mod sitting;
 mod under;
 
+pub use manner::{Manner, Sharing};
 pub use runs::run;

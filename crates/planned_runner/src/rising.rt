@@ -9,9 +9,9 @@ ghost use Rattle.lock_tree.specs.Made.{IsRaised};
 ghost use Rattle.threaded_runner.specs.Finished.{IsFinished};
 ghost use Rattle.planned_runner.specs.Runs.{MayRun};
 
-use crate::commanded::Commanded;
 use crate::given::Given;
 use crate::laws::{low_passes_are_shared, top_passes_are_shared};
+use crate::seated::Seated;
 use crate::under::run_under;
 use clof_compose::{Composed, Resting, Root, TopPass};
 use lock_rules::{Pass, passes_are_shared};
@@ -27,7 +27,10 @@ pub(crate) fn run_flat<
     J: Send + Drop,
     S: Drop,
     F,
-    P: Commanded<TopPass<Pass>, J, S, F> + Send + Sync,
+    K: Sync,
+    D: Send + Drop,
+    L,
+    P: Seated<TopPass<Pass>, J, S, F, K, D, L> + Send + Sync,
     R: Threads + Wait + Sync,
     G: Gate + Sync,
 >(given: Given<'r, S, R, G>, root: Root<P>) -> Result<F, OutOfMemory>
@@ -43,7 +46,7 @@ pub(crate) fn run_flat<
     passes_are_shared();
     match make_top_of::<P>(given.alloc, given.plan, root, given.shape, 0) {
         Ok((lock, passes)) => {
-            run_under::<TopPass<Pass>, J, S, F, P, R, TopOf<P>, G>(given, lock, passes)
+            run_under::<TopPass<Pass>, J, S, F, K, D, L, P, R, TopOf<P>, G>(given, lock, passes)
         }
         Err(_) => Err(OutOfMemory),
     }
@@ -55,7 +58,10 @@ pub(crate) fn run_deep<
     J: Send + Drop,
     S: Drop,
     F,
-    P: Commanded<LowPass, J, S, F> + Send + Sync,
+    K: Sync,
+    D: Send + Drop,
+    L,
+    P: Seated<LowPass, J, S, F, K, D, L> + Send + Sync,
     R: Threads + Wait + Sync,
     G: Gate + Sync,
 >(given: Given<'r, S, R, G>, root: Root<P>, top: u32) -> Result<F, OutOfMemory>
@@ -74,7 +80,7 @@ pub(crate) fn run_deep<
     top_passes_are_shared();
     match make_top_of::<P>(given.alloc, given.plan, root, given.shape, top) {
         Ok((lock, passes)) => {
-            with_second::<J, S, F, P, TopOf<P>, R, G>(given, lock, passes, top - 1)
+            with_second::<J, S, F, K, D, L, P, TopOf<P>, R, G>(given, lock, passes, top - 1)
         }
         Err(_) => Err(OutOfMemory),
     }
@@ -86,7 +92,10 @@ fn with_second<
     J: Send + Drop,
     S: Drop,
     F,
-    P: Commanded<LowPass, J, S, F> + Send + Sync,
+    K: Sync,
+    D: Send + Drop,
+    L,
+    P: Seated<LowPass, J, S, F, K, D, L> + Send + Sync,
     H: Composed<P> + Sync + Drop,
     R: Threads + Wait + Sync,
     G: Gate + Sync,
@@ -111,9 +120,16 @@ where
     match add_below::<P, H>(given.alloc, kind, given.shape, level, high, passes) {
         Ok((lock, passes)) => {
             if level == 0 {
-                run_under::<LowPass, J, S, F, P, R, LevelOver<P, H>, G>(given, lock, passes)
+                run_under::<LowPass, J, S, F, K, D, L, P, R, LevelOver<P, H>, G>(
+                    given, lock, passes,
+                )
             } else {
-                with_third::<J, S, F, P, LevelOver<P, H>, R, G>(given, lock, passes, level - 1)
+                with_third::<J, S, F, K, D, L, P, LevelOver<P, H>, R, G>(
+                    given,
+                    lock,
+                    passes,
+                    level - 1,
+                )
             }
         }
         Err(_) => Err(OutOfMemory),
@@ -126,7 +142,10 @@ fn with_third<
     J: Send + Drop,
     S: Drop,
     F,
-    P: Commanded<LowPass, J, S, F> + Send + Sync,
+    K: Sync,
+    D: Send + Drop,
+    L,
+    P: Seated<LowPass, J, S, F, K, D, L> + Send + Sync,
     H: Composed<P> + Sync + Drop,
     R: Threads + Wait + Sync,
     G: Gate + Sync,
@@ -151,9 +170,16 @@ where
     match add_below::<P, H>(given.alloc, kind, given.shape, level, high, passes) {
         Ok((lock, passes)) => {
             if level == 0 {
-                run_under::<LowPass, J, S, F, P, R, LevelOver<P, H>, G>(given, lock, passes)
+                run_under::<LowPass, J, S, F, K, D, L, P, R, LevelOver<P, H>, G>(
+                    given, lock, passes,
+                )
             } else {
-                with_fourth::<J, S, F, P, LevelOver<P, H>, R, G>(given, lock, passes, level - 1)
+                with_fourth::<J, S, F, K, D, L, P, LevelOver<P, H>, R, G>(
+                    given,
+                    lock,
+                    passes,
+                    level - 1,
+                )
             }
         }
         Err(_) => Err(OutOfMemory),
@@ -166,7 +192,10 @@ fn with_fourth<
     J: Send + Drop,
     S: Drop,
     F,
-    P: Commanded<LowPass, J, S, F> + Send + Sync,
+    K: Sync,
+    D: Send + Drop,
+    L,
+    P: Seated<LowPass, J, S, F, K, D, L> + Send + Sync,
     H: Composed<P> + Sync + Drop,
     R: Threads + Wait + Sync,
     G: Gate + Sync,
@@ -191,9 +220,16 @@ where
     match add_below::<P, H>(given.alloc, kind, given.shape, level, high, passes) {
         Ok((lock, passes)) => {
             if level == 0 {
-                run_under::<LowPass, J, S, F, P, R, LevelOver<P, H>, G>(given, lock, passes)
+                run_under::<LowPass, J, S, F, K, D, L, P, R, LevelOver<P, H>, G>(
+                    given, lock, passes,
+                )
             } else {
-                with_fifth::<J, S, F, P, LevelOver<P, H>, R, G>(given, lock, passes, level - 1)
+                with_fifth::<J, S, F, K, D, L, P, LevelOver<P, H>, R, G>(
+                    given,
+                    lock,
+                    passes,
+                    level - 1,
+                )
             }
         }
         Err(_) => Err(OutOfMemory),
@@ -206,7 +242,10 @@ fn with_fifth<
     J: Send + Drop,
     S: Drop,
     F,
-    P: Commanded<LowPass, J, S, F> + Send + Sync,
+    K: Sync,
+    D: Send + Drop,
+    L,
+    P: Seated<LowPass, J, S, F, K, D, L> + Send + Sync,
     H: Composed<P> + Sync + Drop,
     R: Threads + Wait + Sync,
     G: Gate + Sync,
@@ -230,7 +269,7 @@ where
     let kind = kind_at(given.plan, level);
     match add_below::<P, H>(given.alloc, kind, given.shape, level, high, passes) {
         Ok((lock, passes)) => {
-            run_under::<LowPass, J, S, F, P, R, LevelOver<P, H>, G>(given, lock, passes)
+            run_under::<LowPass, J, S, F, K, D, L, P, R, LevelOver<P, H>, G>(given, lock, passes)
         }
         Err(_) => Err(OutOfMemory),
     }

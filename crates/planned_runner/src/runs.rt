@@ -5,9 +5,13 @@ ghost use Rattle.placed_runner.specs.Sections.{caller_limit};
 ghost use Rattle.threaded_runner.specs.Finished.{IsFinished};
 
 use crate::given::Given;
+use crate::manner::Manner;
 use crate::rising::{run_deep, run_flat};
 use crate::shapes::copied;
 use clof_compose::TopPass;
+use cohort_desks::Desk;
+use cohort_queue::cohorts_are_shared;
+use cohort_runner::{Aside, Caller, Floor};
 use keep_local::Shape;
 use lock_rules::Pass;
 use lock_tree::{LowPass, Plan};
@@ -27,7 +31,7 @@ pub fn run<'a, R: Threads + Wait + Sync, G: Gate + Sync>(
     plan: &Plan,
     shape: &Shape,
     sections: &[Section<'a>],
-    walk: bool,
+    manner: Manner,
     gate: &G,
 ) -> Result<Finished<'a>, OutOfMemory>
     requires plan { length plan.now.kinds ≡ top_of shape.now + 1 }
@@ -41,6 +45,8 @@ pub fn run<'a, R: Threads + Wait + Sync, G: Gate + Sync>(
     ensures shape { IfOk result (λ left. left.trail.shape ≡ shape.now) }
     ensures sections { IfOk result (λ left. left.journal.sections ≡ map (λ section. section.bytes.now) sections.now) }
 {
+    cohorts_are_shared::<Caller<'a, TopPass<Pass>>>();
+    cohorts_are_shared::<Caller<'a, LowPass>>();
     let (root, shares) = root_of(alloc, sections, copied(alloc, shape)?)?;
     let given = Given {
         rt,
@@ -49,17 +55,33 @@ pub fn run<'a, R: Threads + Wait + Sync, G: Gate + Sync>(
         shape,
         shares,
         sections,
-        walk,
+        manner,
         gate,
     };
     let top = plan.kinds.as_slice().len() - 1;
     if top == 0 {
-        run_flat::<Job<'a, TopPass<Pass>>, &[Section<'a>], Finished<'a>, Book<'a>, R, G>(
-            given, root,
-        )
+        run_flat::<
+            Job<'a, TopPass<Pass>>,
+            &[Section<'a>],
+            Finished<'a>,
+            Floor<'a, TopPass<Pass>>,
+            Desk<Caller<'a, TopPass<Pass>>>,
+            Aside<'a, TopPass<Pass>>,
+            Book<'a>,
+            R,
+            G,
+        >(given, root)
     } else {
-        run_deep::<Job<'a, LowPass>, &[Section<'a>], Finished<'a>, Book<'a>, R, G>(
-            given, root, top as u32,
-        )
+        run_deep::<
+            Job<'a, LowPass>,
+            &[Section<'a>],
+            Finished<'a>,
+            Floor<'a, LowPass>,
+            Desk<Caller<'a, LowPass>>,
+            Aside<'a, LowPass>,
+            Book<'a>,
+            R,
+            G,
+        >(given, root, top as u32)
     }
 }

@@ -1,5 +1,6 @@
 //! A run under a lock that is ready, of any depth.
-ghost use Rattle.std.specs.Prelude.{◌≡◌, IfOk};
+ghost use Rattle.std.specs.Prelude.{◌≡◌, IfOk, length};
+ghost use Rattle.keep_local.specs.Shapes.{IsWellFormed, callers_of};
 ghost use Rattle.clof_compose.specs.Courses.{course_of};
 ghost use Rattle.threaded_runner.specs.Crews.{IsCrew};
 ghost use Rattle.threaded_runner.specs.Finished.{IsFinished};
@@ -8,6 +9,9 @@ ghost use Rattle.threaded_runner.specs.Ready.{IsReady};
 
 use crate::commanded::{Commanded, Dealt, Served};
 use crate::given::Given;
+use crate::manner::Manner;
+use crate::seated::Seated;
+use crate::sitting::run_cohorts;
 use clof_compose::{Composed, Resting};
 use lock_threads::{Works, by_all};
 use out_of_memory::OutOfMemory;
@@ -37,6 +41,34 @@ impl<'b, Q: Resting, J, P: Served<Q, J>, R: Wait, C: Composed<P, Pass = Q>, G: G
     fn work(&self, job: J) -> J {
         P::serve::<C, G, R>(self.rt, self.lock, self.gate, job)
     }
+}
+
+// Has all callers walk.
+fn walk<
+    'r,
+    Q: Resting,
+    J,
+    S,
+    F,
+    P: Commanded<Q, J, S, F>,
+    R: Wait,
+    C: Composed<P, Pass = Q> + Drop,
+    G,
+>(given: Given<'r, S, R, G>, lock: C, passes: Vec<Q>) -> Result<F, OutOfMemory>
+    requires { IsReady Q.rest (C.has lock) (C.sound lock) (C.level lock) (C.count lock) (C.tag lock) (P.told given.sections)
+        passes.items given.shares.items }
+    ensures finished { IfOk result (λ l. IsFinished (P.left l).trail (P.left l).journal) }
+    ensures shape { IfOk result (λ l. (P.left l).trail.shape ≡ (course_of (C.tag lock)).shape) }
+    ensures sections { IfOk result (λ l. (P.left l).journal.sections ≡ P.told given.entry.sections) }
+{
+    let Given {
+        rt,
+        alloc,
+        shares,
+        sections,
+        ..
+    } = given;
+    P::walk::<C, R>(rt, alloc, lock, passes, shares, sections)
 }
 
 // Has each caller give its commands in a thread of its own.
@@ -102,7 +134,10 @@ pub(crate) fn run_under<
     J: Send + Drop,
     S: Drop,
     F,
-    P: Commanded<Q, J, S, F> + Send + Sync,
+    K: Sync,
+    D: Send + Drop,
+    L,
+    P: Seated<Q, J, S, F, K, D, L> + Send + Sync,
     R: Threads + Wait + Sync,
     C: Composed<P, Pass = Q> + Sync + Drop,
     G: Gate + Sync,
@@ -111,22 +146,25 @@ where
     C::Queue: Send,
     C::Held: Send,
     C::Leave: Send,
-    requires { IsReady Q.rest (C.has lock) (C.sound lock) (C.level lock) (C.count lock) (C.tag lock) (P.told given.sections)
+    requires ready { IsReady Q.rest (C.has lock) (C.sound lock) (C.level lock) (C.count lock) (C.tag lock) (P.told given.sections)
         passes.items given.shares.items }
+    requires formed { IsWellFormed given.shape.now }
+    requires callers { callers_of given.shape.now ≡ length (P.told given.sections) }
     ensures finished { IfOk result (λ l. IsFinished (P.left l).trail (P.left l).journal) }
     ensures shape { IfOk result (λ l. (P.left l).trail.shape ≡ (course_of (C.tag lock)).shape) }
     ensures sections { IfOk result (λ l. (P.left l).journal.sections ≡ P.told given.entry.sections) }
 {
-    if given.walk {
-        let Given {
-            rt,
-            alloc,
-            shares,
-            sections,
-            ..
-        } = given;
-        return P::walk::<C, R>(rt, alloc, lock, passes, shares, sections);
+    match given.manner {
+        Manner::Walk => walk::<Q, J, S, F, P, R, C, G>(given, lock, passes),
+        Manner::Threads => {
+            let crew = run_threads::<Q, J, S, F, P, R, C, G>(given, &lock, passes);
+            P::close::<C>(lock, crew)
+        }
+        Manner::Cohorts(sharing) => {
+            let crew = run_cohorts::<Q, J, S, F, K, D, L, P, R, C, G>(
+                given, &lock, passes, sharing,
+            );
+            P::close::<C>(lock, crew)
+        }
     }
-    let crew = run_threads::<Q, J, S, F, P, R, C, G>(given, &lock, passes);
-    P::close::<C>(lock, crew)
 }
