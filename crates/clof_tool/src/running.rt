@@ -17,7 +17,7 @@ use keep_local::Shape;
 use lock_plan::Plan;
 use out_of_memory::OutOfMemory;
 use placed_runner::{Gate, Section, SectionFault, read_sections};
-use planned_runner::{run, run_marked};
+use planned_runner::{Manner, Sharing, run, run_marked};
 use std::alloc::{AllocError, Global};
 use std::sync::Wait;
 use std::thread::Threads;
@@ -79,8 +79,23 @@ fn run_under<R: Threads + Wait + Sync, G: Gate + Sync>(
         let made = run_marked(rt, alloc, plan, &shape, sections, gate)?;
         return printed_with_receipts(alloc, sections, &made);
     }
-    let left = run(rt, alloc, plan, &shape, sections, asked.walk, gate)?;
+    let left = run(rt, alloc, plan, &shape, sections, manner_of(&asked), gate)?;
     printed(alloc, sections, &left)
+}
+
+// How the callers of a run without receipts come to their holds.
+fn manner_of(asked: &Running<'_>) -> Manner {
+    match asked.sharing {
+        Some(sharing) => Manner::Cohorts(Sharing {
+            threads: sharing.threads,
+            quantum: sharing.quantum,
+        }),
+        None => if asked.walk {
+            Manner::Walk
+        } else {
+            Manner::Threads
+        },
+    }
 }
 
 /// The shape of a plan's lock, whose callers stand on the PUs of these sections.

@@ -1,5 +1,6 @@
 // The top call over sources and sinks in memory.
 mod checks;
+mod cohorts;
 mod drills;
 mod faults;
 mod plans;

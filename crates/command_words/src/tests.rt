@@ -103,6 +103,7 @@ fn asks_for<R: Abort>(
             assert_eq!(rt; asked.locks, wanted.locks);
             assert_eq!(rt; asked.keep, wanted.keep);
             assert_eq!(rt; asked.walk, wanted.walk);
+            assert!(rt; asked.sharing.is_none());
             assert_eq!(rt; asked.receipts, wanted.receipts);
             assert_eq!(rt; asked.description, wanted.description);
         }
@@ -119,6 +120,7 @@ fn reads_runs_without_a_plan(rt: HostRuntime) -> Result<(), Fail> {
         locks: None,
         keep: b"128",
         walk: false,
+        sharing: None,
         receipts: false,
         description: b"PU:1",
     };
@@ -128,6 +130,7 @@ fn reads_runs_without_a_plan(rt: HostRuntime) -> Result<(), Fail> {
         locks: None,
         keep: b"128",
         walk: false,
+        sharing: None,
         receipts: false,
         description: b"-1",
     };
@@ -137,6 +140,7 @@ fn reads_runs_without_a_plan(rt: HostRuntime) -> Result<(), Fail> {
         locks: None,
         keep: b"128",
         walk: true,
+        sharing: None,
         receipts: false,
         description: b"PU:2",
     };
@@ -146,6 +150,7 @@ fn reads_runs_without_a_plan(rt: HostRuntime) -> Result<(), Fail> {
         locks: None,
         keep: b"128",
         walk: false,
+        sharing: None,
         receipts: true,
         description: b"PU:2",
     };
@@ -170,6 +175,7 @@ fn reads_runs_with_a_plan(rt: HostRuntime) -> Result<(), Fail> {
         locks: Some(b"clh-tkt"),
         keep: b"7",
         walk: false,
+        sharing: None,
         receipts: false,
         description: b"Core:2 PU:1",
     };
@@ -180,6 +186,7 @@ fn reads_runs_with_a_plan(rt: HostRuntime) -> Result<(), Fail> {
         locks: Some(b""),
         keep: b"",
         walk: true,
+        sharing: None,
         receipts: false,
         description: b"",
     };
@@ -190,6 +197,7 @@ fn reads_runs_with_a_plan(rt: HostRuntime) -> Result<(), Fail> {
         locks: None,
         keep: b"a=b",
         walk: false,
+        sharing: None,
         receipts: false,
         description: b"--walk",
     };
@@ -300,9 +308,67 @@ fn refuses_words(rt: HostRuntime) -> Result<(), Fail> {
     refuses(&rt, rt.alloc(), &cases)
 }
 
+// Checks how the callers of a run share threads.
+fn shares<R: Abort>(
+    rt: &R,
+    alloc: Global,
+    words: &[&str],
+    threads: u32,
+    quantum: u32,
+) -> Result<(), Fail> {
+    let words = strings(alloc, words)?;
+    let Ok(
+        Asked::Run(
+            Running {
+                sharing: Some(sharing),
+                ..
+            },
+        ),
+    ) = read_words(alloc, &words)
+    else {
+        panic!(rt; "no run whose callers share threads");
+    };
+    assert_eq!(rt; sharing.threads, threads);
+    assert_eq!(rt; sharing.quantum, quantum);
+    Ok(())
+}
+
+#[test]
+fn reads_runs_whose_callers_share_threads(rt: HostRuntime) -> Result<(), Fail> {
+    let alloc = rt.alloc();
+    shares(&rt, alloc, &["run", "--threads", "1", "PU:2"], 1, 1)?;
+    shares(
+        &rt,
+        alloc,
+        &["run", "--quantum=65535", "--threads=256"],
+        256,
+        65_535,
+    )?;
+    shares(
+        &rt,
+        alloc,
+        &["run", "PU:2", "--threads", "012", "--quantum", "01"],
+        12,
+        1,
+    )
+}
+
 #[test]
 fn refuses_words_of_runs_and_drills(rt: HostRuntime) -> Result<(), Fail> {
-    let cases: [&[&str]; 20] = [
+    let cases: [&[&str]; 33] = [
+        &["run", "--quantum", "2"],
+        &["run", "--quantum=2", "PU:2"],
+        &["run", "--threads", "2", "--quantum", "0"],
+        &["run", "--threads", "2", "--quantum", "65536"],
+        &["run", "--threads", "2", "--quantum", ""],
+        &["run", "--threads", "0"],
+        &["run", "--threads", "257"],
+        &["run", "--threads", "0x2"],
+        &["run", "--threads", "+2"],
+        &["run", "--threads"],
+        &["run", "--threads", "2", "--threads", "2"],
+        &["run", "--threads", "2", "--walk"],
+        &["run", "--walk", "--threads", "2", "--quantum", "2"],
         &["run", "PU:1", "PU:1"],
         &["run", "--walk", "--walk"],
         &["run", "--walk=true"],

@@ -12,13 +12,13 @@ use Rattle.fresh_runner.specs.Books.{book_course, book_in, tokens_in}
 use Rattle.fresh_runner.specs.Ready.{IsFreshDealt}
 
 module _ (count : ℕ) (course : Course) (callers : count ≡ callers_of course.shape) (sections : List (List ℕ)) (shares : List ShareState)
-    where
-      pub dealt_count : IsDealt course sections shares → count ≡ length (lists_in course.payload)
-      dealt_count dealt = callers ∙ dealt.callers ∙ ap length (sym dealt.told)
+  where
+    pub dealt_count : IsDealt course sections shares → count ≡ length (lists_in course.payload)
+    dealt_count dealt = callers ∙ dealt.callers ∙ ap length (sym dealt.told)
 
-      pub dealt_quotas : IsDealt course sections shares
-          → course.quotas ≡ map (λ (section : List ℕ). length (commands_of section)) (lists_in course.payload)
-      dealt_quotas dealt = dealt.quotas ∙ ap (map (λ (section : List ℕ). length (commands_of section))) (sym dealt.told)
+    pub dealt_quotas : IsDealt course sections shares
+        → course.quotas ≡ map (λ (section : List ℕ). length (commands_of section)) (lists_in course.payload)
+    dealt_quotas dealt = dealt.quotas ∙ ap (map (λ (section : List ℕ). length (commands_of section))) (sym dealt.told)
 
 module _ (count : ℕ) (course : Course) (callers : count ≡ callers_of course.shape) (sections : List (List ℕ)) (shares : List ShareState)
     (seens : List SeenState) (dealt : IsFreshDealt course sections shares seens) where

@@ -1,5 +1,5 @@
 -- What a run needs and leaves.
-use Rattle.std.specs.Prelude.{◌≡◌, ℕ, ◌+◌, ◌<◌, ◌^◌, List, length}
+use Rattle.std.specs.Prelude.{◌≡◌, ℕ, ◌+◌, ◌<◌, ◌^◌, List, Some, length, slice_get}
 use Rattle.lock_rules.specs.Tag.{Tag}
 use Rattle.lock_rules.specs.Trees.{lists_in}
 use Rattle.keep_local.specs.declared.shape.Shape.{Shape}
@@ -33,6 +33,12 @@ pub record IsSet {P B : Type 0} (rest : P → Rest) (has : Context → Type 0) (
   pub count_is : count ≡ callers_of (course_of tag).shape
   pub all : AreAll (λ p. (rest p).context) has level tag count passes
   pub dealt_is : dealt (course_of tag) brought
+
+-- each caller has its job, and there is room for what comes back
+pub record AreDealt {J : Type 0} (is_job : ℕ → J → Type 0) (count : ℕ) (room : Type 0) (jobs : List J) : Type 0 where
+  pub each : (k : ℕ) (j : J) → slice_get jobs k ≡ Some j → is_job k j
+  pub many : length jobs ≡ count
+  pub room_is : room
 
 -- a run has finished, over the shape and of the sections that the tag of its lock tells
 pub record IsLeft (course : Course) (left : Finished) : Type 0 where

@@ -2,10 +2,11 @@
 ghost use Rattle.std.specs.Prelude.{◌≡◌, ◌≤◌, ℕ, [], length, map, slice_get, vec_capacity, IfErr, IfOk, Some};
 ghost use Rattle.keep_local.specs.Shapes.{callers_of};
 ghost use Rattle.clof_compose.specs.Courses.{course_of};
+ghost use Rattle.cohort_runner.specs.Runs.{HaveSat};
 ghost use Rattle.fresh_runner.specs.Crews.{AreEmptied, IsFreshCrew};
 ghost use Rattle.fresh_runner.specs.Jobs.{IsFreshJob, IsFreshServed};
 ghost use Rattle.fresh_runner.specs.Ready.{IsFreshDealt};
-ghost use Rattle.planned_runner.specs.Runs.{IsLeftMarked, IsSet};
+ghost use Rattle.planned_runner.specs.Runs.{AreDealt, IsLeftMarked, IsSet};
 ghost use Rattle.planned_runner.specs.declared.marked.FreshBrought.{FreshBrought as TheBrought};
 
 use crate::commanded::{Commanded, Dealt, Served};
@@ -36,37 +37,36 @@ pub(crate) struct FreshLists<Q> {
     pub(crate) stopped: Vec<bool>,
 }
 
-impl<'a, Q: Resting> Served<Q, FreshJob<'a, Q>> for FreshBook<'a> {
-    ghost is_job = { IsFreshJob Q.rest };
+impl<'a, Q: Resting> Served<Q, (), FreshJob<'a, Q>> for FreshBook<'a> {
+    // the job is that of a caller of this lock
+    ghost may = { λ has level tag sound _ j. sound × (level ≡ 0) × ((number : ℕ) × IsFreshJob Q.rest has level tag number j) };
 
-    ghost is_served = { IsFreshServed Q.rest };
+    // and it comes back as its caller brings it
+    ghost did = { λ has level tag _ j k. (number : ℕ) → IsFreshJob Q.rest has level tag number j
+        → IsFreshServed Q.rest has level tag number k };
 
     fn serve<C: Composed<FreshBook<'a>, Pass = Q>, G: Gate, R: Wait>(
         rt: &R,
         lock: &C,
         gate: &G,
+        _floor: &(),
         job: FreshJob<'a, Q>,
-    ) -> FreshJob<'a, Q>
-        requires sound { C.sound lock.now }
-        requires lowest { C.level lock.now ≡ 0 }
-        requires some { (number : ℕ) × IsFreshJob Q.rest (C.has lock.now) (C.level lock.now) (C.tag lock.now) number job }
-        ensures each { (number : ℕ) → IsFreshJob Q.rest (C.has lock.now) (C.level lock.now) (C.tag lock.now) number job.entry
-            → IsFreshServed Q.rest (C.has lock.now) (C.level lock.now) (C.tag lock.now) number result }
-    {
+    ) -> FreshJob<'a, Q> {
         serve_fresh(rt, lock, gate, job)
     }
 }
 
-impl<'s, 'a, Q: Resting> Commanded<Q, FreshJob<'a, Q>, FreshBrought<'s, 'a>, Marked<'a>>
+impl<'s, 'a, Q: Resting> Commanded<Q, (), FreshJob<'a, Q>, FreshBrought<'s, 'a>, Marked<'a>>
     for FreshBook<'a> {
-    type Lists = FreshLists<Q>;
+    type Aside = FreshLists<Q>;
 
     type Crew = FreshCrew<Q>;
 
     ghost dealt = { λ course brought. IsFreshDealt course (map (λ section. section.bytes.now) brought.sections.now) brought.shares.items
         brought.seens.items };
 
-    ghost have_room = { λ count lists. AreEmptied count lists.lists × (lists.stopped.items ≡ []) × (count ≤ vec_capacity lists.stopped) };
+    ghost is_open = { λ has level count tag _ jobs aside. AreDealt (IsFreshJob Q.rest has level tag) count
+        (AreEmptied count aside.lists × (aside.stopped.items ≡ []) × (count ≤ vec_capacity aside.stopped)) jobs.items };
 
     ghost is_crew = { IsFreshCrew Q.rest };
 
@@ -78,15 +78,15 @@ impl<'s, 'a, Q: Resting> Commanded<Q, FreshJob<'a, Q>, FreshBrought<'s, 'a>, Mar
         lock: &C,
         passes: Vec<Q>,
         brought: FreshBrought<'s, 'a>,
-    ) -> Result<Dealt<FreshJob<'a, Q>, FreshLists<Q>>, FreshCrew<Q>>
+    ) -> Result<Dealt<(), FreshJob<'a, Q>, FreshLists<Q>>, FreshCrew<Q>>
         requires set { IsSet Q.rest (C.has lock.now) (C.sound lock.now) (C.level lock.now) (C.count lock.now) (C.tag lock.now)
             (λ course b. IsFreshDealt course (map (λ section. section.bytes.now) b.sections.now) b.shares.items b.seens.items) brought
             passes.items }
-        ensures each { IfOk result (λ made. (k : ℕ) (j : _) → slice_get made.jobs.items k ≡ Some j → IsFreshJob Q.rest (C.has lock.now)
-            (C.level lock.now) (C.tag lock.now) k j) }
-        ensures many { IfOk result (λ made. length made.jobs.items ≡ C.count lock.now) }
-        ensures lists { IfOk result (λ made. AreEmptied (C.count lock.now) made.lists.lists × (made.lists.stopped.items ≡ [])
-            × (C.count lock.now ≤ vec_capacity made.lists.stopped)) }
+        ensures opened { IfOk result (λ made. AreDealt (IsFreshJob Q.rest (C.has lock.now) (C.level lock.now) (C.tag lock.now))
+            (C.count lock.now) (AreEmptied (C.count lock.now) made.aside.lists × (made.aside.stopped.items ≡ [])
+            × (C.count lock.now ≤ vec_capacity made.aside.stopped)) made.jobs.items) }
+        ensures may { IfOk result (λ made. (k : ℕ) (j : _) → slice_get made.jobs.items k ≡ Some j → C.sound lock.now
+            × (C.level lock.now ≡ 0) × ((number : ℕ) × IsFreshJob Q.rest (C.has lock.now) (C.level lock.now) (C.tag lock.now) number j)) }
         ensures crew { IfErr result (IsFreshCrew Q.rest (C.has lock.now) (C.level lock.now) (C.count lock.now) (C.tag lock.now)) }
     {
         let FreshBrought {
@@ -102,26 +102,32 @@ impl<'s, 'a, Q: Resting> Commanded<Q, FreshJob<'a, Q>, FreshBrought<'s, 'a>, Mar
                     stopped,
                 },
             ) => Ok(Dealt {
+                floor: (),
                 jobs,
-                lists: FreshLists { lists, stopped },
+                aside: FreshLists { lists, stopped },
             }),
             Err(crew) => Err(crew),
         }
     }
 
-    fn gather<C: Composed<FreshBook<'a>, Pass = Q>>(
+    fn gather<C: Composed<FreshBook<'a>, Pass = Q>, G: Gate, R: Wait>(
+        _rt: &R,
         lock: &C,
+        _gate: &G,
+        _floor: (),
         jobs: Vec<FreshJob<'a, Q>>,
-        lists: FreshLists<Q>,
+        aside: FreshLists<Q>,
     ) -> FreshCrew<Q>
-        requires each { (k : ℕ) (j : _) → slice_get jobs.items k ≡ Some j → IsFreshServed Q.rest (C.has lock.now) (C.level lock.now)
-            (C.tag lock.now) k j }
-        requires many { length jobs.items ≡ C.count lock.now }
-        requires lists { AreEmptied (C.count lock.now) lists.lists × (lists.stopped.items ≡ [])
-            × (C.count lock.now ≤ vec_capacity lists.stopped) }
+        requires sound { C.sound lock.now }
+        requires lowest { C.level lock.now ≡ 0 }
+        requires did { HaveSat (λ before. AreDealt (IsFreshJob Q.rest (C.has lock.now) (C.level lock.now) (C.tag lock.now))
+            (C.count lock.now) (AreEmptied (C.count lock.now) aside.lists × (aside.stopped.items ≡ [])
+            × (C.count lock.now ≤ vec_capacity aside.stopped)) before.items)
+            (λ j k. (number : ℕ) → IsFreshJob Q.rest (C.has lock.now) (C.level lock.now) (C.tag lock.now) number j
+            → IsFreshServed Q.rest (C.has lock.now) (C.level lock.now) (C.tag lock.now) number k) jobs }
         ensures { IsFreshCrew Q.rest (C.has lock.now) (C.level lock.now) (C.count lock.now) (C.tag lock.now) result }
     {
-        fresh_crew_of(lock, jobs, lists.lists, lists.stopped)
+        fresh_crew_of(lock, jobs, aside.lists, aside.stopped)
     }
 
     fn close<C: Composed<FreshBook<'a>, Pass = Q> + Drop>(

@@ -63,6 +63,7 @@ pub fn run_marked<'a, R: Threads + Wait + Sync, G: Gate + Sync>(
     let top = plan.kinds.as_slice().len() - 1;
     if top == 0 {
         run_flat::<
+            (),
             FreshJob<'a, TopPass<Pass>>,
             FreshBrought<'_, 'a>,
             Marked<'a>,
@@ -71,8 +72,14 @@ pub fn run_marked<'a, R: Threads + Wait + Sync, G: Gate + Sync>(
             G,
         >(given, root)
     } else {
-        run_deep::<FreshJob<'a, LowPass>, FreshBrought<'_, 'a>, Marked<'a>, FreshBook<'a>, R, G>(
-            given, root, top as u32,
-        )
+        run_deep::<
+            (),
+            FreshJob<'a, LowPass>,
+            FreshBrought<'_, 'a>,
+            Marked<'a>,
+            FreshBook<'a>,
+            R,
+            G,
+        >(given, root, top as u32)
     }
 }

@@ -2,10 +2,11 @@
 ghost use Rattle.std.specs.Prelude.{◌≡◌, ◌≤◌, ℕ, [], length, map, slice_get, IfErr, IfOk, Some};
 ghost use Rattle.keep_local.specs.Shapes.{callers_of};
 ghost use Rattle.clof_compose.specs.Courses.{course_of};
+ghost use Rattle.cohort_runner.specs.Runs.{HaveSat};
 ghost use Rattle.threaded_runner.specs.Crews.{HasRoom, IsCrew};
 ghost use Rattle.threaded_runner.specs.Jobs.{IsJob, IsServed};
 ghost use Rattle.threaded_runner.specs.Ready.{IsDealt};
-ghost use Rattle.planned_runner.specs.Runs.{IsLeft, IsSet};
+ghost use Rattle.planned_runner.specs.Runs.{AreDealt, IsLeft, IsSet};
 ghost use Rattle.planned_runner.specs.declared.plain.Brought.{Brought as TheBrought};
 
 use crate::commanded::{Commanded, Dealt, Served};
@@ -34,35 +35,33 @@ pub(crate) struct Lists<Q> {
     pub(crate) stopped: Vec<bool>,
 }
 
-impl<'a, Q: Resting> Served<Q, Job<'a, Q>> for Book<'a> {
-    ghost is_job = { IsJob Q.rest };
+impl<'a, Q: Resting> Served<Q, (), Job<'a, Q>> for Book<'a> {
+    // the job is that of a caller of this lock
+    ghost may = { λ has level tag sound _ j. sound × (level ≡ 0) × ((number : ℕ) × IsJob Q.rest has level tag number j) };
 
-    ghost is_served = { IsServed Q.rest };
+    // and it comes back as its caller brings it
+    ghost did = { λ has level tag _ j k. (number : ℕ) → IsJob Q.rest has level tag number j → IsServed Q.rest has level tag number k };
 
     fn serve<C: Composed<Book<'a>, Pass = Q>, G: Gate, R: Wait>(
         rt: &R,
         lock: &C,
         gate: &G,
+        _floor: &(),
         job: Job<'a, Q>,
-    ) -> Job<'a, Q>
-        requires sound { C.sound lock.now }
-        requires lowest { C.level lock.now ≡ 0 }
-        requires some { (number : ℕ) × IsJob Q.rest (C.has lock.now) (C.level lock.now) (C.tag lock.now) number job }
-        ensures each { (number : ℕ) → IsJob Q.rest (C.has lock.now) (C.level lock.now) (C.tag lock.now) number job.entry
-            → IsServed Q.rest (C.has lock.now) (C.level lock.now) (C.tag lock.now) number result }
-    {
+    ) -> Job<'a, Q> {
         serve(rt, lock, gate, job)
     }
 }
 
-impl<'s, 'a, Q: Resting> Commanded<Q, Job<'a, Q>, Brought<'s, 'a>, Finished<'a>> for Book<'a> {
-    type Lists = Lists<Q>;
+impl<'s, 'a, Q: Resting> Commanded<Q, (), Job<'a, Q>, Brought<'s, 'a>, Finished<'a>> for Book<'a> {
+    type Aside = Lists<Q>;
 
     type Crew = Crew<Q>;
 
     ghost dealt = { λ course brought. IsDealt course (map (λ section. section.bytes.now) brought.sections.now) brought.shares.items };
 
-    ghost have_room = { λ count lists. HasRoom count lists.passes lists.shares lists.stopped };
+    ghost is_open = { λ has level count tag _ jobs aside. AreDealt (IsJob Q.rest has level tag) count
+        (HasRoom count aside.passes aside.shares aside.stopped) jobs.items };
 
     ghost is_crew = { IsCrew Q.rest };
 
@@ -74,13 +73,13 @@ impl<'s, 'a, Q: Resting> Commanded<Q, Job<'a, Q>, Brought<'s, 'a>, Finished<'a>>
         lock: &C,
         passes: Vec<Q>,
         brought: Brought<'s, 'a>,
-    ) -> Result<Dealt<Job<'a, Q>, Lists<Q>>, Crew<Q>>
+    ) -> Result<Dealt<(), Job<'a, Q>, Lists<Q>>, Crew<Q>>
         requires set { IsSet Q.rest (C.has lock.now) (C.sound lock.now) (C.level lock.now) (C.count lock.now) (C.tag lock.now)
             (λ course b. IsDealt course (map (λ section. section.bytes.now) b.sections.now) b.shares.items) brought passes.items }
-        ensures each { IfOk result (λ made. (k : ℕ) (j : _) → slice_get made.jobs.items k ≡ Some j → IsJob Q.rest (C.has lock.now)
-            (C.level lock.now) (C.tag lock.now) k j) }
-        ensures many { IfOk result (λ made. length made.jobs.items ≡ C.count lock.now) }
-        ensures lists { IfOk result (λ made. HasRoom (C.count lock.now) made.lists.passes made.lists.shares made.lists.stopped) }
+        ensures opened { IfOk result (λ made. AreDealt (IsJob Q.rest (C.has lock.now) (C.level lock.now) (C.tag lock.now)) (C.count lock.now)
+            (HasRoom (C.count lock.now) made.aside.passes made.aside.shares made.aside.stopped) made.jobs.items) }
+        ensures may { IfOk result (λ made. (k : ℕ) (j : _) → slice_get made.jobs.items k ≡ Some j → C.sound lock.now
+            × (C.level lock.now ≡ 0) × ((number : ℕ) × IsJob Q.rest (C.has lock.now) (C.level lock.now) (C.tag lock.now) number j)) }
         ensures crew { IfErr result (IsCrew Q.rest (C.has lock.now) (C.level lock.now) (C.count lock.now) (C.tag lock.now)) }
     {
         let Brought {
@@ -100,8 +99,9 @@ impl<'s, 'a, Q: Resting> Commanded<Q, Job<'a, Q>, Brought<'s, 'a>, Finished<'a>>
                     stopped,
                 },
             ) => Ok(Dealt {
+                floor: (),
                 jobs,
-                lists: Lists {
+                aside: Lists {
                     passes,
                     shares,
                     stopped,
@@ -111,18 +111,23 @@ impl<'s, 'a, Q: Resting> Commanded<Q, Job<'a, Q>, Brought<'s, 'a>, Finished<'a>>
         }
     }
 
-    fn gather<C: Composed<Book<'a>, Pass = Q>>(
+    fn gather<C: Composed<Book<'a>, Pass = Q>, G: Gate, R: Wait>(
+        _rt: &R,
         lock: &C,
+        _gate: &G,
+        _floor: (),
         jobs: Vec<Job<'a, Q>>,
-        lists: Lists<Q>,
+        aside: Lists<Q>,
     ) -> Crew<Q>
-        requires each { (k : ℕ) (j : _) → slice_get jobs.items k ≡ Some j → IsServed Q.rest (C.has lock.now) (C.level lock.now)
-            (C.tag lock.now) k j }
-        requires many { length jobs.items ≡ C.count lock.now }
-        requires lists { HasRoom (C.count lock.now) lists.passes lists.shares lists.stopped }
+        requires sound { C.sound lock.now }
+        requires lowest { C.level lock.now ≡ 0 }
+        requires did { HaveSat (λ before. AreDealt (IsJob Q.rest (C.has lock.now) (C.level lock.now) (C.tag lock.now)) (C.count lock.now)
+            (HasRoom (C.count lock.now) aside.passes aside.shares aside.stopped) before.items)
+            (λ j k. (number : ℕ) → IsJob Q.rest (C.has lock.now) (C.level lock.now) (C.tag lock.now) number j
+            → IsServed Q.rest (C.has lock.now) (C.level lock.now) (C.tag lock.now) number k) jobs }
         ensures { IsCrew Q.rest (C.has lock.now) (C.level lock.now) (C.count lock.now) (C.tag lock.now) result }
     {
-        crew_of(lock, jobs, lists.passes, lists.shares, lists.stopped)
+        crew_of(lock, jobs, aside.passes, aside.shares, aside.stopped)
     }
 
     fn close<C: Composed<Book<'a>, Pass = Q> + Drop>(

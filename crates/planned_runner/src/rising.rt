@@ -24,10 +24,11 @@ use std::thread::Threads;
 /// A run under a lock of one level.
 pub(crate) fn run_flat<
     'r,
+    K: Sync,
     J: Send + Drop,
     B: Drop,
     F,
-    P: Commanded<TopPass<Pass>, J, B, F> + Send + Sync,
+    P: Commanded<TopPass<Pass>, K, J, B, F> + Send + Sync,
     R: Threads + Wait + Sync,
     G: Gate + Sync,
 >(given: Given<'r, B, R, G>, root: Root<P>) -> Result<F, OutOfMemory>
@@ -41,7 +42,7 @@ pub(crate) fn run_flat<
     passes_are_shared();
     match make_top_of::<P>(given.alloc, given.plan, root, given.shape, 0) {
         Ok((lock, passes)) => {
-            run_under::<TopPass<Pass>, J, B, F, P, R, TopOf<P>, G>(given, lock, passes)
+            run_under::<TopPass<Pass>, K, J, B, F, P, R, TopOf<P>, G>(given, lock, passes)
         }
         Err(_) => Err(OutOfMemory),
     }
@@ -50,10 +51,11 @@ pub(crate) fn run_flat<
 /// A run under a lock of two to five levels.
 pub(crate) fn run_deep<
     'r,
+    K: Sync,
     J: Send + Drop,
     B: Drop,
     F,
-    P: Commanded<LowPass, J, B, F> + Send + Sync,
+    P: Commanded<LowPass, K, J, B, F> + Send + Sync,
     R: Threads + Wait + Sync,
     G: Gate + Sync,
 >(given: Given<'r, B, R, G>, root: Root<P>, top: u32) -> Result<F, OutOfMemory>
@@ -70,7 +72,7 @@ pub(crate) fn run_deep<
     top_passes_are_shared();
     match make_top_of::<P>(given.alloc, given.plan, root, given.shape, top) {
         Ok((lock, passes)) => {
-            with_second::<J, B, F, P, TopOf<P>, R, G>(given, lock, passes, top - 1)
+            with_second::<K, J, B, F, P, TopOf<P>, R, G>(given, lock, passes, top - 1)
         }
         Err(_) => Err(OutOfMemory),
     }
@@ -79,10 +81,11 @@ pub(crate) fn run_deep<
 // A run under a lock with a second level below this one, and with as many more as lie below it.
 fn with_second<
     'r,
+    K: Sync,
     J: Send + Drop,
     B: Drop,
     F,
-    P: Commanded<LowPass, J, B, F> + Send + Sync,
+    P: Commanded<LowPass, K, J, B, F> + Send + Sync,
     H: Composed<P> + Sync + Drop,
     R: Threads + Wait + Sync,
     G: Gate + Sync,
@@ -105,9 +108,9 @@ where
     match add_below::<P, H>(given.alloc, kind, given.shape, level, high, passes) {
         Ok((lock, passes)) => {
             if level == 0 {
-                run_under::<LowPass, J, B, F, P, R, LevelOver<P, H>, G>(given, lock, passes)
+                run_under::<LowPass, K, J, B, F, P, R, LevelOver<P, H>, G>(given, lock, passes)
             } else {
-                with_third::<J, B, F, P, LevelOver<P, H>, R, G>(given, lock, passes, level - 1)
+                with_third::<K, J, B, F, P, LevelOver<P, H>, R, G>(given, lock, passes, level - 1)
             }
         }
         Err(_) => Err(OutOfMemory),
@@ -117,10 +120,11 @@ where
 // The same with a third level.
 fn with_third<
     'r,
+    K: Sync,
     J: Send + Drop,
     B: Drop,
     F,
-    P: Commanded<LowPass, J, B, F> + Send + Sync,
+    P: Commanded<LowPass, K, J, B, F> + Send + Sync,
     H: Composed<P> + Sync + Drop,
     R: Threads + Wait + Sync,
     G: Gate + Sync,
@@ -143,9 +147,9 @@ where
     match add_below::<P, H>(given.alloc, kind, given.shape, level, high, passes) {
         Ok((lock, passes)) => {
             if level == 0 {
-                run_under::<LowPass, J, B, F, P, R, LevelOver<P, H>, G>(given, lock, passes)
+                run_under::<LowPass, K, J, B, F, P, R, LevelOver<P, H>, G>(given, lock, passes)
             } else {
-                with_fourth::<J, B, F, P, LevelOver<P, H>, R, G>(given, lock, passes, level - 1)
+                with_fourth::<K, J, B, F, P, LevelOver<P, H>, R, G>(given, lock, passes, level - 1)
             }
         }
         Err(_) => Err(OutOfMemory),
@@ -155,10 +159,11 @@ where
 // The same with a fourth level.
 fn with_fourth<
     'r,
+    K: Sync,
     J: Send + Drop,
     B: Drop,
     F,
-    P: Commanded<LowPass, J, B, F> + Send + Sync,
+    P: Commanded<LowPass, K, J, B, F> + Send + Sync,
     H: Composed<P> + Sync + Drop,
     R: Threads + Wait + Sync,
     G: Gate + Sync,
@@ -181,9 +186,9 @@ where
     match add_below::<P, H>(given.alloc, kind, given.shape, level, high, passes) {
         Ok((lock, passes)) => {
             if level == 0 {
-                run_under::<LowPass, J, B, F, P, R, LevelOver<P, H>, G>(given, lock, passes)
+                run_under::<LowPass, K, J, B, F, P, R, LevelOver<P, H>, G>(given, lock, passes)
             } else {
-                with_fifth::<J, B, F, P, LevelOver<P, H>, R, G>(given, lock, passes, level - 1)
+                with_fifth::<K, J, B, F, P, LevelOver<P, H>, R, G>(given, lock, passes, level - 1)
             }
         }
         Err(_) => Err(OutOfMemory),
@@ -193,10 +198,11 @@ where
 // The same with a fifth level, which is the lowest.
 fn with_fifth<
     'r,
+    K: Sync,
     J: Send + Drop,
     B: Drop,
     F,
-    P: Commanded<LowPass, J, B, F> + Send + Sync,
+    P: Commanded<LowPass, K, J, B, F> + Send + Sync,
     H: Composed<P> + Sync + Drop,
     R: Threads + Wait + Sync,
     G: Gate + Sync,
@@ -218,7 +224,7 @@ where
     let kind = kind_at(given.plan, level);
     match add_below::<P, H>(given.alloc, kind, given.shape, level, high, passes) {
         Ok((lock, passes)) => {
-            run_under::<LowPass, J, B, F, P, R, LevelOver<P, H>, G>(given, lock, passes)
+            run_under::<LowPass, K, J, B, F, P, R, LevelOver<P, H>, G>(given, lock, passes)
         }
         Err(_) => Err(OutOfMemory),
     }

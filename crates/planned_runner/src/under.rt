@@ -14,37 +14,37 @@ use std::marker::PhantomData;
 use std::sync::Wait;
 use std::thread::Threads;
 
-/// What each thread needs: they share the lock and the gate by plain borrows.
+/// What each thread needs: they share the lock, the gate and the floor by plain borrows.
 #[derive(Drop)]
-struct Shift<'b, P, R, C, G> {
+struct Shift<'b, P, R, C, G, K> {
     rt: &'b R,
     lock: &'b C,
     gate: &'b G,
+    floor: &'b K,
     payload: PhantomData<P>,
 }
 
-impl<'b, Q: Resting, J, P: Served<Q, J>, R: Wait, C: Composed<P, Pass = Q>, G: Gate> Works<J>
-    for Shift<'b, P, R, C, G> {
-    // the job is that of a caller of this lock
-    ghost allows = { λ s j. C.sound s.lock.now × (C.level s.lock.now ≡ 0)
-        × ((number : ℕ) × P.is_job (C.has s.lock.now) (C.level s.lock.now) (C.tag s.lock.now) number j) };
+impl<'b, Q: Resting, K, J, P: Served<Q, K, J>, R: Wait, C: Composed<P, Pass = Q>, G: Gate> Works<J>
+    for Shift<'b, P, R, C, G, K> {
+    // a thread may do this job
+    ghost allows = { λ s j. P.may (C.has s.lock.now) (C.level s.lock.now) (C.tag s.lock.now) (C.sound s.lock.now) s.floor.now j };
 
-    // and it comes back as its caller brings it
-    ghost gives = { λ s j k. (number : ℕ) → P.is_job (C.has s.lock.now) (C.level s.lock.now) (C.tag s.lock.now) number j
-        → P.is_served (C.has s.lock.now) (C.level s.lock.now) (C.tag s.lock.now) number k };
+    // and this comes of it
+    ghost gives = { λ s j k. P.did (C.has s.lock.now) (C.level s.lock.now) (C.tag s.lock.now) s.floor.now j k };
 
     fn work(&self, job: J) -> J {
-        P::serve::<C, G, R>(self.rt, self.lock, self.gate, job)
+        P::serve::<C, G, R>(self.rt, self.lock, self.gate, self.floor, job)
     }
 }
 
-// Has each caller give its commands in a thread of its own, unless none of them needs one.
+// Has the callers give their commands, in threads where they need some.
 fn run_threads<
     Q: Resting + Send,
+    K: Sync,
     J: Send + Drop,
     B,
     F,
-    P: Commanded<Q, J, B, F> + Send + Sync,
+    P: Commanded<Q, K, J, B, F> + Send + Sync,
     R: Threads + Wait + Sync,
     C: Composed<P, Pass = Q> + Sync,
     G: Gate + Sync,
@@ -57,28 +57,30 @@ where
         passes.items }
     ensures { P.is_crew (C.has lock.now) (C.level lock.now) (C.count lock.now) (C.tag lock.now) result }
 {
-    let Dealt { jobs, lists } = match P::deal::<C, R>(rt, alloc, lock, passes, brought) {
+    let Dealt { floor, jobs, aside } = match P::deal::<C, R>(rt, alloc, lock, passes, brought) {
         Ok(dealt) => dealt,
         Err(crew) => return crew,
     };
-    let shift = Shift::<P, R, C, G> {
+    let shift = Shift::<P, R, C, G, K> {
         rt,
         lock,
         gate,
+        floor: &floor,
         payload: PhantomData,
     };
     let jobs = by_all(rt, &shift, jobs);
-    P::gather::<C>(lock, jobs, lists)
+    P::gather::<C, G, R>(rt, lock, gate, floor, jobs, aside)
 }
 
 /// A run under a lock that is ready, which is then taken apart.
 pub(crate) fn run_under<
     'r,
     Q: Resting + Send,
+    K: Sync,
     J: Send + Drop,
     B,
     F,
-    P: Commanded<Q, J, B, F> + Send + Sync,
+    P: Commanded<Q, K, J, B, F> + Send + Sync,
     R: Threads + Wait + Sync,
     C: Composed<P, Pass = Q> + Sync + Drop,
     G: Gate + Sync,
@@ -97,6 +99,6 @@ where
         gate,
         ..
     } = given;
-    let crew = run_threads::<Q, J, B, F, P, R, C, G>(rt, alloc, &lock, passes, brought, gate);
+    let crew = run_threads::<Q, K, J, B, F, P, R, C, G>(rt, alloc, &lock, passes, brought, gate);
     P::close::<C>(lock, crew)
 }

@@ -1,7 +1,7 @@
 use Rattle.std.proofs.Common.{◌≡◌, ◌∙◌, ap, arith}
 use Rattle.lock_tree.proofs.Levels.{shape_named}
 use Rattle.threaded_runner.specs.Books.{book_tag}
-use Rattle.planned_runner.proofs.runs.run.Goals as goal
+use Rattle.planned_runner.proofs.shared_runs.run_shared.Goals as goal
 
 pub run_flat-requires-clause-may : goal.run_flat-requires-clause-may
 run_flat-requires-clause-may g c κs within =

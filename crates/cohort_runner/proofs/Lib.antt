@@ -1,0 +1,3 @@
+pub mod Rolls
+pub mod Seated
+pub mod Sitting

@@ -1,0 +1,26 @@
+use Rattle.std.proofs.Common.{◌≡◌, ◌∙◌, ap, arith}
+use Rattle.lock_tree.proofs.Levels.{shape_named}
+use Rattle.threaded_runner.specs.Books.{book_tag}
+use Rattle.planned_runner.proofs.runs.run_own.Goals as goal
+
+pub run_flat-requires-clause-may : goal.run_flat-requires-clause-may
+run_flat-requires-clause-may g c κs within =
+    let same : c.in_ok-root.root.trail.shape ≡ c.args.shape.now = ap (λ t. t.shape) c.in_ok-root.ensures.trail ∙ c.in_ok-copied.ensures in
+    record {
+      formed = c.requires.formed;
+      few = omega (arith, c.requires.few, c.requires.callers);
+      shape_is = shape_named book_tag c.in_ok-root.root c.args.shape.now same;
+      kinds_each = c.requires.plan;
+      dealt_is = c.in_ok-root.ensures.dealt;
+    }
+
+pub run_deep-requires-clause-may : goal.run_deep-requires-clause-may
+run_deep-requires-clause-may g c κs within =
+    let same : c.in_ok-root.root.trail.shape ≡ c.args.shape.now = ap (λ t. t.shape) c.in_ok-root.ensures.trail ∙ c.in_ok-copied.ensures in
+    record {
+      formed = c.requires.formed;
+      few = omega (arith, c.requires.few, c.requires.callers);
+      shape_is = shape_named book_tag c.in_ok-root.root c.args.shape.now same;
+      kinds_each = c.requires.plan;
+      dealt_is = c.in_ok-root.ensures.dealt;
+    }
