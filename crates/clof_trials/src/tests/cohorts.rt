@@ -87,7 +87,7 @@ fn two_callers_meet_on_two_threads(rt: HostRuntime) -> Result<(), Fail> {
     )?;
     assert_eq!(rt; ended.status, Status::Ok);
     assert!(rt; ended.out.as_slice() == one || ended.out.as_slice() == other);
-    assert!(rt; meeting.took_place());
+    assert!(rt; meeting.met());
     Ok(())
 }
 
