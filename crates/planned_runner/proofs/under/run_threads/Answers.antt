@@ -7,4 +7,4 @@ by_all-jobs-requires-clause-allowed g c κs within = λ k j e.
 
 pub gather-requires-clause-each : goal.gather-requires-clause-each
 gather-requires-clause-each g c =
-    all_served _ _ c.in-Ok.jobs.items c.by_all-jobs.result.items c.by_all-jobs.ensures.many c.in-Ok.ensures.each c.by_all-jobs.ensures.each
+    all_served _ _ c.in-Ok.dealt.jobs.items c.by_all-jobs.result.items c.by_all-jobs.ensures.many c.in-Ok.ensures.each c.by_all-jobs.ensures.each
