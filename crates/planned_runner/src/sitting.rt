@@ -47,8 +47,8 @@ impl<'b, Q: Resting, K, D, P: Sits<Q, K, D>, R: Wait, C: Composed<P, Pass = Q>, 
     }
 }
 
-/// Has threads serve the callers in turn, the calling one among them, which also sits at a desk that no thread can be had for. Then it serves
-/// whom they have left.
+/// Has threads serve the callers in turn, the calling one among them, which also sits at a desk that no thread can be had for. Then it
+/// serves whom they have left.
 pub(crate) fn run_cohorts<
     'r,
     Q: Resting + Send,
@@ -84,7 +84,7 @@ where
     } = given;
     let threads = sharing.threads;
     let run = match P::open::<C, R>(rt, alloc, lock, passes, shares, sections, shape, threads) {
-        Ok(run) => run,
+        Ok(opened) => opened,
         Err(crew) => return crew,
     };
     let Opened {
