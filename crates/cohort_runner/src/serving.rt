@@ -54,7 +54,8 @@ pub(crate) fn job_of<'a, C: Composed<Book<'a>>>(
     requires roll { IsRoll (C.has _lock.now) (C.level _lock.now) (C.tag _lock.now) (contexts_of C.Pass.rest _roll.now.told.value.items) }
     requires caller { caller.tag ≡ roll_tag (contexts_of C.Pass.rest _roll.now.told.value.items) }
     ensures job { IsJob C.Pass.rest (C.has _lock.now) (C.level _lock.now) (C.tag _lock.now) caller.entry.number result }
-    ensures at { slice_get (contexts_of C.Pass.rest _roll.now.told.value.items) caller.entry.number ≡ Some (C.Pass.rest result.pass).context }
+    ensures at { slice_get (contexts_of C.Pass.rest _roll.now.told.value.items) caller.entry.number
+        ≡ Some (C.Pass.rest result.pass).context }
 {
     let (job, _) = caller.into_parts();
     job
@@ -122,8 +123,8 @@ fn visit<'a, C: Composed<Book<'a>>, G: Gate, R: Wait>(
     (desk, true)
 }
 
-// Where a thread goes next, of so many Cohorts, and how many in a row had no caller: where it found one it stays, and else it goes on to the
-// next, round about.
+// Where a thread goes next, of so many Cohorts, and how many in a row had no caller: where it found one it stays, and else it goes on to
+// the next, round about.
 fn onward(at: usize, empty: usize, found: bool, count: usize) -> (usize, usize)
     requires at { at < count }
     requires empty { empty < count }

@@ -33,8 +33,8 @@ loop-slot-preserved g c =
     let is = c.in-Some-slot.is in
     let was = seated.is in
     let same : c.in-Some-slot.caller ≡ seated.caller = cc in
-    let served = λ (k : ℕ) (j : Job g.row.C-Pass.Denot). IsServed g.C.Pass.Resting.rest (g.C.Composed.has c.args.lock.now) (g.C.Composed.level c.args.lock.now)
-    (g.C.Composed.tag c.args.lock.now) k j in
+    let served = λ (k : ℕ) (j : Job g.row.C-Pass.Denot). IsServed g.C.Pass.Resting.rest
+    (g.C.Composed.has c.args.lock.now) (g.C.Composed.level c.args.lock.now) (g.C.Composed.tag c.args.lock.now) k j in
     let many = inv.many in
     let number = c.job_of-job.ensures.job.share_is.caller_is ∙ (ap (λ (s : CallerState). s.number) same ∙ (seated.number_is ∙ sym many)) in
     record {

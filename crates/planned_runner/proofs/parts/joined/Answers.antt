@@ -6,4 +6,5 @@ pub returns : goal.returns
 returns g c =
     still_open g.C.Pass.Resting.rest (g.C.Composed.has c.args._lock.now) (g.C.Composed.level c.args._lock.now)
     (g.C.Composed.count c.args._lock.now) (g.C.Composed.tag c.args._lock.now)
-    (run_of c.args.floor c.requires.before c.args.aside) c.requires.open_is c.args.desks c.requires.many c.requires.each
+    (run_of c.args.floor c.requires.opened.before c.args.aside) c.requires.opened.open_is c.args.desks c.requires.opened.many
+    c.requires.opened.each
