@@ -5,9 +5,8 @@ ghost use Rattle.fresh_root.specs.contracts.history.History.{the_row as the_hist
 ghost use Rattle.fresh_root.specs.Laws.{MarksStand, NoReleaseWhileOut, TagsTell, WhatWasSeenIsOrdered};
 
 use crate::history::History;
-use crate::sent::{is_sent, is_shared};
+use crate::sent::is_sent;
 use lock_rules::Payload;
-use std::snapshot::Snapshot;
 
 /// A mark names a place of its caller in every history that begins with what the token saw: so long as the history only grows, the token
 /// alone tells, and no lists are compared.
@@ -50,12 +49,3 @@ pub fn histories_may_be_sent()
 pub fn histories_may_be_shared()
     ensures { IsSync the_history }
 {}
-
-/// A `Fresh` may be shared between threads where its payload may.
-pub fn freshes_may_be_shared<P: Payload + Sync>()
-    ensures shared { IsSync (the_row P.row ⟦<P as Payload>⟧) }
-{
-    histories_may_be_shared();
-    is_shared::<Option<P>>();
-    is_shared::<Snapshot<P>>();
-}

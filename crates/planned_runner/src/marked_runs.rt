@@ -11,7 +11,7 @@ use crate::marked::FreshBrought;
 use crate::rising::{run_deep, run_flat};
 use crate::shapes::copied;
 use clof_compose::TopPass;
-use fresh_root::{freshes_may_be_sent, freshes_may_be_shared};
+use fresh_root::{histories_may_be_sent, histories_may_be_shared};
 use fresh_runner::{FreshBook, FreshJob, Marked, fresh_root_of};
 use keep_local::Shape;
 use lock_rules::Pass;
@@ -21,7 +21,6 @@ use placed_runner::{Gate, Section};
 use std::alloc::Global;
 use std::sync::Wait;
 use std::thread::Threads;
-use threaded_runner::Book;
 
 /// Has the callers of these sections give their commands under the lock of a plan with a shape, each in a thread of its own. It gives what
 /// they leave, and the numbers of each caller's turns, which its token told it. Without memory for the lock or the run, or for a command in
@@ -46,8 +45,8 @@ pub fn run_marked<'a, R: Threads + Wait + Sync, G: Gate + Sync>(
     ensures sections { IfOk result (λ made. made.left.journal.sections ≡ map (λ section. section.bytes.now) sections.now) }
     ensures marks { IfOk result (λ made. AreMarked (callers_in made.left.trail.closed) (length sections.now) made.marks.items) }
 {
-    freshes_may_be_sent::<Book<'a>>();
-    freshes_may_be_shared::<Book<'a>>();
+    histories_may_be_sent();
+    histories_may_be_shared();
     let (root, shares, seens) = fresh_root_of(alloc, sections, copied(alloc, shape)?)?;
     let brought = FreshBrought {
         shares,
