@@ -1,7 +1,9 @@
 use denote.Param.Send.{sendable}
+use Rattle.std.proofs.Crossing.{crosses}
 use Rattle.std.proofs.Common.{◌≡◌, ◌∙◌, ap, arith, length}
 use Rattle.std.specs.Prelude.{slice_index}
 use Rattle.std.proofs.lemmas.List.{length-map}
+use Rattle.std.proofs.lemmas.Result.{IfOk-weaker}
 use Rattle.lock_tree.proofs.Levels.{shape_named}
 use Rattle.threaded_runner.specs.Books.{book_tag}
 use Rattle.planned_runner.proofs.shared_runs.run_shared.Goals as goal
@@ -9,7 +11,7 @@ use Rattle.planned_runner.proofs.shared_runs.run_shared.Goals as goal
 pub run_flat-requires-clause-may : goal.run_flat-requires-clause-may
 run_flat-requires-clause-may g c κs within =
     let same : c.in_ok-root.root.trail.shape ≡ c.args.shape.now = ap (λ t. t.shape) c.in_ok-root.ensures.trail ∙ c.in_ok-copied.ensures in
-    let at_home : length c.in_ok-homes.homes.items ≡ length c.args.sections.now =
+    let at_home : length c.in_ok-homes.field-0.items ≡ length c.args.sections.now =
     ap length c.in_ok-homes.ensures ∙ length-map c.args.shape.now.paths (λ path. slice_index path 0) ∙ c.requires.callers in
     record {
       formed = c.requires.formed;
@@ -22,7 +24,7 @@ run_flat-requires-clause-may g c κs within =
 pub run_deep-requires-clause-may : goal.run_deep-requires-clause-may
 run_deep-requires-clause-may g c κs within =
     let same : c.in_ok-root.root.trail.shape ≡ c.args.shape.now = ap (λ t. t.shape) c.in_ok-root.ensures.trail ∙ c.in_ok-copied.ensures in
-    let at_home : length c.in_ok-homes.homes.items ≡ length c.args.sections.now =
+    let at_home : length c.in_ok-homes.field-0.items ≡ length c.args.sections.now =
     ap length c.in_ok-homes.ensures ∙ length-map c.args.shape.now.paths (λ path. slice_index path 0) ∙ c.requires.callers in
     record {
       formed = c.requires.formed;
@@ -33,21 +35,33 @@ run_deep-requires-clause-may g c κs within =
     }
 
 pub cohorts_are_shared-requires-send-J : goal.cohorts_are_shared-requires-send-J
-cohorts_are_shared-requires-send-J g c κs = search sendable depth 20
+cohorts_are_shared-requires-send-J g c κs = search (sendable, crosses) depth 60
 
 pub cohorts_are_shared-requires-2-send-J : goal.cohorts_are_shared-requires-2-send-J
-cohorts_are_shared-requires-2-send-J g c κs = search sendable depth 20
+cohorts_are_shared-requires-2-send-J g c κs = search (sendable, crosses) depth 60
 
 pub run_flat-requires-send-J : goal.run_flat-requires-send-J
-run_flat-requires-send-J g c κs within = search sendable depth 20
+run_flat-requires-send-J g c κs within = search (sendable, crosses) depth 60
 
 pub run_flat-requires-sync-K : goal.run_flat-requires-sync-K
 run_flat-requires-sync-K g c κs within =
-    let cohorts = c.cohorts_are_shared.ensures.shared in search sendable depth 20
+    let cohorts = c.cohorts_are_shared.ensures.shared in search (sendable, crosses) depth 60
 
 pub run_deep-requires-send-J : goal.run_deep-requires-send-J
-run_deep-requires-send-J g c κs within = search sendable depth 20
+run_deep-requires-send-J g c κs within = search (sendable, crosses) depth 60
 
 pub run_deep-requires-sync-K : goal.run_deep-requires-sync-K
 run_deep-requires-sync-K g c κs within =
-    let cohorts = c.cohorts_are_shared-2.ensures.shared in search sendable depth 20
+    let cohorts = c.cohorts_are_shared-2.ensures.shared in search (sendable, crosses) depth 60
+
+pub returns-then-top-eq0-clause-shape : goal.returns-then-top-eq0-clause-shape
+returns-then-top-eq0-clause-shape g c =
+    let same : c.in_ok-root.root.trail.shape ≡ c.args.shape.now = ap (λ t. t.shape) c.in_ok-root.ensures.trail ∙ c.in_ok-copied.ensures in
+    IfOk-weaker c.run_flat.result _ _ (λ left is. is.shape_is ∙ shape_named book_tag c.in_ok-root.root c.args.shape.now same)
+    c.run_flat.ensures
+
+pub returns-else-top-eq0-clause-shape : goal.returns-else-top-eq0-clause-shape
+returns-else-top-eq0-clause-shape g c =
+    let same : c.in_ok-root.root.trail.shape ≡ c.args.shape.now = ap (λ t. t.shape) c.in_ok-root.ensures.trail ∙ c.in_ok-copied.ensures in
+    IfOk-weaker c.run_deep.result _ _ (λ left is. is.shape_is ∙ shape_named book_tag c.in_ok-root.root c.args.shape.now same)
+    c.run_deep.ensures
