@@ -11,8 +11,9 @@ use crate::marked::FreshBrought;
 use crate::rising::{run_deep, run_flat};
 use crate::shapes::copied;
 use clof_compose::TopPass;
-use fresh_root::{histories_may_be_sent, histories_may_be_shared};
-use fresh_runner::{FreshBook, FreshJob, Marked, fresh_root_of};
+use fresh_runner::{
+    FreshBook, FreshJob, Marked, fresh_books_may_be_sent, fresh_books_may_be_shared, fresh_root_of,
+};
 use keep_local::Shape;
 use lock_rules::Pass;
 use lock_tree::{LowPass, Plan};
@@ -45,8 +46,8 @@ pub fn run_marked<'a, R: Threads + Wait + Sync, G: Gate + Sync>(
     ensures sections { IfOk result (λ made. made.left.journal.sections ≡ map (λ section. section.bytes.now) sections.now) }
     ensures marks { IfOk result (λ made. AreMarked (callers_in made.left.trail.closed) (length sections.now) made.marks.items) }
 {
-    histories_may_be_sent();
-    histories_may_be_shared();
+    fresh_books_may_be_sent();
+    fresh_books_may_be_shared();
     let (root, shares, seens) = fresh_root_of(alloc, sections, copied(alloc, shape)?)?;
     let brought = FreshBrought {
         shares,

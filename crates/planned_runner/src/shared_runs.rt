@@ -12,7 +12,7 @@ use crate::shapes::{copied, homes};
 use clof_compose::TopPass;
 use cohort_desks::Desk;
 use cohort_queue::cohorts_are_shared;
-use cohort_runner::Caller;
+use cohort_runner::{Caller, callers_may_be_sent};
 use keep_local::Shape;
 use lock_rules::Pass;
 use lock_tree::{LowPass, Plan};
@@ -44,6 +44,8 @@ pub(crate) fn run_shared<'a, R: Threads + Wait + Sync, G: Gate + Sync>(
     ensures shape { IfOk result (λ left. left.trail.shape ≡ shape.now) }
     ensures sections { IfOk result (λ left. left.journal.sections ≡ map (λ section. section.bytes.now) sections.now) }
 {
+    callers_may_be_sent::<TopPass<Pass>>();
+    callers_may_be_sent::<LowPass>();
     cohorts_are_shared::<Caller<'a, TopPass<Pass>>>();
     cohorts_are_shared::<Caller<'a, LowPass>>();
     let (root, shares) = root_of(alloc, sections, copied(alloc, shape)?)?;

@@ -1,27 +1,25 @@
 use Rattle.std.proofs.Common.{◌≡◌, ◌∙◌, ap, arith}
-use Rattle.std.proofs.Crossing.{crosses}
 use Rattle.std.proofs.lemmas.Result.{IfOk-weaker}
 use denote.Param.Send.{sendable}
 use Rattle.lock_tree.proofs.Levels.{shape_named}
-use Rattle.fresh_root.proofs.Crossing.{fresh_sent, fresh_shared}
 use Rattle.fresh_runner.specs.Books.{fresh_book_tag}
 use Rattle.planned_runner.proofs.marked_runs.run_marked.Goals as goal
 
 pub run_flat-requires-send-P : goal.run_flat-requires-send-P
 run_flat-requires-send-P g c κs within =
-    let fresh = fresh_sent c.histories_may_be_sent.ensures in search (sendable, crosses, fresh) depth 60
+    let book = c.fresh_books_may_be_sent.ensures in search (sendable, book) depth 20
 
 pub run_flat-requires-sync-P : goal.run_flat-requires-sync-P
 run_flat-requires-sync-P g c κs within =
-    let fresh = fresh_shared c.histories_may_be_shared.ensures in search (sendable, crosses, fresh) depth 60
+    let book = c.fresh_books_may_be_shared.ensures in search (sendable, book) depth 20
 
 pub run_deep-requires-send-P : goal.run_deep-requires-send-P
 run_deep-requires-send-P g c κs within =
-    let fresh = fresh_sent c.histories_may_be_sent.ensures in search (sendable, crosses, fresh) depth 60
+    let book = c.fresh_books_may_be_sent.ensures in search (sendable, book) depth 20
 
 pub run_deep-requires-sync-P : goal.run_deep-requires-sync-P
 run_deep-requires-sync-P g c κs within =
-    let fresh = fresh_shared c.histories_may_be_shared.ensures in search (sendable, crosses, fresh) depth 60
+    let book = c.fresh_books_may_be_shared.ensures in search (sendable, book) depth 20
 
 pub run_flat-requires-clause-may : goal.run_flat-requires-clause-may
 run_flat-requires-clause-may g c κs within =

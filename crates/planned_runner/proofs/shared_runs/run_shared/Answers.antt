@@ -35,24 +35,26 @@ run_deep-requires-clause-may g c κs within =
     }
 
 pub cohorts_are_shared-requires-send-J : goal.cohorts_are_shared-requires-send-J
-cohorts_are_shared-requires-send-J g c κs = search (sendable, crosses) depth 60
+cohorts_are_shared-requires-send-J g c κs = let caller = c.callers_may_be_sent.ensures.sent in search (sendable, caller) depth 20
 
 pub cohorts_are_shared-requires-2-send-J : goal.cohorts_are_shared-requires-2-send-J
-cohorts_are_shared-requires-2-send-J g c κs = search (sendable, crosses) depth 60
+cohorts_are_shared-requires-2-send-J g c κs = let caller = c.callers_may_be_sent-2.ensures.sent in search (sendable, caller) depth 20
 
 pub run_flat-requires-send-J : goal.run_flat-requires-send-J
-run_flat-requires-send-J g c κs within = search (sendable, crosses) depth 60
+run_flat-requires-send-J g c κs within =
+    let caller = c.callers_may_be_sent.ensures.sent in search (sendable, crosses, caller) depth 40 fits 20000
 
 pub run_flat-requires-sync-K : goal.run_flat-requires-sync-K
 run_flat-requires-sync-K g c κs within =
-    let cohorts = c.cohorts_are_shared.ensures.shared in search (sendable, crosses) depth 60
+    let cohorts = c.cohorts_are_shared.ensures.shared in search (sendable, crosses, cohorts) depth 40 fits 20000
 
 pub run_deep-requires-send-J : goal.run_deep-requires-send-J
-run_deep-requires-send-J g c κs within = search (sendable, crosses) depth 60
+run_deep-requires-send-J g c κs within =
+    let caller = c.callers_may_be_sent-2.ensures.sent in search (sendable, crosses, caller) depth 40 fits 20000
 
 pub run_deep-requires-sync-K : goal.run_deep-requires-sync-K
 run_deep-requires-sync-K g c κs within =
-    let cohorts = c.cohorts_are_shared-2.ensures.shared in search (sendable, crosses) depth 60
+    let cohorts = c.cohorts_are_shared-2.ensures.shared in search (sendable, crosses, cohorts) depth 40 fits 20000
 
 pub returns-then-top-eq0-clause-shape : goal.returns-then-top-eq0-clause-shape
 returns-then-top-eq0-clause-shape g c =
