@@ -7,7 +7,6 @@
 
 mod caller;
 mod ending;
-mod laws;
 mod opening;
 mod roll;
 mod run;
@@ -15,7 +14,6 @@ mod serving;
 
 pub use caller::Caller;
 pub use ending::end_run;
-pub use laws::callers_may_be_sent;
 pub use opening::open_run;
 pub use roll::Roll;
 pub use run::{Aside, Floor, Lists, Run};

@@ -5,14 +5,14 @@ ghost use Rattle.placed_runner.specs.Sections.{caller_limit};
 ghost use Rattle.threaded_runner.specs.Finished.{IsFinished};
 
 use crate::given::Given;
+use crate::laws::{low_passes_may_be_sent, top_passes_may_be_sent};
 use crate::manner::Sharing;
 use crate::rising::{run_deep, run_flat};
 use crate::seated::{Room, Waiting};
 use crate::shapes::{copied, homes};
 use clof_compose::TopPass;
 use cohort_desks::Desk;
-use cohort_queue::cohorts_are_shared;
-use cohort_runner::{Caller, callers_may_be_sent};
+use cohort_runner::Caller;
 use keep_local::Shape;
 use lock_rules::Pass;
 use lock_tree::{LowPass, Plan};
@@ -44,10 +44,8 @@ pub(crate) fn run_shared<'a, R: Threads + Wait + Sync, G: Gate + Sync>(
     ensures shape { IfOk result (λ left. left.trail.shape ≡ shape.now) }
     ensures sections { IfOk result (λ left. left.journal.sections ≡ map (λ section. section.bytes.now) sections.now) }
 {
-    callers_may_be_sent::<TopPass<Pass>>();
-    callers_may_be_sent::<LowPass>();
-    cohorts_are_shared::<Caller<'a, TopPass<Pass>>>();
-    cohorts_are_shared::<Caller<'a, LowPass>>();
+    top_passes_may_be_sent();
+    low_passes_may_be_sent();
     let (root, shares) = root_of(alloc, sections, copied(alloc, shape)?)?;
     let brought = Waiting {
         shares,

@@ -5,6 +5,8 @@ use Rattle.std.specs.Prelude.{slice_index}
 use Rattle.std.proofs.lemmas.List.{length-map}
 use Rattle.std.proofs.lemmas.Result.{IfOk-weaker}
 use Rattle.lock_tree.proofs.Levels.{shape_named}
+use Rattle.cohort_queue.proofs.Crossing.{cohort_shared, seat_sent}
+use Rattle.cohort_runner.proofs.Crossing.{caller_sent}
 use Rattle.threaded_runner.specs.Books.{book_tag}
 use Rattle.planned_runner.proofs.shared_runs.run_shared.Goals as goal
 
@@ -34,27 +36,25 @@ run_deep-requires-clause-may g c κs within =
       dealt_is = (c.in_ok-root.ensures.dealt, at_home);
     }
 
-pub cohorts_are_shared-requires-send-J : goal.cohorts_are_shared-requires-send-J
-cohorts_are_shared-requires-send-J g c κs = let caller = c.callers_may_be_sent.ensures.sent in search (sendable, caller) depth 20
-
-pub cohorts_are_shared-requires-2-send-J : goal.cohorts_are_shared-requires-2-send-J
-cohorts_are_shared-requires-2-send-J g c κs = let caller = c.callers_may_be_sent-2.ensures.sent in search (sendable, caller) depth 20
-
 pub run_flat-requires-send-J : goal.run_flat-requires-send-J
 run_flat-requires-send-J g c κs within =
-    let caller = c.callers_may_be_sent.ensures.sent in search (sendable, crosses, caller) depth 40 fits 20000
+    let pass = c.top_passes_may_be_sent.ensures in
+    search (sendable, crosses, seat_sent, caller_sent, pass) depth 60 fits 100000
 
 pub run_flat-requires-sync-K : goal.run_flat-requires-sync-K
 run_flat-requires-sync-K g c κs within =
-    let cohorts = c.cohorts_are_shared.ensures.shared in search (sendable, crosses, cohorts) depth 40 fits 20000
+    let pass = c.top_passes_may_be_sent.ensures in
+    search (sendable, crosses, cohort_shared, caller_sent, pass) depth 60 fits 100000
 
 pub run_deep-requires-send-J : goal.run_deep-requires-send-J
 run_deep-requires-send-J g c κs within =
-    let caller = c.callers_may_be_sent-2.ensures.sent in search (sendable, crosses, caller) depth 40 fits 20000
+    let pass = c.low_passes_may_be_sent.ensures in
+    search (sendable, crosses, seat_sent, caller_sent, pass) depth 60 fits 100000
 
 pub run_deep-requires-sync-K : goal.run_deep-requires-sync-K
 run_deep-requires-sync-K g c κs within =
-    let cohorts = c.cohorts_are_shared-2.ensures.shared in search (sendable, crosses, cohorts) depth 40 fits 20000
+    let pass = c.low_passes_may_be_sent.ensures in
+    search (sendable, crosses, cohort_shared, caller_sent, pass) depth 60 fits 100000
 
 pub returns-then-top-eq0-clause-shape : goal.returns-then-top-eq0-clause-shape
 returns-then-top-eq0-clause-shape g c =
