@@ -1,5 +1,5 @@
 -- A printed text with receipts tells one list of holds, as the text of the run in front of them does.
-use Rattle.std.proofs.Common.{◌≡◌, ℕ, ◌+◌, ◌^◌, ◌<◌, ◌≤◌, List, [], ◌∷◌, ◌++◌, length, map, take, refl, sym, ap, ◌∙◌, subst, append_assoc, arith}
+use Rattle.std.proofs.Common.{◌≡◌, ℕ, ◌^◌, ◌<◌, ◌≤◌, List, [], ◌∷◌, ◌++◌, length, map, take, refl, sym, ap, ◌∙◌, append_assoc, arith}
 use Rattle.std.specs.List.{enumerate_from, flat_map}
 use Rattle.std.proofs.lemmas.List.{append-nil}
 use Rattle.std.proofs.Math.Seq.{take-append_seam}
@@ -25,7 +25,8 @@ none_told (section ∷ sections) callers =
     let rest = flat_map (λ (at : ℕ × Placed). caller_line at.0 at.1) (enumerate_from 1 sections) in
     let behind = receipts_lines (section ∷ sections) callers in
     ap turn_count
-    (ap lines (append_assoc (caller_line 0 section) rest behind) ∙ first_line (caller_line 0 section) (rest ++ behind) (caller_is_line 0 section))
+    (ap lines (append_assoc (caller_line 0 section) rest behind)
+    ∙ first_line (caller_line 0 section) (rest ++ behind) (caller_is_line 0 section))
 
 module _ (sections : List Placed) (shape : Shape) (printed : List ℕ) where
   -- the lines of a text with receipts are those of its holds, and others that are told to be no turns
