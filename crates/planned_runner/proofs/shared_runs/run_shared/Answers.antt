@@ -1,12 +1,11 @@
 use denote.Param.Send.{sendable}
-use Rattle.std.proofs.Crossing.{crosses}
 use Rattle.std.proofs.Common.{◌≡◌, ◌∙◌, ap, arith, length}
 use Rattle.std.specs.Prelude.{slice_index}
 use Rattle.std.proofs.lemmas.List.{length-map}
 use Rattle.std.proofs.lemmas.Result.{IfOk-weaker}
 use Rattle.lock_tree.proofs.Levels.{shape_named}
-use Rattle.cohort_queue.proofs.Crossing.{cohort_shared, seat_sent}
-use Rattle.cohort_runner.proofs.Crossing.{caller_sent}
+use Rattle.cohort_desks.proofs.Crossing.{desk_sent}
+use Rattle.cohort_runner.proofs.Crossing.{caller_sent, floor_shared}
 use Rattle.threaded_runner.specs.Books.{book_tag}
 use Rattle.planned_runner.proofs.shared_runs.run_shared.Goals as goal
 
@@ -39,22 +38,22 @@ run_deep-requires-clause-may g c κs within =
 pub run_flat-requires-send-J : goal.run_flat-requires-send-J
 run_flat-requires-send-J g c κs within =
     let pass = c.top_passes_may_be_sent.ensures in
-    search (sendable, crosses, seat_sent, caller_sent, pass) depth 60 fits 100000
+    search (sendable, desk_sent, caller_sent, pass) depth 30 fits 20000
 
 pub run_flat-requires-sync-K : goal.run_flat-requires-sync-K
 run_flat-requires-sync-K g c κs within =
     let pass = c.top_passes_may_be_sent.ensures in
-    search (sendable, crosses, cohort_shared, caller_sent, pass) depth 60 fits 100000
+    search (sendable, floor_shared, pass) depth 30 fits 20000
 
 pub run_deep-requires-send-J : goal.run_deep-requires-send-J
 run_deep-requires-send-J g c κs within =
     let pass = c.low_passes_may_be_sent.ensures in
-    search (sendable, crosses, seat_sent, caller_sent, pass) depth 60 fits 100000
+    search (sendable, desk_sent, caller_sent, pass) depth 30 fits 20000
 
 pub run_deep-requires-sync-K : goal.run_deep-requires-sync-K
 run_deep-requires-sync-K g c κs within =
     let pass = c.low_passes_may_be_sent.ensures in
-    search (sendable, crosses, cohort_shared, caller_sent, pass) depth 60 fits 100000
+    search (sendable, floor_shared, pass) depth 30 fits 20000
 
 pub returns-then-top-eq0-clause-shape : goal.returns-then-top-eq0-clause-shape
 returns-then-top-eq0-clause-shape g c =
