@@ -1,5 +1,5 @@
 -- Bytes have one answer of `check` or one refusal, and the answer is `yes` exactly where they hold the text of a run.
-use Rattle.std.proofs.Common.{◌≡◌, ◌≤◌, ℕ, List, [], ◌∷◌, length, map, inl, inr, refl, sym, ap, ◌∙◌, subst, arith}
+use Rattle.std.proofs.Common.{◌≡◌, ◌≤◌, ℕ, false, List, [], ◌∷◌, length, map, inl, inr, refl, sym, ap, ◌∙◌, subst, arith}
 use Rattle.synth_text.specs.declared.description.Description.{Description}
 use Rattle.keep_local.specs.declared.shape.Shape.{Shape}
 use Rattle.lock_plan.specs.declared.plan.Plan.{Plan}
@@ -26,7 +26,7 @@ use Rattle.clof_tool.proofs.SectionRuns.{described_once, few_sections, sections_
 
 module _ (described : Description) (plan : Plan) (planned : IsPlanFor described plan) (input printed : List ℕ) where
   -- the lines of a run are not broken
-  run_whole : (line : ℕ) → PrintsUnder described plan input printed → BreaksUnder described plan input printed line → ⊥
+  run_whole : (line : ℕ) → PrintsUnder false described plan input printed → BreaksUnder described plan input printed line → ⊥
   run_whole line prints breaks =
       let sections = prints.sections in
       let pus = map (λ (section : Placed). section.pu) sections in
@@ -129,8 +129,8 @@ runs_yes : (described : Description) (asked : Checking) (bytes input printed tex
 runs_yes described asked bytes input printed text pair told prints =
     let tells = told.tells in
     let plans : prints.plan ≡ told.plan = plan_same described (as_run asked) prints.plan told.plan prints.plan_is told.plan_is in
-    let runs : PrintsUnder described told.plan input printed =
-    subst (λ (p : Plan). PrintsUnder described p input printed) plans prints.prints in
+    let runs : PrintsUnder false described told.plan input printed =
+    subst (λ (p : Plan). PrintsUnder false described p input printed) plans prints.prints in
     let judges = moved described told.plan bytes tells.input tells.printed input printed tells.verdict tells.pair pair tells.judges in
     let same = verdict_once described told.plan (asked_plan_for described asked told.plan told.plan_is) input printed tells.verdict Yes
     judges runs in

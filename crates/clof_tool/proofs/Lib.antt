@@ -3,6 +3,7 @@ pub mod Codes
 pub mod Drills
 pub mod Judgements
 pub mod Machine
+pub mod Marks
 pub mod Pairs
 pub mod Places
 pub mod Plans

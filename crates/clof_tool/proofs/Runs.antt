@@ -1,5 +1,5 @@
 -- The callers of a run, by their sections.
-use Rattle.std.proofs.Common.{◌≡◌, ℕ, ◌<◌, List, [], ◌∷◌, length, map, refl, sym, ap, subst, arith}
+use Rattle.std.proofs.Common.{◌≡◌, ℕ, ◌<◌, Bool, true, false, List, [], ◌∷◌, length, map, refl, sym, ap, subst, arith}
 use Rattle.std.proofs.lemmas.List.Elements.{All-nil}
 use Rattle.keep_local.specs.declared.shape.Shape.{Shape}
 use Rattle.placed_runner.specs.declared.sections.Section.{Section}
@@ -10,7 +10,8 @@ use Rattle.placed_runner.specs.Views.{section_view}
 use Rattle.synth_text.specs.declared.description.Description.{Description}
 use Rattle.lock_plan.specs.declared.plan.Plan.{Plan}
 use Rattle.lock_plan.specs.Shapes.{IsShapeOf}
-use Rattle.clof_tool.specs.Run.{RunsUnder}
+use Rattle.fresh_runner.specs.Receipts.{IsMarkedRun}
+use Rattle.clof_tool.specs.Run.{MarksUnder, PrintsRun, RunsUnder}
 
 -- the PUs of the callers
 pub pus_of : (sections : List Section)
@@ -41,9 +42,30 @@ pub runs_under : (described : Description) (plan : Plan) (sections : List Sectio
 runs_under described plan sections shape printed is run =
     record { shape = shape; shape_is = subst (λ (pus : List ℕ). IsShapeOf described plan pus shape) (pus_of sections) is; run = run }
 
+-- and so it is with receipts
+pub marks_under : (described : Description) (plan : Plan) (sections : List Section) (shape : Shape) (printed : List ℕ)
+    → IsShapeOf described plan (map (λ (section : Section). section.pu) sections) shape
+    → IsMarkedRun (map section_view sections) shape printed → MarksUnder described plan (map section_view sections) printed
+marks_under described plan sections shape printed is marked =
+    record { shape = shape; shape_is = subst (λ (pus : List ℕ). IsShapeOf described plan pus shape) (pus_of sections) is; marked = marked }
+
+empty_marked : (sections : List Section) (shape : Shape) (printed : List ℕ) → length sections ≡ 0 → printed ≡ []
+    → IsMarkedRun (map section_view sections) shape printed
+empty_marked [] shape printed none empty =
+    subst (IsMarkedRun [] shape) (sym empty) (record { out = []; run = no_run shape; printed_is = refl })
+empty_marked (section ∷ sections) shape printed none empty = absurd (omega (arith, none))
+
 -- the text of no sections is that of a run
-pub none_under : (described : Description) (plan : Plan) (sections : List Section) (shape : Shape) (printed : List ℕ)
+none_under : (described : Description) (plan : Plan) (sections : List Section) (shape : Shape) (printed : List ℕ)
     → IsShapeOf described plan (map (λ (section : Section). section.pu) sections) shape → length sections ≡ 0 → printed ≡ []
     → RunsUnder described plan (map section_view sections) printed
 none_under described plan sections shape printed is none empty =
     runs_under described plan sections shape printed is (empty_run sections shape printed none empty)
+
+-- with receipts or without
+pub none_printed : (receipts : Bool) (described : Description) (plan : Plan) (sections : List Section) (shape : Shape) (printed : List ℕ)
+    → IsShapeOf described plan (map (λ (section : Section). section.pu) sections) shape → length sections ≡ 0 → printed ≡ []
+    → PrintsRun receipts described plan (map section_view sections) printed
+none_printed false described plan sections shape printed is none empty = none_under described plan sections shape printed is none empty
+none_printed true described plan sections shape printed is none empty =
+    marks_under described plan sections shape printed is (empty_marked sections shape printed none empty)

@@ -1,5 +1,5 @@
 -- A run of sections: what is printed, or the first rule that the input breaks.
-use Rattle.std.proofs.Common.{◌≡◌, ◌≤◌, ◌⊎◌, ℕ, List, length, map, Ok, inl, inr, refl, sym, ap, subst, ◌∙◌, arith}
+use Rattle.std.proofs.Common.{◌≡◌, ◌≤◌, ◌⊎◌, ℕ, Bool, true, false, List, length, map, Ok, inl, inr, refl, sym, ap, subst, ◌∙◌, arith}
 use Rattle.std.proofs.lemmas.Bool.{cases_lt}
 use Rattle.std.proofs.lemmas.List.{length-map}
 use Rattle.std.proofs.lemmas.List.FromFn.{length-enumerate_from}
@@ -26,7 +26,9 @@ use Rattle.command_words.specs.Asked.{Running}
 use Rattle.command_texts.specs.declared.status.Fault.TheVariants.{Input}
 use Rattle.command_texts.specs.declared.status.Status.{Status}
 use Rattle.command_texts.specs.declared.status.Status.TheVariants as statuses
-use Rattle.clof_tool.specs.Run.{input_limit, section_status, PrintsSections, PrintsUnder, Refuses, RefusesSections, RunsUnder}
+use Rattle.clof_tool.specs.Run.{holds_in, input_limit, section_status, PrintsRun, PrintsSections, PrintsUnder, Refuses, RefusesSections}
+use Rattle.fresh_runner.specs.Receipts.{IsMarkedRun}
+use Rattle.clof_tool.proofs.Marks.{marked_once}
 use Rattle.clof_tool.proofs.Plans.{few_levels, plan_same, shape_same}
 use Rattle.clof_tool.specs.Laws.{NotBoth, OneApplies, OneHistory, OneRefusal}
 
@@ -96,35 +98,57 @@ same_holds printed sections one other same few low first =
     subst (λ (shape : Shape). (second : IsRun sections shape printed) → first.holds ≡ second.holds) same
     (λ second. one_history_lem sections one printed (omega (arith, few)) low first second)
 
+-- so does one with receipts
+same_marked : (printed : List ℕ) (sections : List Placed) (one other : Shape) → one ≡ other → length sections ≤ caller_limit
+    → top_of one ≤ 32 → (first : IsMarkedRun sections one printed) (second : IsMarkedRun sections other printed)
+    → first.run.holds ≡ second.run.holds
+same_marked printed sections one other same few low first =
+    subst (λ (shape : Shape). (second : IsMarkedRun sections shape printed) → first.run.holds ≡ second.run.holds) same
+    (λ second. marked_once sections one printed (omega (arith, few)) low first second)
+
 -- the same under the lock of one plan
-same_runs : (described : Description) (plan : Plan) (printed : List ℕ) (one other : List Placed) → one ≡ other
-    → IsPlanFor described plan → length one ≤ caller_limit → (first : RunsUnder described plan one printed)
-    (second : RunsUnder described plan other printed) → first.run.holds ≡ second.run.holds
-same_runs described plan printed one other same planned few first =
-    subst (λ (sections : List Placed). (second : RunsUnder described plan sections printed) → first.run.holds ≡ second.run.holds) same
-    (λ second. let pus = map (λ (section : Placed). section.pu) one in
-    same_holds printed one first.shape second.shape
+same_under : (receipts : Bool) (described : Description) (plan : Plan) (printed : List ℕ) (sections : List Placed)
+    → IsPlanFor described plan → length sections ≤ caller_limit
+    → (first second : PrintsRun receipts described plan sections printed) → holds_in receipts first ≡ holds_in receipts second
+same_under false described plan printed sections planned few first second =
+    let pus = map (λ (section : Placed). section.pu) sections in
+    same_holds printed sections first.shape second.shape
     (shape_same described plan pus first.shape second.shape first.shape_is second.shape_is) few
-    (few_levels described plan pus first.shape planned first.shape_is) first.run second.run)
+    (few_levels described plan pus first.shape planned first.shape_is) first.run second.run
+same_under true described plan printed sections planned few first second =
+    let pus = map (λ (section : Placed). section.pu) sections in
+    same_marked printed sections first.shape second.shape
+    (shape_same described plan pus first.shape second.shape first.shape_is second.shape_is) few
+    (few_levels described plan pus first.shape planned first.shape_is) first.marked second.marked
+
+same_runs : (receipts : Bool) (described : Description) (plan : Plan) (printed : List ℕ) (one other : List Placed) → one ≡ other
+    → IsPlanFor described plan → length one ≤ caller_limit → (first : PrintsRun receipts described plan one printed)
+    (second : PrintsRun receipts described plan other printed) → holds_in receipts first ≡ holds_in receipts second
+same_runs receipts described plan printed one other same planned few first =
+    subst (λ (sections : List Placed). (second : PrintsRun receipts described plan sections printed)
+    → holds_in receipts first ≡ holds_in receipts second) same
+    (λ second. same_under receipts described plan printed one planned few first second)
 
 -- and the same of an input
-same_prints : (described : Description) (input printed : List ℕ) (one other : Plan) → one ≡ other → IsPlanFor described one
-    → (first : PrintsUnder described one input printed) (second : PrintsUnder described other input printed)
-    → first.runs.run.holds ≡ second.runs.run.holds
-same_prints described input printed one other same planned first =
-    subst (λ (plan : Plan). (second : PrintsUnder described plan input printed) → first.runs.run.holds ≡ second.runs.run.holds) same
-    (λ second. same_runs described one printed first.sections second.sections
+same_prints : (receipts : Bool) (described : Description) (input printed : List ℕ) (one other : Plan) → one ≡ other
+    → IsPlanFor described one → (first : PrintsUnder receipts described one input printed)
+    (second : PrintsUnder receipts described other input printed)
+    → holds_in receipts first.runs ≡ holds_in receipts second.runs
+same_prints receipts described input printed one other same planned first =
+    subst (λ (plan : Plan). (second : PrintsUnder receipts described plan input printed)
+    → holds_in receipts first.runs ≡ holds_in receipts second.runs) same
+    (λ second. same_runs receipts described one printed first.sections second.sections
     (sections_same described input first.sections second.sections first.are second.are) planned
     (few_sections described input first.sections first.are) first.runs second.runs)
 
 -- what is asked for on a topology tells one list of holds
 same_sections : (asked : Running) (input printed : List ℕ) (one other : Description) → one ≡ other
     → (first : PrintsSections one asked input printed) (second : PrintsSections other asked input printed)
-    → first.prints.runs.run.holds ≡ second.prints.runs.run.holds
+    → holds_in asked.receipts first.prints.runs ≡ holds_in asked.receipts second.prints.runs
 same_sections asked input printed one other same first =
     subst (λ (described : Description). (second : PrintsSections described asked input printed)
-    → first.prints.runs.run.holds ≡ second.prints.runs.run.holds) same
-    (λ second. same_prints one input printed first.plan second.plan
+    → holds_in asked.receipts first.prints.runs ≡ holds_in asked.receipts second.prints.runs) same
+    (λ second. same_prints asked.receipts one input printed first.plan second.plan
     (plan_same one asked first.plan second.plan first.plan_is second.plan_is)
     (plan_is_for one asked.locks asked.keep first.plan first.plan_is.levels_are first.plan_is.kinds_are first.plan_is.keeps_are)
     first.prints second.prints)

@@ -1,5 +1,5 @@
 -- What `check` prints, and how it refuses its words and what it reads.
-use Rattle.std.specs.Prelude.{◌≡◌, ◌≤◌, ◌<◌, ◌⊎◌, ℕ, List, [], ◌∷◌, ◌++◌, codes, decimal, length, map}
+use Rattle.std.specs.Prelude.{◌≡◌, ◌≤◌, ◌<◌, ◌⊎◌, ℕ, false, List, [], ◌∷◌, ◌++◌, codes, decimal, length, map}
 use Rattle.synth_text.specs.declared.description.Description.{Description}
 use Rattle.keep_local.specs.declared.shape.Shape.{Shape}
 use Rattle.lock_plan.specs.declared.plan.Plan.{Plan}
@@ -44,7 +44,7 @@ JudgesRun described plan sections printed (No line) = BreaksRun described plan s
 
 -- the same for an input: it is one that a run of the input prints, or it has a first broken line
 abbrev pub Judges : Description → Plan → List ℕ → List ℕ → Verdict → Type 0
-Judges described plan input printed Yes = PrintsUnder described plan input printed
+Judges described plan input printed Yes = PrintsUnder false described plan input printed
 Judges described plan input printed (No line) = BreaksUnder described plan input printed line
 
 -- how that is told

@@ -7,14 +7,14 @@ use Rattle.run_check.specs.declared.verdict.Verdict.TheVariants.{Yes}
 use Rattle.run_check.specs.Pairs.{ArePair}
 use Rattle.command_words.specs.Asked.{Check, Checking, Run, Running, as_run}
 use Rattle.clof_tool.specs.Checking.{verdict_text}
-use Rattle.clof_tool.specs.Run.{input_limit, Refuses}
+use Rattle.clof_tool.specs.Run.{holds_in, input_limit, Refuses}
 use Rattle.clof_tool.specs.Outcome.{IsAnswer, InputRefused}
 
 -- what was printed for what is asked for and an input tells one list of holds: who held the lock, in order
 abbrev pub OneHistory : Type 0
 OneHistory =
     (asked : Running) (input printed : List ℕ) (one other : IsAnswer (Run asked) input printed)
-    → one.1.holds.prints.runs.run.holds ≡ other.1.holds.prints.runs.run.holds
+    → holds_in asked.receipts one.1.holds.prints.runs ≡ holds_in asked.receipts other.1.holds.prints.runs
 
 -- at most one refusal fits what is asked for and an input
 abbrev pub OneRefusal : Type 0

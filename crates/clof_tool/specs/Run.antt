@@ -1,5 +1,5 @@
 -- What `run` prints.
-use Rattle.std.specs.Prelude.{◌≡◌, ◌<◌, ◌≤◌, ◌⊎◌, ℕ, List, length, map}
+use Rattle.std.specs.Prelude.{◌≡◌, ◌<◌, ◌≤◌, ◌⊎◌, ℕ, Bool, true, false, List, length, map}
 use Rattle.synth_text.specs.declared.description.Description.{Description}
 use Rattle.keep_local.specs.declared.shape.Shape.{Shape}
 use Rattle.lock_plan.specs.declared.plan.Plan.{Plan}
@@ -8,6 +8,8 @@ use Rattle.placed_runner.specs.declared.fault.SectionFault.{SectionFault}
 use Rattle.placed_runner.specs.declared.fault.SectionFault.TheVariants as section
 use Rattle.placed_runner.specs.Sections.{Placed, Sections, IsRefused}
 use Rattle.placed_runner.specs.Printed.{IsRun}
+use Rattle.placed_runner.specs.Text.{Hold}
+use Rattle.fresh_runner.specs.Receipts.{IsMarkedRun}
 use Rattle.command_texts.specs.declared.status.Fault.TheVariants.{Section, Input}
 use Rattle.command_texts.specs.declared.status.Status.{Status}
 use Rattle.command_texts.specs.declared.status.Status.TheVariants as statuses
@@ -34,17 +36,35 @@ pub record RunsUnder (described : Description) (plan : Plan) (sections : List Pl
   pub shape_is : IsShapeOf described plan (map (λ section. section.pu) sections) shape
   pub run : IsRun sections shape printed
 
--- the input is some sections on a topology, and what is printed is the text of a run of these under the lock of a plan
-pub record PrintsUnder (described : Description) (plan : Plan) (input printed : List ℕ) : Type 0 where
+-- so is one with receipts: behind it there is for each caller a line with the numbers of its turns
+pub record MarksUnder (described : Description) (plan : Plan) (sections : List Placed) (printed : List ℕ) : Type 0 where
+  pub shape : Shape
+  pub shape_is : IsShapeOf described plan (map (λ section. section.pu) sections) shape
+  pub marked : IsMarkedRun sections shape printed
+
+-- what is printed of sections, by whether receipts are asked for
+abbrev pub PrintsRun : Bool → Description → Plan → List Placed → List ℕ → Type 0
+PrintsRun false described plan sections printed = RunsUnder described plan sections printed
+PrintsRun true described plan sections printed = MarksUnder described plan sections printed
+
+-- the holds of which it is the text
+abbrev pub holds_in : {described : Description} {plan : Plan} {sections : List Placed} {printed : List ℕ} (receipts : Bool)
+    → PrintsRun receipts described plan sections printed → List Hold
+holds_in false runs = runs.run.holds
+holds_in true marks = marks.marked.run.holds
+
+-- the input is some sections on a topology, and what is printed is the text of a run of these under the lock of a plan, with receipts where
+-- they are asked for
+pub record PrintsUnder (receipts : Bool) (described : Description) (plan : Plan) (input printed : List ℕ) : Type 0 where
   pub sections : List Placed
   pub are : Sections described input sections
-  pub runs : RunsUnder described plan sections printed
+  pub runs : PrintsRun receipts described plan sections printed
 
 -- the same under the lock of the plan that is asked for
 pub record PrintsSections (described : Description) (asked : Running) (input printed : List ℕ) : Type 0 where
   pub plan : Plan
   pub plan_is : PlanOf described asked plan
-  pub prints : PrintsUnder described plan input printed
+  pub prints : PrintsUnder asked.receipts described plan input printed
 
 -- the input is refused as sections on a topology
 pub record RefusesSections (described : Description) (input : List ℕ) (status : Status) : Type 0 where

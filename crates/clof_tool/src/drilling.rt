@@ -11,7 +11,7 @@ use drill_text::{KEEPS, LEVELS, LOCKS, MACHINE, sections, summary};
 use lock_plan::{Plan, PlanFault};
 use out_of_memory::OutOfMemory;
 use placed_runner::{Gate, spread};
-use planned_runner::run;
+use planned_runner::{Manner, run};
 use std::alloc::Global;
 use std::sync::Wait;
 use std::thread::Threads;
@@ -47,7 +47,7 @@ fn drilled<R: Threads + Wait + Sync, G: Gate + Sync>(
     let bytes = sections(alloc, number)?;
     let sections = spread(alloc, &tree, &bytes)?;
     let shape = shape_for(alloc, &tree, &plan, &sections)?;
-    let left = run(rt, alloc, &plan, &shape, &sections, false, gate)?;
+    let left = run(rt, alloc, &plan, &shape, &sections, Manner::Threads, gate)?;
     summary(alloc, number, &left.journal)
 }
 

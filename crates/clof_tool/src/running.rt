@@ -7,15 +7,17 @@ ghost use Rattle.lock_plan.specs.Shapes.{IsShapeOf};
 ghost use Rattle.placed_runner.specs.Sections.{caller_limit};
 ghost use Rattle.placed_runner.specs.Views.{section_view};
 ghost use Rattle.command_texts.specs.declared.status.Status.{Status as AnyStatus};
-ghost use Rattle.clof_tool.specs.Run.{input_limit, section_status, PrintsUnder, RefusesSections, RunsUnder};
+ghost use Rattle.clof_tool.specs.Run.{input_limit, section_status, PrintsRun, PrintsUnder, RefusesSections};
 ghost use Rattle.command_texts.specs.Ends.{EndsEarly};
 
 use crate::{Fault, Status};
+use command_words::Running;
+use fresh_runner::printed_with_receipts;
 use keep_local::Shape;
 use lock_plan::Plan;
 use out_of_memory::OutOfMemory;
 use placed_runner::{Gate, Section, SectionFault, read_sections};
-use planned_runner::run;
+use planned_runner::{Manner, Sharing, run, run_marked};
 use std::alloc::{AllocError, Global};
 use std::sync::Wait;
 use std::thread::Threads;
@@ -29,12 +31,12 @@ pub(crate) fn run_text<R: Threads + Wait + Sync, G: Gate + Sync>(
     tree: &Tree,
     plan: &Plan,
     input: &[u8],
-    walk: bool,
+    asked: Running<'_>,
     gate: &G,
 ) -> Result<Vec<u8>, Status>
     requires plan { IsPlanFor tree.now plan.now }
     requires input { length input.now ≤ input_limit }
-    ensures ok { IfOk result (λ printed. PrintsUnder tree.now plan.now input.now printed.items) }
+    ensures ok { IfOk result (λ printed. PrintsUnder asked.receipts tree.now plan.now input.now printed.items) }
     ensures err { IfErr result (λ status. (status ≡ Status.OutOfMemory) ⊎ RefusesSections tree.now input.now status) }
     ensures early { IfErr result EndsEarly }
     ensures refused { (status : AnyStatus) → RefusesSections tree.now input.now status →
@@ -45,7 +47,7 @@ pub(crate) fn run_text<R: Threads + Wait + Sync, G: Gate + Sync>(
     // Tells what every tree keeps.
     let _depths = tree.depths();
     match read_sections(alloc, tree, input) {
-        Ok(sections) => match run_under(rt, alloc, tree, plan, &sections, walk, gate) {
+        Ok(sections) => match run_under(rt, alloc, tree, plan, &sections, asked, gate) {
             Ok(printed) => Ok(printed),
             Err(OutOfMemory) => Err(Status::OutOfMemory),
         },
@@ -60,21 +62,40 @@ fn run_under<R: Threads + Wait + Sync, G: Gate + Sync>(
     tree: &Tree,
     plan: &Plan,
     sections: &[Section<'_>],
-    walk: bool,
+    asked: Running<'_>,
     gate: &G,
 ) -> Result<Vec<u8>, OutOfMemory>
     requires plan { IsPlanFor tree.now plan.now }
     requires pus { All (λ section. section.pu < pu_count tree.now) sections.now }
     requires few { length sections.now ≤ caller_limit }
     requires small { sum_by (λ section. length section.bytes.now) sections.now < 2 ^ 32 }
-    ensures { IfOk result (λ printed. RunsUnder tree.now plan.now (map section_view sections.now) printed.items) }
+    ensures { IfOk result (λ printed. PrintsRun asked.receipts tree.now plan.now (map section_view sections.now) printed.items) }
 {
     let shape = shape_for(alloc, tree, plan, sections)?;
     if sections.is_empty() {
         return Ok(Vec::new(alloc));
     }
-    let left = run(rt, alloc, plan, &shape, sections, walk, gate)?;
+    if asked.receipts {
+        let made = run_marked(rt, alloc, plan, &shape, sections, gate)?;
+        return printed_with_receipts(alloc, sections, &made);
+    }
+    let left = run(rt, alloc, plan, &shape, sections, manner_of(&asked), gate)?;
     printed(alloc, sections, &left)
+}
+
+// How the callers of a run without receipts come to their holds.
+fn manner_of(asked: &Running<'_>) -> Manner {
+    match asked.sharing {
+        Some(sharing) => Manner::Cohorts(Sharing {
+            threads: sharing.threads,
+            quantum: sharing.quantum,
+        }),
+        None => if asked.walk {
+            Manner::Walk
+        } else {
+            Manner::Threads
+        },
+    }
 }
 
 /// The shape of a plan's lock, whose callers stand on the PUs of these sections.

@@ -81,7 +81,7 @@ fn run_in<R: Threads + Wait + Sync, S: Source, G: Gate + Sync>(
         (Rose (S.faults source.old) (S.faults source.new) → ⊥) → IsOk result ⊎ (result ≡ Err Status.OutOfMemory) }
 {
     match read_plan(alloc, tree, asked) {
-        Ok(plan) => served(rt, alloc, tree, &plan, asked.walk, source, gate),
+        Ok(plan) => served(rt, alloc, tree, &plan, asked, source, gate),
         Err(status) => Err(status),
     }
 }
@@ -92,14 +92,14 @@ fn served<R: Threads + Wait + Sync, S: Source, G: Gate + Sync>(
     alloc: Global,
     tree: &Tree,
     plan: &Plan,
-    walk: bool,
+    asked: Running<'_>,
     source: &mut S,
     gate: &G,
 ) -> Result<Vec<u8>, Status>
     requires plan { IsPlanFor tree.now plan.now }
     ensures answer { IfOk result (λ printed. (input : List ℕ)
         × WasRead (S.left source.old) (S.given source.old) (S.given source.new) input
-        × (length input ≤ input_limit) × PrintsUnder tree.now plan.now input printed.items) }
+        × (length input ≤ input_limit) × PrintsUnder asked.receipts tree.now plan.now input printed.items) }
     ensures at_end { OnOk result (IsDrained (S.left source.old) (S.left source.new)) }
     ensures cause { IfErr result (λ status. IsRefusal status →
         Found (S.left source.old) (S.given source.old) (S.given source.new) status tree.now) }
@@ -117,7 +117,7 @@ fn served<R: Threads + Wait + Sync, S: Source, G: Gate + Sync>(
         (Rose (S.faults source.old) (S.faults source.new) → ⊥) → IsOk result ⊎ (result ≡ Err Status.OutOfMemory) }
 {
     match read_input(alloc, source) {
-        Ok(input) => run_text(rt, alloc, tree, plan, &input, walk, gate),
+        Ok(input) => run_text(rt, alloc, tree, plan, &input, asked, gate),
         Err(status) => Err(status),
     }
 }

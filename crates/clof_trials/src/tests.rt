@@ -1,8 +1,10 @@
 // The top call over sources and sinks in memory.
 mod checks;
+mod cohorts;
 mod drills;
 mod faults;
 mod plans;
+mod receipts;
 mod threads;
 mod walks;
 

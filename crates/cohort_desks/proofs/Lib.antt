@@ -5,3 +5,4 @@ pub mod Seated
 pub mod Rows
 pub mod Kept
 pub mod Leaving
+pub mod Crossing

@@ -5,3 +5,4 @@ pub mod Giving
 pub mod Splitting
 pub mod Closing
 pub mod Stand
+pub mod Crossing

@@ -43,13 +43,21 @@ pub record Selection : Type 0 where
   pub keep : Text
   pub description : Text
 
+-- callers that share threads: how many threads, and how many commands of a caller one serves at a time
+pub record Sharing : Type 0 where
+  pub threads : ℕ
+  pub quantum : ℕ
+
 -- a run of the sections of the input: the levels of its lock, the kinds of their basic locks where they are given, how often a
--- level keeps the lock, whether the callers are stepped on one thread, and the topology
+-- level keeps the lock, whether the callers are stepped on one thread, how they share threads, where each doesn't have its own,
+-- whether they keep receipts of their turns, and the topology
 pub record Running : Type 0 where
   pub levels : Text
   pub locks : Option Text
   pub keep : Text
   pub walk : Bool
+  pub sharing : Option Sharing
+  pub receipts : Bool
   pub description : Text
 
 -- the run whose printed text is checked: one of `run` with these levels, this keep and its own locks, on this topology
@@ -60,7 +68,15 @@ pub record Checking : Type 0 where
 
 -- the run as the words of `run` ask for it
 abbrev pub as_run : Checking → Running
-as_run asked = record { levels = asked.levels; locks = None; keep = asked.keep; walk = false; description = asked.description }
+as_run asked = record {
+  levels = asked.levels;
+  locks = None;
+  keep = asked.keep;
+  walk = false;
+  sharing = None;
+  receipts = false;
+  description = asked.description;
+}
 
 pub data Asked : Type 0 where
   Run : (asked : Running) → Asked

@@ -10,6 +10,7 @@ use Rattle.command_words.specs.declared.asked.Depths.{Depths}
 use Rattle.command_words.specs.declared.asked.Depths.TheVariants as depths
 use Rattle.command_words.specs.declared.asked.Distribution.{Distribution}
 use Rattle.command_words.specs.declared.asked.Running.{Running}
+use Rattle.command_words.specs.declared.asked.Sharing.{Sharing}
 use Rattle.command_words.specs.declared.asked.Selection.{Selection}
 use Rattle.command_words.specs.declared.asked.Checking.{Checking}
 use Rattle.command_words.specs.Asked as words
@@ -52,12 +53,17 @@ plain_distribution given = record {
 abbrev pub plain_selection : Selection → words.Selection
 plain_selection given = record { weights = plain_text given.weights; keep = given.keep.now; description = given.description.now }
 
+abbrev pub plain_sharing : Sharing → words.Sharing
+plain_sharing given = record { threads = given.threads; quantum = given.quantum }
+
 abbrev pub plain_running : Running → words.Running
 plain_running given = record {
   levels = given.levels.now;
   locks = plain_text given.locks;
   keep = given.keep.now;
   walk = given.walk;
+  sharing = option_map plain_sharing given.sharing;
+  receipts = given.receipts;
   description = given.description.now;
 }
 

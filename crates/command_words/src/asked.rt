@@ -1,5 +1,5 @@
 // What words ask for.
-ghost use Rattle.std.specs.Prelude.{◌<◌, ◌^◌, IfSome, length, vec_len};
+ghost use Rattle.std.specs.Prelude.{◌<◌, ◌≤◌, ◌^◌, IfSome, length, vec_len};
 ghost use Rattle.std.proofs.Props.{props};
 
 /// What the words ask for.
@@ -34,11 +34,28 @@ pub struct Running<'a> {
     pub keep: &'a [u8],
     /// The callers are stepped on one thread.
     pub walk: bool,
+    /// How the callers share threads, where they do; else each has one of its own.
+    pub sharing: Option<Sharing>,
+    /// The callers keep receipts of their turns.
+    pub receipts: bool,
     /// The description of the topology: `PU:1` where none is given.
     pub description: &'a [u8],
     pub ghost short_levels: { length levels.now < 2 ^ 32 },
     pub ghost short_locks: { IfSome locks (λ text. length text.now < 2 ^ 32) } by { Prim.hlevel props },
     pub ghost short_keep: { length keep.now < 2 ^ 32 },
+}
+
+/// How the callers of a run share threads.
+#[derive(Clone, Copy)]
+pub struct Sharing {
+    /// How many threads there are, from 1 to 256.
+    pub threads: u32,
+    /// How many commands of a caller a thread serves at a time, from 1 to 65,535: 1 where nothing is given.
+    pub quantum: u32,
+    pub ghost some_threads: { 0 < threads },
+    pub ghost few_threads: { threads ≤ 256 },
+    pub ghost some_commands: { 0 < quantum },
+    pub ghost few_commands: { quantum ≤ 65535 },
 }
 
 /// What is asked of a set.
@@ -143,6 +160,8 @@ impl<'a> Checking<'a> {
             locks: None,
             keep: self.keep,
             walk: false,
+            sharing: None,
+            receipts: false,
             description: self.description,
         }
     }

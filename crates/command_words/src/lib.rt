@@ -14,7 +14,9 @@ mod set_words;
 mod topo_words;
 mod words;
 
-pub use asked::{Asked, Calculation, Checking, Depths, Distribution, Question, Running, Selection};
+pub use asked::{
+    Asked, Calculation, Checking, Depths, Distribution, Question, Running, Selection, Sharing,
+};
 pub use fault::WordsFault;
 pub use words::read_words;
 

@@ -3,12 +3,13 @@ ghost use Rattle.std.specs.Prelude.{◌≡◌, ◌⊎◌, ◌^◌, true, nat_lt,
 ghost use Rattle.std.specs.Option.{option_map_or};
 ghost use Rattle.clap.specs.Words.{found_of, rows_of};
 ghost use Rattle.command_words.specs.Commands.{rule_of};
-ghost use Rattle.command_words.specs.Plain.{plain};
-ghost use Rattle.command_words.specs.RunWords.{run_rules, run_of, run_asked};
+ghost use Rattle.command_words.specs.Plain.{plain, plain_sharing};
+ghost use Rattle.command_words.specs.RunWords.{run_rules, run_of, run_asked, sharing_of};
 
-use crate::asked::{Asked, Running};
+use crate::asked::{Asked, Running, Sharing};
 use crate::command::{Argument, is_given, is_short, matches, value, value_or};
 use crate::fault::WordsFault;
+use byte_text::number_in;
 use clap::ArgMatches;
 use std::alloc::Global;
 
@@ -36,6 +37,9 @@ fn arguments() -> &'static [Argument]
         Argument::Valued("locks", None),
         Argument::Valued("keep", None),
         Argument::Flag("walk", None),
+        Argument::Valued("threads", None),
+        Argument::Valued("quantum", None),
+        Argument::Flag("receipts", None),
         Argument::Optional("DESCRIPTION"),
     ]
 }
@@ -50,13 +54,40 @@ fn asked_of<'a>(matches: &ArgMatches<'a>) -> Option<Asked<'a>>
     if !is_short(levels) || !is_short_where_given(locks) || !is_short(keep) {
         return None;
     }
+    let walk = is_given(matches, "walk");
+    let sharing = sharing_of(matches)?;
+    let receipts = is_given(matches, "receipts");
+    if receipts && (walk || sharing.is_some()) {
+        return None;
+    }
     Some(Asked::Run(Running {
         levels,
         locks,
         keep,
-        walk: is_given(matches, "walk"),
+        walk,
+        sharing,
+        receipts,
         description: value_or(matches, "DESCRIPTION", b"PU:1"),
     }))
+}
+
+// How the callers share threads, where a number of threads is given. It isn't given with a walk, and no quantum without it.
+fn sharing_of(matches: &ArgMatches<'_>) -> Option<Option<Sharing>>
+    ensures { option_map (option_map plain_sharing) result ≡ sharing_of (rows_of (found_of matches.now)) }
+{
+    let Some(threads) = value(matches, "threads") else {
+        return if value(matches, "quantum").is_some() {
+            None
+        } else {
+            Some(None)
+        };
+    };
+    if is_given(matches, "walk") {
+        return None;
+    }
+    let threads = number_in(1, 256, threads)? as u32;
+    let quantum = number_in(1, 65_535, value_or(matches, "quantum", b"1"))? as u32;
+    Some(Some(Sharing { threads, quantum }))
 }
 
 // Whether a text has fewer than 2^32 bytes, where there is one.

@@ -103,6 +103,8 @@ fn asks_for<R: Abort>(
             assert_eq!(rt; asked.locks, wanted.locks);
             assert_eq!(rt; asked.keep, wanted.keep);
             assert_eq!(rt; asked.walk, wanted.walk);
+            assert!(rt; asked.sharing.is_none());
+            assert_eq!(rt; asked.receipts, wanted.receipts);
             assert_eq!(rt; asked.description, wanted.description);
         }
         _ => panic!(rt; "no run"),
@@ -118,6 +120,8 @@ fn reads_runs_without_a_plan(rt: HostRuntime) -> Result<(), Fail> {
         locks: None,
         keep: b"128",
         walk: false,
+        sharing: None,
+        receipts: false,
         description: b"PU:1",
     };
     asks_for(&rt, alloc, &["run"], plain)?;
@@ -126,6 +130,8 @@ fn reads_runs_without_a_plan(rt: HostRuntime) -> Result<(), Fail> {
         locks: None,
         keep: b"128",
         walk: false,
+        sharing: None,
+        receipts: false,
         description: b"-1",
     };
     asks_for(&rt, alloc, &["run", "--", "-1"], below_zero)?;
@@ -134,9 +140,21 @@ fn reads_runs_without_a_plan(rt: HostRuntime) -> Result<(), Fail> {
         locks: None,
         keep: b"128",
         walk: true,
+        sharing: None,
+        receipts: false,
         description: b"PU:2",
     };
-    asks_for(&rt, alloc, &["run", "PU:2", "--walk"], walked)
+    asks_for(&rt, alloc, &["run", "PU:2", "--walk"], walked)?;
+    let received = Running {
+        levels: b"machine",
+        locks: None,
+        keep: b"128",
+        walk: false,
+        sharing: None,
+        receipts: true,
+        description: b"PU:2",
+    };
+    asks_for(&rt, alloc, &["run", "--receipts", "PU:2"], received)
 }
 
 #[test]
@@ -157,6 +175,8 @@ fn reads_runs_with_a_plan(rt: HostRuntime) -> Result<(), Fail> {
         locks: Some(b"clh-tkt"),
         keep: b"7",
         walk: false,
+        sharing: None,
+        receipts: false,
         description: b"Core:2 PU:1",
     };
     asks_for(&rt, alloc, words, composed)?;
@@ -166,6 +186,8 @@ fn reads_runs_with_a_plan(rt: HostRuntime) -> Result<(), Fail> {
         locks: Some(b""),
         keep: b"",
         walk: true,
+        sharing: None,
+        receipts: false,
         description: b"",
     };
     asks_for(&rt, alloc, words, empty)?;
@@ -175,6 +197,8 @@ fn reads_runs_with_a_plan(rt: HostRuntime) -> Result<(), Fail> {
         locks: None,
         keep: b"a=b",
         walk: false,
+        sharing: None,
+        receipts: false,
         description: b"--walk",
     };
     asks_for(&rt, alloc, words, dashed)
@@ -284,12 +308,73 @@ fn refuses_words(rt: HostRuntime) -> Result<(), Fail> {
     refuses(&rt, rt.alloc(), &cases)
 }
 
+// Checks how the callers of a run share threads.
+fn shares<R: Abort>(
+    rt: &R,
+    alloc: Global,
+    words: &[&str],
+    threads: u32,
+    quantum: u32,
+) -> Result<(), Fail> {
+    let words = strings(alloc, words)?;
+    let Ok(
+        Asked::Run(
+            Running {
+                sharing: Some(sharing),
+                ..
+            },
+        ),
+    ) = read_words(alloc, &words)
+    else {
+        panic!(rt; "no run whose callers share threads");
+    };
+    assert_eq!(rt; sharing.threads, threads);
+    assert_eq!(rt; sharing.quantum, quantum);
+    Ok(())
+}
+
+#[test]
+fn reads_runs_whose_callers_share_threads(rt: HostRuntime) -> Result<(), Fail> {
+    let alloc = rt.alloc();
+    shares(&rt, alloc, &["run", "--threads", "1", "PU:2"], 1, 1)?;
+    shares(
+        &rt,
+        alloc,
+        &["run", "--quantum=65535", "--threads=256"],
+        256,
+        65_535,
+    )?;
+    shares(
+        &rt,
+        alloc,
+        &["run", "PU:2", "--threads", "012", "--quantum", "01"],
+        12,
+        1,
+    )
+}
+
 #[test]
 fn refuses_words_of_runs_and_drills(rt: HostRuntime) -> Result<(), Fail> {
-    let cases: [&[&str]; 20] = [
+    let cases: [&[&str]; 33] = [
+        &["run", "--quantum", "2"],
+        &["run", "--quantum=2", "PU:2"],
+        &["run", "--threads", "2", "--quantum", "0"],
+        &["run", "--threads", "2", "--quantum", "65536"],
+        &["run", "--threads", "2", "--quantum", ""],
+        &["run", "--threads", "0"],
+        &["run", "--threads", "257"],
+        &["run", "--threads", "0x2"],
+        &["run", "--threads", "+2"],
+        &["run", "--threads"],
+        &["run", "--threads", "2", "--threads", "2"],
+        &["run", "--threads", "2", "--walk"],
+        &["run", "--walk", "--threads", "2", "--quantum", "2"],
         &["run", "PU:1", "PU:1"],
         &["run", "--walk", "--walk"],
         &["run", "--walk=true"],
+        &["run", "--receipts", "--walk"],
+        &["run", "--receipts", "--receipts"],
+        &["run", "--receipts=1"],
         &["run", "--levels"],
         &["run", "--levels", "--walk"],
         &["run", "--levels", "pu", "--levels", "pu"],

@@ -1,5 +1,5 @@
 //! Laws of a counted history. Each is a function that does nothing, whose contract is the law.
-ghost use Rattle.std.specs.Thread.{IsSend};
+ghost use Rattle.std.specs.Thread.{IsSend, IsSync};
 ghost use Rattle.fresh_root.specs.contracts.fresh.Fresh.{the_row};
 ghost use Rattle.fresh_root.specs.contracts.history.History.{the_row as the_history};
 ghost use Rattle.fresh_root.specs.Laws.{MarksStand, NoReleaseWhileOut, TagsTell, WhatWasSeenIsOrdered};
@@ -44,3 +44,8 @@ pub fn histories_may_be_sent()
 {
     is_sent::<History>();
 }
+
+/// A counted history may be shared between threads.
+pub fn histories_may_be_shared()
+    ensures { IsSync the_history }
+{}

@@ -1,3 +1,4 @@
+pub mod Sent
 pub mod Items
 pub mod Places
 pub mod Tags

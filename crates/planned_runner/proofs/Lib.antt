@@ -1,2 +1,2 @@
 pub mod Raised
-pub mod Seen
+pub mod Served

@@ -1,15 +1,10 @@
--- A lock whose levels are made one below the other, and one that has all of them.
-use Rattle.std.proofs.Common.{◌≡◌, ℕ, List, ap, refl, sym, ◌∙◌, subst}
+-- A lock whose levels are made one below the other.
+use Rattle.std.proofs.Common.{◌≡◌, ℕ, List, refl, subst}
 use Rattle.lock_rules.specs.Tag.{Tag}
 use Rattle.keep_local.specs.declared.shape.Shape.{Shape}
-use Rattle.keep_local.specs.Shapes.{callers_of}
-use Rattle.keep_local.specs.States.{ShareState}
-use Rattle.lock_plan.specs.declared.kind.LockKind.{LockKind}
 use Rattle.lock_tree.specs.Made.{IsRaised}
 use Rattle.clof_compose.specs.Contexts.{Context}
 use Rattle.clof_compose.specs.Meanings.{Rest}
-use Rattle.threaded_runner.specs.Ready.{IsReady}
-use Rattle.planned_runner.specs.Runs.{MayRun}
 
 module _ {P : Type 0} {rest : P → Rest} {has : Context → Type 0} {sound : Type 0} {level count : ℕ} {tag : Tag} {shape : Shape}
     {high : Tag} {passes : List P} (lowest : ℕ) (raised : IsRaised rest has sound level count tag shape lowest high passes) where
@@ -23,22 +18,3 @@ module _ {P : Type 0} {rest : P → Rest} {has : Context → Type 0} {sound : Ty
     all = raised.all;
     fresh = raised.fresh;
   })
-
-  module _ {kinds : List LockKind} {sections : List (List ℕ)} {shares : List ShareState} (may : MayRun high shape kinds sections shares)
-    where
-      -- which is the one that the run needs
-      pub may_still : MayRun tag shape kinds sections shares
-      may_still = subst (λ (t : Tag). MayRun t shape kinds sections shares) (sym raised.tag_is) may
-
-      -- and with its lowest level it is ready
-      pub made_ready : lowest ≡ 0 → IsReady rest has sound level count tag sections passes shares
-      made_ready is =
-          let own = may_still in
-          let whole = subst (λ (n : ℕ). IsRaised rest has sound level count tag shape n high passes) is raised in
-          record {
-            sound_is = whole.sound_is;
-            lowest = whole.level_is;
-            count_is = whole.contexts.lowest refl ∙ sym (ap callers_of own.shape_is) ∙ own.dealt.callers;
-            all = whole.all;
-            dealt = own.dealt;
-          }

@@ -1,19 +1,16 @@
 //! What a run is given.
-use keep_local::{Shape, Share};
+use keep_local::Shape;
 use lock_tree::Plan;
 use std::alloc::Global;
 
 /// What a run has beside its root and its lock.
 #[derive(Drop)]
-pub(crate) struct Given<'r, S, R, G> {
+pub(crate) struct Given<'r, B, R, G> {
     pub(crate) rt: &'r R,
     pub(crate) alloc: Global,
     pub(crate) plan: &'r Plan,
     pub(crate) shape: &'r Shape,
-    /// The share of each caller.
-    pub(crate) shares: Vec<Share>,
-    pub(crate) sections: S,
-    /// Whether the callers walk.
-    pub(crate) walk: bool,
+    /// What the callers bring.
+    pub(crate) brought: B,
     pub(crate) gate: &'r G,
 }

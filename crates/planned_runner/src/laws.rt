@@ -1,5 +1,5 @@
-//! What may be shared between threads, as a law for the checker.
-ghost use Rattle.std.specs.Thread.{IsSync};
+//! What may go to another thread, or be shared with one, as laws for the checker.
+ghost use Rattle.std.specs.Thread.{IsSend, IsSync};
 ghost use Rattle.lock_rules.specs.contracts.tokens.Pass.{the_row as the_pass_row};
 ghost use Rattle.clof_compose.specs.contracts.level_tokens.LevelPass.{the_row as the_low_row};
 ghost use Rattle.clof_compose.specs.contracts.top_tokens.TopPass.{the_row as the_top_row};
@@ -8,6 +8,11 @@ use clof_compose::TopPass;
 use keep_local::receipts_are_shared;
 use lock_rules::{Pass, passes_are_shared};
 use lock_tree::LowPass;
+
+// What its type says may be sent.
+fn is_sent<T: Send>()
+    ensures { IsSend T.row }
+{}
 
 // What its type says may be shared.
 fn is_shared<T: Sync>()
@@ -30,4 +35,18 @@ pub(crate) fn top_passes_are_shared()
     passes_are_shared();
     receipts_are_shared();
     is_shared::<TopPass<Pass>>();
+}
+
+/// An idle pass of a lock of more than one level may go to another thread.
+pub(crate) fn low_passes_may_be_sent()
+    ensures { IsSend (the_low_row the_pass_row) }
+{
+    is_sent::<LowPass>();
+}
+
+/// An idle pass of a top lock may go to another thread.
+pub(crate) fn top_passes_may_be_sent()
+    ensures { IsSend (the_top_row the_pass_row) }
+{
+    is_sent::<TopPass<Pass>>();
 }

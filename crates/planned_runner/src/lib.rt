@@ -7,9 +7,18 @@
 mod commanded;
 mod given;
 mod laws;
+mod manner;
+mod marked;
+mod marked_runs;
+mod parts;
+mod plain;
 mod rising;
 mod runs;
+mod seated;
 mod shapes;
+mod shared_runs;
 mod under;
 
+pub use manner::{Manner, Sharing};
+pub use marked_runs::run_marked;
 pub use runs::run;

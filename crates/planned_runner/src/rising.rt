@@ -4,9 +4,9 @@
 //! compare, and what the checker makes of five levels is five times what it makes of one.
 ghost use Rattle.std.specs.Prelude.{◌≡◌, ◌+◌, ◌<◌, ◌≤◌, length, IfOk};
 ghost use Rattle.keep_local.specs.Shapes.{callers_of, top_of};
+ghost use Rattle.clof_compose.specs.Courses.{course_of};
 ghost use Rattle.clof_compose.specs.Roots.{IsFit, root_tag};
 ghost use Rattle.lock_tree.specs.Made.{IsRaised};
-ghost use Rattle.threaded_runner.specs.Finished.{IsFinished};
 ghost use Rattle.planned_runner.specs.Runs.{MayRun};
 
 use crate::commanded::Commanded;
@@ -24,26 +24,25 @@ use std::thread::Threads;
 /// A run under a lock of one level.
 pub(crate) fn run_flat<
     'r,
+    K: Sync,
     J: Send + Drop,
-    S: Drop,
+    B: Drop,
     F,
-    P: Commanded<TopPass<Pass>, J, S, F> + Send + Sync,
+    P: Commanded<TopPass<Pass>, K, J, B, F> + Send + Sync,
     R: Threads + Wait + Sync,
     G: Gate + Sync,
->(given: Given<'r, S, R, G>, root: Root<P>) -> Result<F, OutOfMemory>
+>(given: Given<'r, B, R, G>, root: Root<P>) -> Result<F, OutOfMemory>
     requires top { top_of given.shape.now ≡ 0 }
     requires callers { 0 < callers_of given.shape.now }
     requires fit { IsFit P.calls root }
     requires shape { root.trail.shape ≡ given.shape.now }
-    requires may { MayRun (root_tag P.tag root) given.shape.now given.plan.now.kinds (P.told given.sections) given.shares.items }
-    ensures finished { IfOk result (λ l. IsFinished (P.left l).trail (P.left l).journal) }
-    ensures shape { IfOk result (λ l. (P.left l).trail.shape ≡ given.entry.shape.now) }
-    ensures sections { IfOk result (λ l. (P.left l).journal.sections ≡ P.told given.entry.sections) }
+    requires may { MayRun (root_tag P.tag root) given.shape.now given.plan.now.kinds P.dealt given.brought }
+    ensures { IfOk result (P.left (course_of (root_tag P.tag root))) }
 {
     passes_are_shared();
     match make_top_of::<P>(given.alloc, given.plan, root, given.shape, 0) {
         Ok((lock, passes)) => {
-            run_under::<TopPass<Pass>, J, S, F, P, R, TopOf<P>, G>(given, lock, passes)
+            run_under::<TopPass<Pass>, K, J, B, F, P, R, TopOf<P>, G>(given, lock, passes)
         }
         Err(_) => Err(OutOfMemory),
     }
@@ -52,29 +51,28 @@ pub(crate) fn run_flat<
 /// A run under a lock of two to five levels.
 pub(crate) fn run_deep<
     'r,
+    K: Sync,
     J: Send + Drop,
-    S: Drop,
+    B: Drop,
     F,
-    P: Commanded<LowPass, J, S, F> + Send + Sync,
+    P: Commanded<LowPass, K, J, B, F> + Send + Sync,
     R: Threads + Wait + Sync,
     G: Gate + Sync,
->(given: Given<'r, S, R, G>, root: Root<P>, top: u32) -> Result<F, OutOfMemory>
+>(given: Given<'r, B, R, G>, root: Root<P>, top: u32) -> Result<F, OutOfMemory>
     requires top { top_of given.shape.now ≡ top }
     requires some { 0 < top }
     requires most { top ≤ 4 }
     requires callers { 0 < callers_of given.shape.now }
     requires fit { IsFit P.calls root }
     requires shape { root.trail.shape ≡ given.shape.now }
-    requires may { MayRun (root_tag P.tag root) given.shape.now given.plan.now.kinds (P.told given.sections) given.shares.items }
-    ensures finished { IfOk result (λ l. IsFinished (P.left l).trail (P.left l).journal) }
-    ensures shape { IfOk result (λ l. (P.left l).trail.shape ≡ given.entry.shape.now) }
-    ensures sections { IfOk result (λ l. (P.left l).journal.sections ≡ P.told given.entry.sections) }
+    requires may { MayRun (root_tag P.tag root) given.shape.now given.plan.now.kinds P.dealt given.brought }
+    ensures { IfOk result (P.left (course_of (root_tag P.tag root))) }
 {
     passes_are_shared();
     top_passes_are_shared();
     match make_top_of::<P>(given.alloc, given.plan, root, given.shape, top) {
         Ok((lock, passes)) => {
-            with_second::<J, S, F, P, TopOf<P>, R, G>(given, lock, passes, top - 1)
+            with_second::<K, J, B, F, P, TopOf<P>, R, G>(given, lock, passes, top - 1)
         }
         Err(_) => Err(OutOfMemory),
     }
@@ -83,14 +81,15 @@ pub(crate) fn run_deep<
 // A run under a lock with a second level below this one, and with as many more as lie below it.
 fn with_second<
     'r,
+    K: Sync,
     J: Send + Drop,
-    S: Drop,
+    B: Drop,
     F,
-    P: Commanded<LowPass, J, S, F> + Send + Sync,
+    P: Commanded<LowPass, K, J, B, F> + Send + Sync,
     H: Composed<P> + Sync + Drop,
     R: Threads + Wait + Sync,
     G: Gate + Sync,
->(given: Given<'r, S, R, G>, high: H, passes: Vec<H::Pass>, level: u32) -> Result<F, OutOfMemory>
+>(given: Given<'r, B, R, G>, high: H, passes: Vec<H::Pass>, level: u32) -> Result<F, OutOfMemory>
 where
     H::Pass: Send + Sync,
     H::Queue: Send,
@@ -98,12 +97,10 @@ where
     H::Leave: Send,
     requires raised { IsRaised H.Pass.rest (H.has high) (H.sound high) (H.level high) (H.count high) (H.tag high) given.shape.now
         (level + 1) (H.tag high) passes.items }
-    requires may { MayRun (H.tag high) given.shape.now given.plan.now.kinds (P.told given.sections) given.shares.items }
+    requires may { MayRun (H.tag high) given.shape.now given.plan.now.kinds P.dealt given.brought }
     requires level { level < top_of given.shape.now }
     requires most { level < 4 }
-    ensures finished { IfOk result (λ l. IsFinished (P.left l).trail (P.left l).journal) }
-    ensures shape { IfOk result (λ l. (P.left l).trail.shape ≡ given.entry.shape.now) }
-    ensures sections { IfOk result (λ l. (P.left l).journal.sections ≡ P.told given.entry.sections) }
+    ensures { IfOk result (P.left (course_of (H.tag high))) }
 {
     passes_are_shared();
     low_passes_are_shared();
@@ -111,9 +108,9 @@ where
     match add_below::<P, H>(given.alloc, kind, given.shape, level, high, passes) {
         Ok((lock, passes)) => {
             if level == 0 {
-                run_under::<LowPass, J, S, F, P, R, LevelOver<P, H>, G>(given, lock, passes)
+                run_under::<LowPass, K, J, B, F, P, R, LevelOver<P, H>, G>(given, lock, passes)
             } else {
-                with_third::<J, S, F, P, LevelOver<P, H>, R, G>(given, lock, passes, level - 1)
+                with_third::<K, J, B, F, P, LevelOver<P, H>, R, G>(given, lock, passes, level - 1)
             }
         }
         Err(_) => Err(OutOfMemory),
@@ -123,14 +120,15 @@ where
 // The same with a third level.
 fn with_third<
     'r,
+    K: Sync,
     J: Send + Drop,
-    S: Drop,
+    B: Drop,
     F,
-    P: Commanded<LowPass, J, S, F> + Send + Sync,
+    P: Commanded<LowPass, K, J, B, F> + Send + Sync,
     H: Composed<P> + Sync + Drop,
     R: Threads + Wait + Sync,
     G: Gate + Sync,
->(given: Given<'r, S, R, G>, high: H, passes: Vec<H::Pass>, level: u32) -> Result<F, OutOfMemory>
+>(given: Given<'r, B, R, G>, high: H, passes: Vec<H::Pass>, level: u32) -> Result<F, OutOfMemory>
 where
     H::Pass: Send + Sync,
     H::Queue: Send,
@@ -138,12 +136,10 @@ where
     H::Leave: Send,
     requires raised { IsRaised H.Pass.rest (H.has high) (H.sound high) (H.level high) (H.count high) (H.tag high) given.shape.now
         (level + 1) (H.tag high) passes.items }
-    requires may { MayRun (H.tag high) given.shape.now given.plan.now.kinds (P.told given.sections) given.shares.items }
+    requires may { MayRun (H.tag high) given.shape.now given.plan.now.kinds P.dealt given.brought }
     requires level { level < top_of given.shape.now }
     requires most { level < 3 }
-    ensures finished { IfOk result (λ l. IsFinished (P.left l).trail (P.left l).journal) }
-    ensures shape { IfOk result (λ l. (P.left l).trail.shape ≡ given.entry.shape.now) }
-    ensures sections { IfOk result (λ l. (P.left l).journal.sections ≡ P.told given.entry.sections) }
+    ensures { IfOk result (P.left (course_of (H.tag high))) }
 {
     passes_are_shared();
     low_passes_are_shared();
@@ -151,9 +147,9 @@ where
     match add_below::<P, H>(given.alloc, kind, given.shape, level, high, passes) {
         Ok((lock, passes)) => {
             if level == 0 {
-                run_under::<LowPass, J, S, F, P, R, LevelOver<P, H>, G>(given, lock, passes)
+                run_under::<LowPass, K, J, B, F, P, R, LevelOver<P, H>, G>(given, lock, passes)
             } else {
-                with_fourth::<J, S, F, P, LevelOver<P, H>, R, G>(given, lock, passes, level - 1)
+                with_fourth::<K, J, B, F, P, LevelOver<P, H>, R, G>(given, lock, passes, level - 1)
             }
         }
         Err(_) => Err(OutOfMemory),
@@ -163,14 +159,15 @@ where
 // The same with a fourth level.
 fn with_fourth<
     'r,
+    K: Sync,
     J: Send + Drop,
-    S: Drop,
+    B: Drop,
     F,
-    P: Commanded<LowPass, J, S, F> + Send + Sync,
+    P: Commanded<LowPass, K, J, B, F> + Send + Sync,
     H: Composed<P> + Sync + Drop,
     R: Threads + Wait + Sync,
     G: Gate + Sync,
->(given: Given<'r, S, R, G>, high: H, passes: Vec<H::Pass>, level: u32) -> Result<F, OutOfMemory>
+>(given: Given<'r, B, R, G>, high: H, passes: Vec<H::Pass>, level: u32) -> Result<F, OutOfMemory>
 where
     H::Pass: Send + Sync,
     H::Queue: Send,
@@ -178,12 +175,10 @@ where
     H::Leave: Send,
     requires raised { IsRaised H.Pass.rest (H.has high) (H.sound high) (H.level high) (H.count high) (H.tag high) given.shape.now
         (level + 1) (H.tag high) passes.items }
-    requires may { MayRun (H.tag high) given.shape.now given.plan.now.kinds (P.told given.sections) given.shares.items }
+    requires may { MayRun (H.tag high) given.shape.now given.plan.now.kinds P.dealt given.brought }
     requires level { level < top_of given.shape.now }
     requires most { level < 2 }
-    ensures finished { IfOk result (λ l. IsFinished (P.left l).trail (P.left l).journal) }
-    ensures shape { IfOk result (λ l. (P.left l).trail.shape ≡ given.entry.shape.now) }
-    ensures sections { IfOk result (λ l. (P.left l).journal.sections ≡ P.told given.entry.sections) }
+    ensures { IfOk result (P.left (course_of (H.tag high))) }
 {
     passes_are_shared();
     low_passes_are_shared();
@@ -191,9 +186,9 @@ where
     match add_below::<P, H>(given.alloc, kind, given.shape, level, high, passes) {
         Ok((lock, passes)) => {
             if level == 0 {
-                run_under::<LowPass, J, S, F, P, R, LevelOver<P, H>, G>(given, lock, passes)
+                run_under::<LowPass, K, J, B, F, P, R, LevelOver<P, H>, G>(given, lock, passes)
             } else {
-                with_fifth::<J, S, F, P, LevelOver<P, H>, R, G>(given, lock, passes, level - 1)
+                with_fifth::<K, J, B, F, P, LevelOver<P, H>, R, G>(given, lock, passes, level - 1)
             }
         }
         Err(_) => Err(OutOfMemory),
@@ -203,14 +198,15 @@ where
 // The same with a fifth level, which is the lowest.
 fn with_fifth<
     'r,
+    K: Sync,
     J: Send + Drop,
-    S: Drop,
+    B: Drop,
     F,
-    P: Commanded<LowPass, J, S, F> + Send + Sync,
+    P: Commanded<LowPass, K, J, B, F> + Send + Sync,
     H: Composed<P> + Sync + Drop,
     R: Threads + Wait + Sync,
     G: Gate + Sync,
->(given: Given<'r, S, R, G>, high: H, passes: Vec<H::Pass>, level: u32) -> Result<F, OutOfMemory>
+>(given: Given<'r, B, R, G>, high: H, passes: Vec<H::Pass>, level: u32) -> Result<F, OutOfMemory>
 where
     H::Pass: Send + Sync,
     H::Queue: Send,
@@ -218,19 +214,17 @@ where
     H::Leave: Send,
     requires raised { IsRaised H.Pass.rest (H.has high) (H.sound high) (H.level high) (H.count high) (H.tag high) given.shape.now
         (level + 1) (H.tag high) passes.items }
-    requires may { MayRun (H.tag high) given.shape.now given.plan.now.kinds (P.told given.sections) given.shares.items }
+    requires may { MayRun (H.tag high) given.shape.now given.plan.now.kinds P.dealt given.brought }
     requires level { level < top_of given.shape.now }
     requires most { level ≡ 0 }
-    ensures finished { IfOk result (λ l. IsFinished (P.left l).trail (P.left l).journal) }
-    ensures shape { IfOk result (λ l. (P.left l).trail.shape ≡ given.entry.shape.now) }
-    ensures sections { IfOk result (λ l. (P.left l).journal.sections ≡ P.told given.entry.sections) }
+    ensures { IfOk result (P.left (course_of (H.tag high))) }
 {
     passes_are_shared();
     low_passes_are_shared();
     let kind = kind_at(given.plan, level);
     match add_below::<P, H>(given.alloc, kind, given.shape, level, high, passes) {
         Ok((lock, passes)) => {
-            run_under::<LowPass, J, S, F, P, R, LevelOver<P, H>, G>(given, lock, passes)
+            run_under::<LowPass, K, J, B, F, P, R, LevelOver<P, H>, G>(given, lock, passes)
         }
         Err(_) => Err(OutOfMemory),
     }

@@ -1,10 +1,7 @@
 //! A run under a lock that is ready, of any depth.
-ghost use Rattle.std.specs.Prelude.{◌≡◌, IfOk};
+ghost use Rattle.std.specs.Prelude.{◌≡◌, ℕ, IfOk};
 ghost use Rattle.clof_compose.specs.Courses.{course_of};
-ghost use Rattle.threaded_runner.specs.Crews.{IsCrew};
-ghost use Rattle.threaded_runner.specs.Finished.{IsFinished};
-ghost use Rattle.threaded_runner.specs.Jobs.{HasServed, MayServe};
-ghost use Rattle.threaded_runner.specs.Ready.{IsReady};
+ghost use Rattle.planned_runner.specs.Runs.{IsSet};
 
 use crate::commanded::{Commanded, Dealt, Served};
 use crate::given::Given;
@@ -12,121 +9,96 @@ use clof_compose::{Composed, Resting};
 use lock_threads::{Works, by_all};
 use out_of_memory::OutOfMemory;
 use placed_runner::Gate;
+use std::alloc::Global;
 use std::marker::PhantomData;
 use std::sync::Wait;
 use std::thread::Threads;
-use threaded_runner::Crew;
 
-/// What each thread needs: they share the lock and the gate by plain borrows.
+/// What each thread needs: they share the lock, the gate and the floor by plain borrows.
 #[derive(Drop)]
-struct Shift<'b, P, R, C, G> {
+struct Shift<'b, P, R, C, G, K> {
     rt: &'b R,
     lock: &'b C,
     gate: &'b G,
+    floor: &'b K,
     payload: PhantomData<P>,
 }
 
-impl<'b, Q: Resting, J, P: Served<Q, J>, R: Wait, C: Composed<P, Pass = Q>, G: Gate> Works<J>
-    for Shift<'b, P, R, C, G> {
-    // the pass and the share are those of one caller of this lock, and the commands are what its section has left
-    ghost allows = { λ s j. MayServe Q.rest (C.has s.lock.now) (C.level s.lock.now) (C.tag s.lock.now) (C.sound s.lock.now) (P.seen j) };
+impl<'b, Q: Resting, K, J, P: Served<Q, K, J>, R: Wait, C: Composed<P, Pass = Q>, G: Gate> Works<J>
+    for Shift<'b, P, R, C, G, K> {
+    // a thread may do this job
+    ghost allows = { λ s j. P.may (C.has s.lock.now) (C.level s.lock.now) (C.tag s.lock.now) (C.sound s.lock.now) s.floor.now j };
 
-    // and the same come back, with all turns made unless the caller stopped
-    ghost gives = { λ _ j k. HasServed Q.rest (P.seen j) (P.seen k) };
+    // and this comes of it
+    ghost gives = { λ s j k. P.did (C.has s.lock.now) (C.level s.lock.now) (C.tag s.lock.now) s.floor.now j k };
 
     fn work(&self, job: J) -> J {
-        P::serve::<C, G, R>(self.rt, self.lock, self.gate, job)
+        P::serve::<C, G, R>(self.rt, self.lock, self.gate, self.floor, job)
     }
 }
 
-// Has each caller give its commands in a thread of its own.
+// Has the callers give their commands, in threads where they need some.
 fn run_threads<
-    'r,
     Q: Resting + Send,
+    K: Sync,
     J: Send + Drop,
-    S: Drop,
+    B,
     F,
-    P: Commanded<Q, J, S, F> + Send + Sync,
+    P: Commanded<Q, K, J, B, F> + Send + Sync,
     R: Threads + Wait + Sync,
     C: Composed<P, Pass = Q> + Sync,
     G: Gate + Sync,
->(given: Given<'r, S, R, G>, lock: &C, passes: Vec<Q>) -> Crew<Q>
+>(rt: &R, alloc: Global, lock: &C, passes: Vec<Q>, brought: B, gate: &G) -> P::Crew
 where
     C::Queue: Send,
     C::Held: Send,
     C::Leave: Send,
-    requires { IsReady Q.rest (C.has lock.now) (C.sound lock.now) (C.level lock.now) (C.count lock.now) (C.tag lock.now)
-        (P.told given.sections) passes.items given.shares.items }
-    ensures { IsCrew Q.rest (C.has lock.now) (C.level lock.now) (C.count lock.now) (C.tag lock.now) result }
+    requires { IsSet Q.rest (C.has lock.now) (C.sound lock.now) (C.level lock.now) (C.count lock.now) (C.tag lock.now) P.dealt brought
+        passes.items }
+    ensures { P.is_crew (C.has lock.now) (C.level lock.now) (C.count lock.now) (C.tag lock.now) result }
 {
-    let Given {
-        rt,
-        alloc,
-        shares,
-        sections,
-        gate,
-        ..
-    } = given;
-    let dealt = match P::deal::<C>(alloc, lock, passes, shares, sections) {
+    let Dealt { floor, jobs, aside } = match P::deal::<C, R>(rt, alloc, lock, passes, brought) {
         Ok(dealt) => dealt,
         Err(crew) => return crew,
     };
-    let Dealt {
-        jobs,
-        passes,
-        shares,
-        stopped,
-    } = dealt;
-    let shift = Shift::<P, R, C, G> {
+    let shift = Shift::<P, R, C, G, K> {
         rt,
         lock,
         gate,
+        floor: &floor,
         payload: PhantomData,
     };
     let jobs = by_all(rt, &shift, jobs);
-    P::gather::<C>(
-        lock,
-        Dealt {
-            jobs,
-            passes,
-            shares,
-            stopped,
-        },
-    )
+    P::gather::<C, G, R>(rt, lock, gate, floor, jobs, aside)
 }
 
 /// A run under a lock that is ready, which is then taken apart.
 pub(crate) fn run_under<
     'r,
     Q: Resting + Send,
+    K: Sync,
     J: Send + Drop,
-    S: Drop,
+    B,
     F,
-    P: Commanded<Q, J, S, F> + Send + Sync,
+    P: Commanded<Q, K, J, B, F> + Send + Sync,
     R: Threads + Wait + Sync,
     C: Composed<P, Pass = Q> + Sync + Drop,
     G: Gate + Sync,
->(given: Given<'r, S, R, G>, lock: C, passes: Vec<Q>) -> Result<F, OutOfMemory>
+>(given: Given<'r, B, R, G>, lock: C, passes: Vec<Q>) -> Result<F, OutOfMemory>
 where
     C::Queue: Send,
     C::Held: Send,
     C::Leave: Send,
-    requires { IsReady Q.rest (C.has lock) (C.sound lock) (C.level lock) (C.count lock) (C.tag lock) (P.told given.sections)
-        passes.items given.shares.items }
-    ensures finished { IfOk result (λ l. IsFinished (P.left l).trail (P.left l).journal) }
-    ensures shape { IfOk result (λ l. (P.left l).trail.shape ≡ (course_of (C.tag lock)).shape) }
-    ensures sections { IfOk result (λ l. (P.left l).journal.sections ≡ P.told given.entry.sections) }
+    requires { IsSet Q.rest (C.has lock) (C.sound lock) (C.level lock) (C.count lock) (C.tag lock) P.dealt given.brought passes.items }
+    ensures { IfOk result (P.left (course_of (C.tag lock))) }
 {
-    if given.walk {
-        let Given {
-            rt,
-            alloc,
-            shares,
-            sections,
-            ..
-        } = given;
-        return P::walk::<C, R>(rt, alloc, lock, passes, shares, sections);
-    }
-    let crew = run_threads::<Q, J, S, F, P, R, C, G>(given, &lock, passes);
+    let Given {
+        rt,
+        alloc,
+        brought,
+        gate,
+        ..
+    } = given;
+    let crew = run_threads::<Q, K, J, B, F, P, R, C, G>(rt, alloc, &lock, passes, brought, gate);
     P::close::<C>(lock, crew)
 }

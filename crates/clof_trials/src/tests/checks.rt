@@ -24,7 +24,7 @@ fn pair(alloc: Global, input: &[u8], printed: &[u8]) -> Result<Vec<u8>, Fail> {
 }
 
 // Checks what the program says of a printed text.
-fn says<R: Threads + Wait + Sync + Abort>(
+pub(super) fn says<R: Threads + Wait + Sync + Abort>(
     rt: &R,
     alloc: Global,
     words: &[&str],
@@ -120,7 +120,7 @@ fn checks_a_text_of_five_levels(rt: HostRuntime) -> Result<(), Fail> {
 }
 
 // Eight callers who count together.
-fn counting(alloc: Global) -> Result<Vec<u8>, Fail> {
+pub(super) fn counting(alloc: Global) -> Result<Vec<u8>, Fail> {
     let mut input = Vec::new(alloc);
     for _ in 0..8 {
         input.extend_from_slice(

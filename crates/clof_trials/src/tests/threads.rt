@@ -11,7 +11,7 @@ const LOOKS: u64 = 10_000_000;
 
 // A gate at which the first of two callers that holds waits until the other is queued.
 #[derive(Drop)]
-struct Meeting {
+pub(super) struct Meeting {
     queued: [AtomicU32; 2],
     inside: [AtomicU32; 2],
     holds: AtomicU32,
@@ -19,13 +19,24 @@ struct Meeting {
 }
 
 impl Meeting {
-    fn new() -> Meeting {
+    pub(super) fn new() -> Meeting {
         Meeting {
             queued: [AtomicU32::new(0), AtomicU32::new(0)],
             inside: [AtomicU32::new(0), AtomicU32::new(0)],
             holds: AtomicU32::new(0),
             missed: AtomicU32::new(0),
         }
+    }
+
+    // Whether the two met, and each told once that it is queued and once that it holds.
+    pub(super) fn met(&self) -> bool {
+        let mut all = self.missed.load(Ordering::SeqCst) == 0;
+        for told in [&self.queued, &self.inside] {
+            for caller in 0..2 {
+                all = all && of(told, caller).load(Ordering::SeqCst) == 1;
+            }
+        }
+        all
     }
 }
 
@@ -86,12 +97,7 @@ fn two_callers_meet_under_two_levels(rt: HostRuntime) -> Result<(), Fail> {
     let ended = call_with(&rt, rt.alloc(), &words, input, &meeting)?;
     assert_eq!(rt; ended.status, Status::Ok);
     assert!(rt; ended.out.as_slice() == one || ended.out.as_slice() == other);
-    assert!(rt; meeting.missed.load(Ordering::SeqCst) == 0);
-    for told in [&meeting.queued, &meeting.inside] {
-        for caller in 0..2 {
-            assert!(rt; of(told, caller).load(Ordering::SeqCst) == 1);
-        }
-    }
+    assert!(rt; meeting.met());
     Ok(())
 }
 

@@ -1,20 +1,32 @@
-use Rattle.std.proofs.Common.{◌≡◌, length, map, rules, subst}
+use Rattle.std.proofs.Common.{◌≡◌, length, map, rules, subst, sym}
 use Rattle.std.proofs.lemmas.Result.{IfOk-weaker}
 use Rattle.placed_runner.specs.Printed.{IsRun}
 use Rattle.placed_runner.specs.Views.{section_view}
-use Rattle.clof_tool.proofs.Runs.{none_under, runs_under}
+use Rattle.fresh_runner.specs.Receipts.{IsMarkedRun}
+use Rattle.clof_tool.specs.Run.{PrintsRun}
+use Rattle.clof_tool.proofs.Runs.{marks_under, none_printed, runs_under}
 use Rattle.clof_tool.proofs.running.run_under.Goals as goal
 
 pub returns-then-is_empty : goal.returns-then-is_empty
 returns-then-is_empty g c =
     let none : length c.args.sections.now ≡ 0 = search rules in
-    none_under c.args.tree.now c.args.plan.now c.args.sections.now c.in_ok-shape.shape c.new.result.items c.in_ok-shape.ensures.shape
-    none c.new.ensures.items
+    none_printed c.args.asked.receipts c.args.tree.now c.args.plan.now c.args.sections.now c.in_ok-shape.shape c.new.result.items
+    c.in_ok-shape.ensures.shape none c.new.ensures.items
+
+pub returns-then-receipts : goal.returns-then-receipts
+returns-then-receipts g c =
+    let sections = c.args.sections.now in
+    IfOk-weaker c.printed_with_receipts.result _ _ (λ text is.
+    subst (λ r. PrintsRun r c.args.tree.now c.args.plan.now (map section_view sections) text.items) (sym c.if-receipts.true)
+    (marks_under c.args.tree.now c.args.plan.now sections c.in_ok-shape.shape text.items c.in_ok-shape.ensures.shape
+    (subst (λ s. IsMarkedRun (map section_view sections) s text.items) c.in_ok-made.ensures.shape is)))
+    c.printed_with_receipts.ensures.run
 
 pub returns : goal.returns
 returns g c =
     let sections = c.args.sections.now in
     IfOk-weaker c.printed.result _ _ (λ text is.
-    runs_under c.args.tree.now c.args.plan.now sections c.in_ok-shape.shape text.items c.in_ok-shape.ensures.shape
-    (subst (λ s. IsRun (map section_view sections) s text.items) c.in_ok-left.ensures.shape is))
+    subst (λ r. PrintsRun r c.args.tree.now c.args.plan.now (map section_view sections) text.items) (sym c.if-receipts.false)
+    (runs_under c.args.tree.now c.args.plan.now sections c.in_ok-shape.shape text.items c.in_ok-shape.ensures.shape
+    (subst (λ s. IsRun (map section_view sections) s text.items) c.in_ok-left.ensures.shape is)))
     c.printed.ensures.run

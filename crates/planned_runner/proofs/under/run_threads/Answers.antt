@@ -1,12 +1,9 @@
-use Rattle.threaded_runner.proofs.Served.{may_serve}
-use Rattle.planned_runner.proofs.Seen.{all_seen}
 use Rattle.planned_runner.proofs.under.run_threads.Goals as goal
 
-pub by_all-jobs-requires-clause-allowed : goal.by_all-jobs-requires-clause-allowed
-by_all-jobs-requires-clause-allowed g c κs within = λ k j e.
-    may_serve _ _ _ _ _ c.requires.sound_is c.requires.lowest k _ (c.in-Ok.ensures.each k j e)
-
-pub gather-requires-clause-each : goal.gather-requires-clause-each
-gather-requires-clause-each g c =
-    all_seen _ _ _ _ g.P.Served.seen c.in-Ok.dealt.jobs.items c.by_all-jobs.result.items c.by_all-jobs.ensures.many
-    c.in-Ok.ensures.each c.by_all-jobs.ensures.each
+pub gather-requires-clause-did : goal.gather-requires-clause-did
+gather-requires-clause-did g c = record {
+  before = c.in-Ok.dealt.jobs;
+  open_is = c.in-Ok.ensures.opened;
+  many = c.by_all-jobs.ensures.many;
+  each = c.by_all-jobs.ensures.each;
+}

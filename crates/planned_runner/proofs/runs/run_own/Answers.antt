@@ -1,7 +1,8 @@
 use Rattle.std.proofs.Common.{◌≡◌, ◌∙◌, ap, arith}
+use Rattle.std.proofs.lemmas.Result.{IfOk-weaker}
 use Rattle.lock_tree.proofs.Levels.{shape_named}
 use Rattle.threaded_runner.specs.Books.{book_tag}
-use Rattle.planned_runner.proofs.runs.run.Goals as goal
+use Rattle.planned_runner.proofs.runs.run_own.Goals as goal
 
 pub run_flat-requires-clause-may : goal.run_flat-requires-clause-may
 run_flat-requires-clause-may g c κs within =
@@ -11,7 +12,7 @@ run_flat-requires-clause-may g c κs within =
       few = omega (arith, c.requires.few, c.requires.callers);
       shape_is = shape_named book_tag c.in_ok-root.root c.args.shape.now same;
       kinds_each = c.requires.plan;
-      dealt = c.in_ok-root.ensures.dealt;
+      dealt_is = c.in_ok-root.ensures.dealt;
     }
 
 pub run_deep-requires-clause-may : goal.run_deep-requires-clause-may
@@ -22,5 +23,17 @@ run_deep-requires-clause-may g c κs within =
       few = omega (arith, c.requires.few, c.requires.callers);
       shape_is = shape_named book_tag c.in_ok-root.root c.args.shape.now same;
       kinds_each = c.requires.plan;
-      dealt = c.in_ok-root.ensures.dealt;
+      dealt_is = c.in_ok-root.ensures.dealt;
     }
+
+pub returns-then-top-eq0-clause-shape : goal.returns-then-top-eq0-clause-shape
+returns-then-top-eq0-clause-shape g c =
+    let same : c.in_ok-root.root.trail.shape ≡ c.args.shape.now = ap (λ t. t.shape) c.in_ok-root.ensures.trail ∙ c.in_ok-copied.ensures in
+    IfOk-weaker c.run_flat.result _ _ (λ left is. is.shape_is ∙ shape_named book_tag c.in_ok-root.root c.args.shape.now same)
+    c.run_flat.ensures
+
+pub returns-else-top-eq0-clause-shape : goal.returns-else-top-eq0-clause-shape
+returns-else-top-eq0-clause-shape g c =
+    let same : c.in_ok-root.root.trail.shape ≡ c.args.shape.now = ap (λ t. t.shape) c.in_ok-root.ensures.trail ∙ c.in_ok-copied.ensures in
+    IfOk-weaker c.run_deep.result _ _ (λ left is. is.shape_is ∙ shape_named book_tag c.in_ok-root.root c.args.shape.now same)
+    c.run_deep.ensures

@@ -1,0 +1,4 @@
+pub mod Rolls
+pub mod Seated
+pub mod Sitting
+pub mod Crossing

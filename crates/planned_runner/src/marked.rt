@@ -1,0 +1,146 @@
+//! Callers who give their commands to a journal and keep receipts of their turns, on threads.
+ghost use Rattle.std.specs.Prelude.{◌≡◌, ◌≤◌, ℕ, [], length, map, slice_get, vec_capacity, IfErr, IfOk, Some};
+ghost use Rattle.keep_local.specs.Shapes.{callers_of};
+ghost use Rattle.clof_compose.specs.Courses.{course_of};
+ghost use Rattle.cohort_runner.specs.Runs.{HaveSat};
+ghost use Rattle.fresh_runner.specs.Crews.{AreEmptied, IsFreshCrew};
+ghost use Rattle.fresh_runner.specs.Jobs.{IsFreshJob, IsFreshServed};
+ghost use Rattle.fresh_runner.specs.Ready.{IsFreshDealt};
+ghost use Rattle.planned_runner.specs.Runs.{AreDealt, IsLeftMarked, IsSet};
+ghost use Rattle.planned_runner.specs.declared.marked.FreshBrought.{FreshBrought as TheBrought};
+
+use crate::commanded::{Commanded, Dealt, Served};
+use clof_compose::{Composed, Resting};
+use fresh_root::Seen;
+use fresh_runner::{
+    FreshBook, FreshCrew, FreshJob, FreshPrepared, Lists, Marked, close_fresh, fresh_crew_of,
+    prepare_fresh, serve_fresh,
+};
+use keep_local::Share;
+use out_of_memory::OutOfMemory;
+use placed_runner::{Gate, Section};
+use std::alloc::Global;
+use std::sync::Wait;
+
+/// What the callers of a run bring: their shares, their tokens and their sections, in order.
+#[derive(Drop)]
+pub(crate) struct FreshBrought<'s, 'a> {
+    pub(crate) shares: Vec<Share>,
+    pub(crate) seens: Vec<Seen>,
+    pub(crate) sections: &'s [Section<'a>],
+}
+
+/// Empty lists with room for what comes back of all callers.
+#[derive(Drop)]
+pub(crate) struct FreshLists<Q> {
+    pub(crate) lists: Lists<Q>,
+    pub(crate) stopped: Vec<bool>,
+}
+
+impl<'a, Q: Resting> Served<Q, (), FreshJob<'a, Q>> for FreshBook<'a> {
+    // the job is that of a caller of this lock
+    ghost may = { λ has level tag sound _ j. sound × (level ≡ 0) × ((number : ℕ) × IsFreshJob Q.rest has level tag number j) };
+
+    // and it comes back as its caller brings it
+    ghost did = { λ has level tag _ j k. (number : ℕ) → IsFreshJob Q.rest has level tag number j
+        → IsFreshServed Q.rest has level tag number k };
+
+    fn serve<C: Composed<FreshBook<'a>, Pass = Q>, G: Gate, R: Wait>(
+        rt: &R,
+        lock: &C,
+        gate: &G,
+        _floor: &(),
+        job: FreshJob<'a, Q>,
+    ) -> FreshJob<'a, Q> {
+        serve_fresh(rt, lock, gate, job)
+    }
+}
+
+impl<'s, 'a, Q: Resting> Commanded<Q, (), FreshJob<'a, Q>, FreshBrought<'s, 'a>, Marked<'a>>
+    for FreshBook<'a> {
+    type Aside = FreshLists<Q>;
+
+    type Crew = FreshCrew<Q>;
+
+    ghost dealt = { λ course brought. IsFreshDealt course (map (λ section. section.bytes.now) brought.sections.now) brought.shares.items
+        brought.seens.items };
+
+    ghost is_open = { λ has level count tag _ jobs aside. AreDealt (IsFreshJob Q.rest has level tag) count
+        (AreEmptied count aside.lists × (aside.stopped.items ≡ []) × (count ≤ vec_capacity aside.stopped)) jobs.items };
+
+    ghost is_crew = { IsFreshCrew Q.rest };
+
+    ghost left = { IsLeftMarked };
+
+    fn deal<C: Composed<FreshBook<'a>, Pass = Q>, R: Wait>(
+        _rt: &R,
+        alloc: Global,
+        lock: &C,
+        passes: Vec<Q>,
+        brought: FreshBrought<'s, 'a>,
+    ) -> Result<Dealt<(), FreshJob<'a, Q>, FreshLists<Q>>, FreshCrew<Q>>
+        requires set { IsSet Q.rest (C.has lock.now) (C.sound lock.now) (C.level lock.now) (C.count lock.now) (C.tag lock.now)
+            (λ course b. IsFreshDealt course (map (λ section. section.bytes.now) b.sections.now) b.shares.items b.seens.items) brought
+            passes.items }
+        ensures opened { IfOk result (λ made. AreDealt (IsFreshJob Q.rest (C.has lock.now) (C.level lock.now) (C.tag lock.now))
+            (C.count lock.now) (AreEmptied (C.count lock.now) made.aside.lists × (made.aside.stopped.items ≡ [])
+            × (C.count lock.now ≤ vec_capacity made.aside.stopped)) made.jobs.items) }
+        ensures may { IfOk result (λ made. (k : ℕ) (j : _) → slice_get made.jobs.items k ≡ Some j → C.sound lock.now
+            × (C.level lock.now ≡ 0) × ((number : ℕ) × IsFreshJob Q.rest (C.has lock.now) (C.level lock.now) (C.tag lock.now) number j)) }
+        ensures crew { IfErr result (IsFreshCrew Q.rest (C.has lock.now) (C.level lock.now) (C.count lock.now) (C.tag lock.now)) }
+    {
+        let FreshBrought {
+            shares,
+            seens,
+            sections,
+        } = brought;
+        match prepare_fresh(alloc, lock, passes, shares, seens, sections) {
+            Ok(
+                FreshPrepared {
+                    jobs,
+                    lists,
+                    stopped,
+                },
+            ) => Ok(Dealt {
+                floor: (),
+                jobs,
+                aside: FreshLists { lists, stopped },
+            }),
+            Err(crew) => Err(crew),
+        }
+    }
+
+    fn gather<C: Composed<FreshBook<'a>, Pass = Q>, G: Gate, R: Wait>(
+        _rt: &R,
+        lock: &C,
+        _gate: &G,
+        _floor: (),
+        jobs: Vec<FreshJob<'a, Q>>,
+        aside: FreshLists<Q>,
+    ) -> FreshCrew<Q>
+        requires sound { C.sound lock.now }
+        requires lowest { C.level lock.now ≡ 0 }
+        requires did { HaveSat (λ before. AreDealt (IsFreshJob Q.rest (C.has lock.now) (C.level lock.now) (C.tag lock.now))
+            (C.count lock.now) (AreEmptied (C.count lock.now) aside.lists × (aside.stopped.items ≡ [])
+            × (C.count lock.now ≤ vec_capacity aside.stopped)) before.items)
+            (λ j k. (number : ℕ) → IsFreshJob Q.rest (C.has lock.now) (C.level lock.now) (C.tag lock.now) number j
+            → IsFreshServed Q.rest (C.has lock.now) (C.level lock.now) (C.tag lock.now) number k) jobs }
+        ensures { IsFreshCrew Q.rest (C.has lock.now) (C.level lock.now) (C.count lock.now) (C.tag lock.now) result }
+    {
+        fresh_crew_of(lock, jobs, aside.lists, aside.stopped)
+    }
+
+    fn close<C: Composed<FreshBook<'a>, Pass = Q> + Drop>(
+        lock: C,
+        crew: FreshCrew<Q>,
+    ) -> Result<Marked<'a>, OutOfMemory>
+        requires sound { C.sound lock }
+        requires crew { IsFreshCrew Q.rest (C.has lock) (C.level lock) (C.count lock) (C.tag lock) crew }
+        requires count { C.count lock ≡ callers_of (course_of (C.tag lock)).shape }
+        requires some { (b : TheBrought) × IsFreshDealt (course_of (C.tag lock)) (map (λ section. section.bytes.now) b.sections.now) b.shares.items
+            b.seens.items }
+        ensures { IfOk result (IsLeftMarked (course_of (C.tag lock))) }
+    {
+        close_fresh(lock, crew)
+    }
+}

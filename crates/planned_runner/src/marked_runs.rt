@@ -1,0 +1,87 @@
+//! Runs whose callers keep receipts of their turns.
+ghost use Rattle.std.specs.Prelude.{◌≡◌, ◌+◌, ◌<◌, ◌≤◌, ◌^◌, length, map, sum_by, IfOk};
+ghost use Rattle.keep_local.specs.Shapes.{IsWellFormed, callers_of, top_of};
+ghost use Rattle.keep_local.specs.States.{callers_in};
+ghost use Rattle.placed_runner.specs.Sections.{caller_limit};
+ghost use Rattle.threaded_runner.specs.Finished.{IsFinished};
+ghost use Rattle.fresh_runner.specs.Marked.{AreMarked};
+
+use crate::given::Given;
+use crate::marked::FreshBrought;
+use crate::rising::{run_deep, run_flat};
+use crate::shapes::copied;
+use clof_compose::TopPass;
+use fresh_runner::{
+    FreshBook, FreshJob, Marked, fresh_books_may_be_sent, fresh_books_may_be_shared, fresh_root_of,
+};
+use keep_local::Shape;
+use lock_rules::Pass;
+use lock_tree::{LowPass, Plan};
+use out_of_memory::OutOfMemory;
+use placed_runner::{Gate, Section};
+use std::alloc::Global;
+use std::sync::Wait;
+use std::thread::Threads;
+
+/// Has the callers of these sections give their commands under the lock of a plan with a shape, each in a thread of its own. It gives what
+/// they leave, and the numbers of each caller's turns, which its token told it. Without memory for the lock or the run, or for a command in
+/// it, nothing is given. A gate is told of each hold.
+pub fn run_marked<'a, R: Threads + Wait + Sync, G: Gate + Sync>(
+    rt: &R,
+    alloc: Global,
+    plan: &Plan,
+    shape: &Shape,
+    sections: &[Section<'a>],
+    gate: &G,
+) -> Result<Marked<'a>, OutOfMemory>
+    requires plan { length plan.now.kinds ≡ top_of shape.now + 1 }
+    requires levels { top_of shape.now < 5 }
+    requires formed { IsWellFormed shape.now }
+    requires callers { callers_of shape.now ≡ length sections.now }
+    requires some { 0 < length sections.now }
+    requires few { length sections.now ≤ caller_limit }
+    requires small { sum_by (λ section. length section.bytes.now) sections.now < 2 ^ 32 }
+    ensures finished { IfOk result (λ made. IsFinished made.left.trail made.left.journal) }
+    ensures shape { IfOk result (λ made. made.left.trail.shape ≡ shape.now) }
+    ensures sections { IfOk result (λ made. made.left.journal.sections ≡ map (λ section. section.bytes.now) sections.now) }
+    ensures marks { IfOk result (λ made. AreMarked (callers_in made.left.trail.closed) (length sections.now) made.marks.items) }
+{
+    fresh_books_may_be_sent();
+    fresh_books_may_be_shared();
+    let (root, shares, seens) = fresh_root_of(alloc, sections, copied(alloc, shape)?)?;
+    let brought = FreshBrought {
+        shares,
+        seens,
+        sections,
+    };
+    let given = Given {
+        rt,
+        alloc,
+        plan,
+        shape,
+        brought,
+        gate,
+    };
+    let top = plan.kinds.as_slice().len() - 1;
+    if top == 0 {
+        run_flat::<
+            (),
+            FreshJob<'a, TopPass<Pass>>,
+            FreshBrought<'_, 'a>,
+            Marked<'a>,
+            FreshBook<'a>,
+            R,
+            G,
+        >(given, root)
+    } else {
+        run_deep::<
+            (),
+            FreshJob<'a, LowPass>,
+            FreshBrought<'_, 'a>,
+            Marked<'a>,
+            FreshBook<'a>,
+            R,
+            G,
+        >(given, root, top as u32)
+    }
+}

@@ -1,0 +1,145 @@
+//! Callers who give their commands to a journal, on threads or as a walk.
+ghost use Rattle.std.specs.Prelude.{◌≡◌, ◌≤◌, ℕ, [], length, map, slice_get, IfErr, IfOk, Some};
+ghost use Rattle.keep_local.specs.Shapes.{callers_of};
+ghost use Rattle.clof_compose.specs.Courses.{course_of};
+ghost use Rattle.cohort_runner.specs.Runs.{HaveSat};
+ghost use Rattle.threaded_runner.specs.Crews.{HasRoom, IsCrew};
+ghost use Rattle.threaded_runner.specs.Jobs.{IsJob, IsServed};
+ghost use Rattle.threaded_runner.specs.Ready.{IsDealt};
+ghost use Rattle.planned_runner.specs.Runs.{AreDealt, IsLeft, IsSet};
+ghost use Rattle.planned_runner.specs.declared.plain.Brought.{Brought as TheBrought};
+
+use crate::commanded::{Commanded, Dealt, Served};
+use clof_compose::{Composed, Resting};
+use keep_local::Share;
+use out_of_memory::OutOfMemory;
+use placed_runner::{Gate, Section};
+use std::alloc::Global;
+use std::sync::Wait;
+use threaded_runner::{Book, Crew, Finished, Job, Prepared, close_run, crew_of, prepare, serve};
+use walked_runner::run_walk;
+
+/// What the callers of a run bring: their shares and their sections, in order, and whether they walk.
+#[derive(Drop)]
+pub(crate) struct Brought<'s, 'a> {
+    pub(crate) shares: Vec<Share>,
+    pub(crate) sections: &'s [Section<'a>],
+    pub(crate) walk: bool,
+}
+
+/// Empty lists with room for what comes back of all callers.
+#[derive(Drop)]
+pub(crate) struct Lists<Q> {
+    pub(crate) passes: Vec<Q>,
+    pub(crate) shares: Vec<Share>,
+    pub(crate) stopped: Vec<bool>,
+}
+
+impl<'a, Q: Resting> Served<Q, (), Job<'a, Q>> for Book<'a> {
+    // the job is that of a caller of this lock
+    ghost may = { λ has level tag sound _ j. sound × (level ≡ 0) × ((number : ℕ) × IsJob Q.rest has level tag number j) };
+
+    // and it comes back as its caller brings it
+    ghost did = { λ has level tag _ j k. (number : ℕ) → IsJob Q.rest has level tag number j → IsServed Q.rest has level tag number k };
+
+    fn serve<C: Composed<Book<'a>, Pass = Q>, G: Gate, R: Wait>(
+        rt: &R,
+        lock: &C,
+        gate: &G,
+        _floor: &(),
+        job: Job<'a, Q>,
+    ) -> Job<'a, Q> {
+        serve(rt, lock, gate, job)
+    }
+}
+
+impl<'s, 'a, Q: Resting> Commanded<Q, (), Job<'a, Q>, Brought<'s, 'a>, Finished<'a>> for Book<'a> {
+    type Aside = Lists<Q>;
+
+    type Crew = Crew<Q>;
+
+    ghost dealt = { λ course brought. IsDealt course (map (λ section. section.bytes.now) brought.sections.now) brought.shares.items };
+
+    ghost is_open = { λ has level count tag _ jobs aside. AreDealt (IsJob Q.rest has level tag) count
+        (HasRoom count aside.passes aside.shares aside.stopped) jobs.items };
+
+    ghost is_crew = { IsCrew Q.rest };
+
+    ghost left = { IsLeft };
+
+    fn deal<C: Composed<Book<'a>, Pass = Q>, R: Wait>(
+        rt: &R,
+        alloc: Global,
+        lock: &C,
+        passes: Vec<Q>,
+        brought: Brought<'s, 'a>,
+    ) -> Result<Dealt<(), Job<'a, Q>, Lists<Q>>, Crew<Q>>
+        requires set { IsSet Q.rest (C.has lock.now) (C.sound lock.now) (C.level lock.now) (C.count lock.now) (C.tag lock.now)
+            (λ course b. IsDealt course (map (λ section. section.bytes.now) b.sections.now) b.shares.items) brought passes.items }
+        ensures opened { IfOk result (λ made. AreDealt (IsJob Q.rest (C.has lock.now) (C.level lock.now) (C.tag lock.now)) (C.count lock.now)
+            (HasRoom (C.count lock.now) made.aside.passes made.aside.shares made.aside.stopped) made.jobs.items) }
+        ensures may { IfOk result (λ made. (k : ℕ) (j : _) → slice_get made.jobs.items k ≡ Some j → C.sound lock.now
+            × (C.level lock.now ≡ 0) × ((number : ℕ) × IsJob Q.rest (C.has lock.now) (C.level lock.now) (C.tag lock.now) number j)) }
+        ensures crew { IfErr result (IsCrew Q.rest (C.has lock.now) (C.level lock.now) (C.count lock.now) (C.tag lock.now)) }
+    {
+        let Brought {
+            shares,
+            sections,
+            walk,
+        } = brought;
+        if walk {
+            return Err(run_walk(rt, alloc, lock, passes, shares, sections));
+        }
+        match prepare(alloc, lock, passes, shares, sections) {
+            Ok(
+                Prepared {
+                    jobs,
+                    passes,
+                    shares,
+                    stopped,
+                },
+            ) => Ok(Dealt {
+                floor: (),
+                jobs,
+                aside: Lists {
+                    passes,
+                    shares,
+                    stopped,
+                },
+            }),
+            Err(crew) => Err(crew),
+        }
+    }
+
+    fn gather<C: Composed<Book<'a>, Pass = Q>, G: Gate, R: Wait>(
+        _rt: &R,
+        lock: &C,
+        _gate: &G,
+        _floor: (),
+        jobs: Vec<Job<'a, Q>>,
+        aside: Lists<Q>,
+    ) -> Crew<Q>
+        requires sound { C.sound lock.now }
+        requires lowest { C.level lock.now ≡ 0 }
+        requires did { HaveSat (λ before. AreDealt (IsJob Q.rest (C.has lock.now) (C.level lock.now) (C.tag lock.now)) (C.count lock.now)
+            (HasRoom (C.count lock.now) aside.passes aside.shares aside.stopped) before.items)
+            (λ j k. (number : ℕ) → IsJob Q.rest (C.has lock.now) (C.level lock.now) (C.tag lock.now) number j
+            → IsServed Q.rest (C.has lock.now) (C.level lock.now) (C.tag lock.now) number k) jobs }
+        ensures { IsCrew Q.rest (C.has lock.now) (C.level lock.now) (C.count lock.now) (C.tag lock.now) result }
+    {
+        crew_of(lock, jobs, aside.passes, aside.shares, aside.stopped)
+    }
+
+    fn close<C: Composed<Book<'a>, Pass = Q> + Drop>(
+        lock: C,
+        crew: Crew<Q>,
+    ) -> Result<Finished<'a>, OutOfMemory>
+        requires sound { C.sound lock }
+        requires crew { IsCrew Q.rest (C.has lock) (C.level lock) (C.count lock) (C.tag lock) crew }
+        requires count { C.count lock ≡ callers_of (course_of (C.tag lock)).shape }
+        requires some { (b : TheBrought) × IsDealt (course_of (C.tag lock)) (map (λ section. section.bytes.now) b.sections.now) b.shares.items }
+        ensures { IfOk result (IsLeft (course_of (C.tag lock))) }
+    {
+        close_run(lock, crew)
+    }
+}

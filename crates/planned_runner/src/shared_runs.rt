@@ -1,0 +1,86 @@
+//! Runs whose callers share threads.
+ghost use Rattle.std.specs.Prelude.{◌≡◌, ◌+◌, ◌<◌, ◌≤◌, ◌^◌, length, map, sum_by, IfOk};
+ghost use Rattle.keep_local.specs.Shapes.{IsWellFormed, callers_of, top_of};
+ghost use Rattle.placed_runner.specs.Sections.{caller_limit};
+ghost use Rattle.threaded_runner.specs.Finished.{IsFinished};
+
+use crate::given::Given;
+use crate::laws::{low_passes_may_be_sent, top_passes_may_be_sent};
+use crate::manner::Sharing;
+use crate::rising::{run_deep, run_flat};
+use crate::seated::{Room, Waiting};
+use crate::shapes::{copied, homes};
+use clof_compose::TopPass;
+use cohort_desks::Desk;
+use cohort_runner::Caller;
+use keep_local::Shape;
+use lock_rules::Pass;
+use lock_tree::{LowPass, Plan};
+use out_of_memory::OutOfMemory;
+use placed_runner::{Gate, Section};
+use std::alloc::Global;
+use std::sync::Wait;
+use std::thread::Threads;
+use threaded_runner::{Book, Finished, root_of};
+
+/// The run of `runs` whose callers share threads.
+pub(crate) fn run_shared<'a, R: Threads + Wait + Sync, G: Gate + Sync>(
+    rt: &R,
+    alloc: Global,
+    plan: &Plan,
+    shape: &Shape,
+    sections: &[Section<'a>],
+    sharing: Sharing,
+    gate: &G,
+) -> Result<Finished<'a>, OutOfMemory>
+    requires plan { length plan.now.kinds ≡ top_of shape.now + 1 }
+    requires levels { top_of shape.now < 5 }
+    requires formed { IsWellFormed shape.now }
+    requires callers { callers_of shape.now ≡ length sections.now }
+    requires some { 0 < length sections.now }
+    requires few { length sections.now ≤ caller_limit }
+    requires small { sum_by (λ section. length section.bytes.now) sections.now < 2 ^ 32 }
+    ensures finished { IfOk result (λ left. IsFinished left.trail left.journal) }
+    ensures shape { IfOk result (λ left. left.trail.shape ≡ shape.now) }
+    ensures sections { IfOk result (λ left. left.journal.sections ≡ map (λ section. section.bytes.now) sections.now) }
+{
+    top_passes_may_be_sent();
+    low_passes_may_be_sent();
+    let (root, shares) = root_of(alloc, sections, copied(alloc, shape)?)?;
+    let brought = Waiting {
+        shares,
+        sections,
+        homes: homes(alloc, shape)?,
+        sharing,
+    };
+    let given = Given {
+        rt,
+        alloc,
+        plan,
+        shape,
+        brought,
+        gate,
+    };
+    let top = plan.kinds.as_slice().len() - 1;
+    if top == 0 {
+        run_flat::<
+            Room<'a, TopPass<Pass>>,
+            Desk<Caller<'a, TopPass<Pass>>>,
+            Waiting<'_, 'a>,
+            Finished<'a>,
+            Book<'a>,
+            R,
+            G,
+        >(given, root)
+    } else {
+        run_deep::<
+            Room<'a, LowPass>,
+            Desk<Caller<'a, LowPass>>,
+            Waiting<'_, 'a>,
+            Finished<'a>,
+            Book<'a>,
+            R,
+            G,
+        >(given, root, top as u32)
+    }
+}
