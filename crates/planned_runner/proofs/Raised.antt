@@ -1,4 +1,4 @@
--- A lock whose levels are made one below the other, and one that has all of them.
+-- A lock that has all of its levels.
 use Rattle.std.proofs.Common.{◌≡◌, ℕ, List, ap, refl, sym, ◌∙◌, subst}
 use Rattle.lock_rules.specs.Tag.{Tag}
 use Rattle.keep_local.specs.declared.shape.Shape.{Shape}
@@ -13,17 +13,6 @@ use Rattle.planned_runner.specs.Runs.{MayRun}
 
 module _ {P : Type 0} {rest : P → Rest} {has : Context → Type 0} {sound : Type 0} {level count : ℕ} {tag : Tag} {shape : Shape}
     {high : Tag} {passes : List P} (lowest : ℕ) (raised : IsRaised rest has sound level count tag shape lowest high passes) where
-  -- it stands by the tag of its own root
-  pub risen : (same : ℕ) → lowest ≡ same → IsRaised rest has sound level count tag shape same tag passes
-  risen same is = subst (λ (n : ℕ). IsRaised rest has sound level count tag shape n tag passes) is (record {
-    sound_is = raised.sound_is;
-    level_is = raised.level_is;
-    tag_is = refl;
-    contexts = raised.contexts;
-    all = raised.all;
-    fresh = raised.fresh;
-  })
-
   module _ {kinds : List LockKind} {sections : List (List ℕ)} {shares : List ShareState} (may : MayRun high shape kinds sections shares)
     where
       -- which is the one that the run needs

@@ -6,7 +6,6 @@
 
 mod commanded;
 mod given;
-mod laws;
 mod rising;
 mod runs;
 mod shapes;
