@@ -29,8 +29,6 @@ mod kinds;
 mod laws;
 mod lock;
 mod steps;
-#[cfg(test)]
-mod tests;
 
 pub use kinds::{FetchAndStoreTail, LoadTail, LoadWatched, StoreGranted, StorePending};
 pub use laws::{ClhWords, rule_has_nodes};

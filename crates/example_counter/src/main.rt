@@ -5,9 +5,9 @@ ghost use Rattle.std.specs.Prelude.{◌≡◌};
 ghost use Rattle.lock_rules.specs.Passes.{IsOf};
 
 use anyhow::Context;
+use lock_harness::{apart, by_four};
 use lock_rules::{Basic, Pass, Placed, Plain};
 use lock_threads::Works;
-use lock_trials::{apart, by_four};
 use std::alloc::Global;
 use std::sync::Wait;
 use std::thread::Threads;

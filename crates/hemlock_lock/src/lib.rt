@@ -27,8 +27,6 @@ mod laws;
 mod leave;
 mod lock;
 mod steps;
-#[cfg(test)]
-mod tests;
 
 pub use kinds::{
     ClearPredecessorGrant, ExchangeTail, LoadGrant, LoadPredecessorGrant, LoadTail, StoreGrant,

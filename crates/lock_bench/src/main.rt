@@ -8,7 +8,7 @@
 use anyhow::{Context, bail};
 use clh_lock::Clh;
 use hemlock_lock::Hemlock;
-use lock_trials::{BoundedCount, count_alone, count_by_four, count_by_two};
+use lock_harness::{BoundedCount, count_alone, count_by_four, count_by_two};
 use mcs_lock::Mcs;
 use std::env;
 use std::sync::atomic::{AtomicU64, Ordering};

@@ -9,8 +9,7 @@ mod any_lock;
 mod depths;
 mod has_kinds;
 mod kinds;
-#[cfg(test)]
-mod tests;
+mod laws;
 mod tiers;
 
 pub use any_leave::AnyLeave;
@@ -18,5 +17,8 @@ pub use any_lock::AnyLock;
 pub use depths::{Lock1, Lock2, Lock3, Lock4, Lock5, make_1, make_2, make_3, make_4, make_5};
 pub use has_kinds::HasKinds;
 pub use kinds::Kinds;
+pub use laws::{
+    low_passes_are_shared, low_passes_may_be_sent, top_passes_are_shared, top_passes_may_be_sent,
+};
 pub use lock_plan::{LockKind, Plan};
 pub use tiers::{LevelOver, LowPass, Owned, TopOf, add_below, kind_at, make_top_of};

@@ -33,8 +33,6 @@ mod laws;
 mod leave;
 mod lock;
 mod steps;
-#[cfg(test)]
-mod tests;
 
 pub use kinds::{
     CompareAndSwapTail, FetchAndStoreTail, LoadLocked, LoadNext, LoadTail, StoreLocked, StoreNext,

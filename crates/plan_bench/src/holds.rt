@@ -4,12 +4,12 @@ ghost use Rattle.keep_local.specs.Shapes.{callers_of, top_of};
 
 use crate::quotas::equal_quotas;
 use keep_local::Shape;
-use level_trials::{Roll, shape_of};
+use level_harness::{Roll, shape_of};
 use lock_tree::LockKind;
 use std::alloc::Global;
 use std::sync::Wait;
 use std::thread::Threads;
-use tree_trials::{Outcome, Trial, try_lock};
+use tree_harness::{Outcome, Trial, try_lock};
 
 /// Up to four callers hold a lock of these kinds, each in a thread of its own and equally often. The answer is `None` for
 /// want of memory, where the holds are 2^32 or more in all, and where there is no level, more than five, or no caller.

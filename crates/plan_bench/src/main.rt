@@ -13,7 +13,7 @@ use crate::holds::hold;
 use crate::kinds::read_kinds;
 use anyhow::{Context, bail};
 use std::env;
-use tree_trials::{End, Outcome};
+use tree_harness::{End, Outcome};
 
 fn main(rt: HostRuntime) -> anyhow::Result<()> {
     let mut words = env::args(&rt)?;

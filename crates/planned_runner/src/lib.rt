@@ -6,7 +6,6 @@
 
 mod commanded;
 mod given;
-mod laws;
 mod manner;
 mod marked;
 mod marked_runs;

@@ -5,7 +5,6 @@ ghost use Rattle.placed_runner.specs.Sections.{caller_limit};
 ghost use Rattle.threaded_runner.specs.Finished.{IsFinished};
 
 use crate::given::Given;
-use crate::laws::{low_passes_may_be_sent, top_passes_may_be_sent};
 use crate::manner::Sharing;
 use crate::rising::{run_deep, run_flat};
 use crate::seated::{Room, Waiting};
@@ -15,7 +14,7 @@ use cohort_desks::Desk;
 use cohort_runner::Caller;
 use keep_local::Shape;
 use lock_rules::Pass;
-use lock_tree::{LowPass, Plan};
+use lock_tree::{LowPass, Plan, low_passes_may_be_sent, top_passes_may_be_sent};
 use out_of_memory::OutOfMemory;
 use placed_runner::{Gate, Section};
 use std::alloc::Global;

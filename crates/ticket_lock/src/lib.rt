@@ -22,8 +22,6 @@ mod kinds;
 mod laws;
 mod lock;
 mod steps;
-#[cfg(test)]
-mod tests;
 
 pub use kinds::{AddNext, LoadNext, LoadServing, StoreServing};
 pub use laws::{TicketWords, rule_has_distances};

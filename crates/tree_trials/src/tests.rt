@@ -1,19 +1,20 @@
 //! What the tests share.
 ghost use Rattle.std.specs.Prelude.{◌≡◌, ◌+◌, ◌^◌, ◌<◌, length, sum};
 
+mod any_lock;
 mod made;
 mod steps;
 mod threads;
 mod walks;
 
-use crate::{End, Outcome, Trial, try_lock};
 use clof_compose::Root;
 use keep_local::{Turn, is_lawful};
-use level_trials::{Roll, Stood, shape_of};
+use level_harness::{Roll, Stood, shape_of};
 use lock_tree::LockKind;
 use std::alloc::Global;
 use std::sync::Wait;
 use std::thread::Threads;
+use tree_harness::{End, Outcome, Trial, try_lock};
 
 /// What a lock is made of: the kinds of the levels, the paths of the callers, the keeps of the levels below the top, and how many turns
 /// each caller makes.

@@ -1,9 +1,9 @@
 //! Callers in threads of their own. In which order they come is up to the machine.
 use super::{Setting, is_of_its_turns, tried};
-use crate::Trial;
 use clof_compose::Root;
-use level_trials::Roll;
+use level_harness::Roll;
 use lock_tree::LockKind::{Clh, Hem, Mcs, Tkt};
+use tree_harness::Trial;
 
 /// How often each thread holds the lock.
 const HOLDS: u32 = 1000;

@@ -1,8 +1,8 @@
 //! The turns of walks, in their order, by hand and by the plain model in bench/walk_model.py.
 use super::{Setting, has_turns, tried, turn};
-use crate::Trial;
 use keep_local::Turn;
 use lock_tree::LockKind::{self, Clh, Hem, Mcs, Tkt};
+use tree_harness::Trial;
 
 #[test]
 fn two_callers_take_turns_at_one_level(rt: HostRuntime) {

@@ -1,6 +1,0 @@
-use Rattle.std.proofs.Common.{◌≡◌, take}
-use Rattle.level_trials.proofs.shapes.copy_of.Given as goal
-
--- the paths so far
-abbrev pub invariant-loop-path : goal.invariant-loop-path
-invariant-loop-path l = l.paths.items ≡ take l.path-index l.shape.paths

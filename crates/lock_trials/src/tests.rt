@@ -1,0 +1,5 @@
+//! The tests, lock by lock.
+mod clh;
+mod hemlock;
+mod mcs;
+mod ticket;

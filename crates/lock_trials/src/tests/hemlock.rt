@@ -1,0 +1,75 @@
+//! Tests of `hemlock_lock`.
+use hemlock_lock::Hemlock;
+use lock_harness::Told::{Got, No, Not, Yes};
+use lock_harness::{Call, HOLDS, Parcel, START, carry_out, first, hold_by_four, second};
+use lock_rules::Basic;
+
+#[test]
+fn two_passes_take_turns(rt: HostRuntime) {
+    let moves = [
+        first(Call::Begin),
+        second(Call::Begin),
+        second(Call::Poll),
+        first(Call::Waiter),
+        first(Call::BeginRelease),
+        first(Call::PollRelease),
+        second(Call::Poll),
+        first(Call::PollRelease),
+        second(Call::Waiter),
+        second(Call::BeginRelease),
+    ];
+    let Some(outcome) = carry_out::<Hemlock<Parcel>>(rt.alloc(), (), &moves) else {
+        panic!(rt; "the script was not carried out")
+    };
+    let told = [Got, Not, Not, Yes, Not, Not, Got, Got, No, Got];
+    assert!(rt; outcome.told.as_slice() == told.as_slice());
+    assert!(rt; outcome.count == START);
+}
+
+#[test]
+fn a_parked_value_is_handed_over(rt: HostRuntime) {
+    let moves = [
+        first(Call::Begin),
+        second(Call::Begin),
+        first(Call::Use),
+        first(Call::BeginRelease),
+        second(Call::Poll),
+        second(Call::Use),
+        second(Call::BeginRelease),
+        first(Call::PollRelease),
+    ];
+    let Some(outcome) = carry_out::<Hemlock<Parcel>>(rt.alloc(), (), &moves) else {
+        panic!(rt; "the script was not carried out")
+    };
+    let told = [Got, Not, Yes, Not, Got, No, Got, Got];
+    assert!(rt; outcome.told.as_slice() == told.as_slice());
+    assert!(rt; outcome.count == START + 2);
+}
+
+#[test]
+fn four_threads_hold_in_turn(rt: HostRuntime) {
+    for parks in [false, true] {
+        let Some(parcel) = hold_by_four::<Hemlock<Parcel>, _>(&rt, rt.alloc(), (), HOLDS, parks)
+        else {
+            panic!(rt; "there was no memory")
+        };
+        assert!(rt; parcel.count == 4 * u64::from(HOLDS));
+        assert!(rt; parcel.parkings == parcel.unparkings);
+    }
+}
+
+#[test]
+fn passes_are_made_or_the_value_comes_back(rt: HostRuntime) {
+    for passes in [1, 4096] {
+        match Hemlock::make(rt.alloc(), (), passes, Parcel::new(START)) {
+            Ok((lock, list)) => {
+                assert!(rt; list.len() == passes as usize);
+                assert!(rt; lock.close(list).count == START);
+            }
+            Err(refused) => {
+                assert!(rt; refused.value.count == START);
+                panic!(rt; "there was no memory")
+            }
+        }
+    }
+}

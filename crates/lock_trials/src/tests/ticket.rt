@@ -1,0 +1,133 @@
+//! Tests of `ticket_lock`.
+use lock_harness::Told::{Got, No, Not, Yes};
+use lock_harness::{
+    BoundedCount, Call, HOLDS, Parcel, START, Slow, carry_out, count_alone, count_by_four,
+    count_by_two, first, hold_alone, hold_by_four, hold_by_two, second,
+};
+use lock_rules::Basic;
+use ticket_lock::Ticket;
+
+#[test]
+fn two_passes_take_turns(rt: HostRuntime) {
+    let moves = [
+        first(Call::Begin),
+        first(Call::Poll),
+        second(Call::Begin),
+        second(Call::Poll),
+        first(Call::Waiter),
+        first(Call::BeginRelease),
+        second(Call::Poll),
+        second(Call::Waiter),
+        second(Call::BeginRelease),
+    ];
+    let Some(outcome) = carry_out::<Ticket<Parcel>>(rt.alloc(), (), &moves) else {
+        panic!(rt; "the script was not carried out")
+    };
+    let told = [Not, Got, Not, Not, Yes, Got, Got, No, Got];
+    assert!(rt; outcome.told.as_slice() == told.as_slice());
+    assert!(rt; outcome.count == START);
+}
+
+#[test]
+fn a_parked_value_is_handed_over(rt: HostRuntime) {
+    let moves = [
+        first(Call::Begin),
+        first(Call::Poll),
+        second(Call::Begin),
+        first(Call::Waiter),
+        first(Call::Park),
+        first(Call::BeginRelease),
+        second(Call::Poll),
+        second(Call::Unpark),
+        second(Call::Waiter),
+        second(Call::BeginRelease),
+    ];
+    let Some(outcome) = carry_out::<Ticket<Parcel>>(rt.alloc(), (), &moves) else {
+        panic!(rt; "the script was not carried out")
+    };
+    let told = [Not, Got, Not, Yes, Got, Got, Got, Yes, No, Got];
+    assert!(rt; outcome.told.as_slice() == told.as_slice());
+    assert!(rt; outcome.count == START);
+}
+
+#[test]
+fn a_holder_parks_where_another_waits(rt: HostRuntime) {
+    let moves = [
+        first(Call::Begin),
+        first(Call::Poll),
+        second(Call::Begin),
+        first(Call::Use),
+        first(Call::BeginRelease),
+        second(Call::Poll),
+        second(Call::Use),
+        second(Call::BeginRelease),
+    ];
+    let Some(outcome) = carry_out::<Ticket<Parcel>>(rt.alloc(), (), &moves) else {
+        panic!(rt; "the script was not carried out")
+    };
+    let told = [Not, Got, Not, Yes, Got, Got, No, Got];
+    assert!(rt; outcome.told.as_slice() == told.as_slice());
+    assert!(rt; outcome.count == START + 2);
+}
+
+// `acquire` and `release` wait as long as it takes
+#[test]
+fn a_hold_may_take_millions_of_polls(rt: HostRuntime) {
+    let polls = 1_000_001;
+    let Some(parcel) = hold_alone::<Slow<Ticket<Parcel>>, _>(&rt, rt.alloc(), ((), polls), 1) else {
+        panic!(rt; "there was no memory")
+    };
+    assert!(rt; parcel.count == 1);
+}
+
+#[test]
+fn four_threads_hold_in_turn(rt: HostRuntime) {
+    for parks in [false, true] {
+        let Some(parcel) = hold_by_four::<Ticket<Parcel>, _>(&rt, rt.alloc(), (), HOLDS, parks)
+        else {
+            panic!(rt; "there was no memory")
+        };
+        assert!(rt; parcel.count == 4 * u64::from(HOLDS));
+        assert!(rt; parcel.parkings == parcel.unparkings);
+    }
+}
+
+#[test]
+fn passes_are_made_or_the_value_comes_back(rt: HostRuntime) {
+    for passes in [1, 4096] {
+        match Ticket::make(rt.alloc(), (), passes, Parcel::new(START)) {
+            Ok((lock, list)) => {
+                assert!(rt; list.len() == passes as usize);
+                assert!(rt; lock.close(list).count == START);
+            }
+            Err(refused) => {
+                assert!(rt; refused.value.count == START);
+                panic!(rt; "there was no memory")
+            }
+        }
+    }
+}
+
+#[test]
+fn every_hold_is_made(rt: HostRuntime) {
+    let holds = u64::from(HOLDS);
+    let Some(alone) = hold_alone::<Ticket<Parcel>, _>(&rt, rt.alloc(), (), HOLDS) else {
+        panic!(rt; "there was no memory")
+    };
+    assert!(rt; alone.count == holds);
+    let Some(by_two) = hold_by_two::<Ticket<Parcel>, _>(&rt, rt.alloc(), (), HOLDS) else {
+        panic!(rt; "there was no memory")
+    };
+    assert!(rt; by_two.count == 2 * holds);
+}
+
+#[test]
+fn every_count_is_made(rt: HostRuntime) {
+    let holds = u64::from(HOLDS);
+    let alone = count_alone::<Ticket<BoundedCount>, _>(&rt, rt.alloc(), (), HOLDS);
+    assert!(rt; alone == Some(holds));
+    let by_two = count_by_two::<Ticket<BoundedCount>, _>(&rt, rt.alloc(), (), HOLDS);
+    assert!(rt; by_two == Some(2 * holds));
+    let by_four = count_by_four::<Ticket<BoundedCount>, _>(&rt, rt.alloc(), (), HOLDS);
+    assert!(rt; by_four == Some(4 * holds));
+}

@@ -1,0 +1,16 @@
+//! Trials of the locks that `lock_tree` makes: a lock is made for a plan's kinds and a shape of callers, who then walk over it on one
+//! thread or hold it in threads of their own, or it is closed again at once.
+#![tactic(auto)]
+
+mod given;
+mod outcome;
+mod rising;
+mod start;
+mod trials;
+mod tried;
+mod under;
+
+pub use given::Trial;
+pub use outcome::{End, Outcome};
+pub use start::{Start, make_start};
+pub use trials::try_lock;
