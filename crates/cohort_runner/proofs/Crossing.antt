@@ -1,8 +1,9 @@
--- What a caller that waits needs to go to another thread, and what threads have before them to be shared, over a pass of any type.
+-- What a caller that waits needs to go to another thread, and what threads have before them, as a part of a struct, to be shared, over a
+-- pass of any type.
 use denote.Ref.{NamedLft}
 use denote.RattleType.{RattleType}
 use denote.Struct.Declared.{shape}
-use denote.Param.Send.{IsSend, IsSync, recorded_send, recorded_sync, sendable, struct_send, struct_sync, view_send}
+use denote.Param.Send.{IsSend, IsSync, recorded_send, sendable, struct_send, struct_sync, view_send}
 use Rattle.std.proofs.Crossing.{crosses}
 use Rattle.clof_compose.specs.declared.token.Resting.{Ghosts}
 use Rattle.cohort_queue.proofs.Crossing.{cohort_shared}
@@ -18,9 +19,8 @@ caller_sent life Q g pass =
     (struct_send (shape (inside.the_type life Q g)) (the_field_send life Q pass, (search (sendable, crosses) depth 20, tt))) in
     view_send (inside.the_row life Q g) _ _ _ _ fields
 
-pub floor_shared : (life : NamedLft) (Q : RattleType) (g : Ghosts Q.Denot) → IsSend Q → IsSync (Floor.the_row life Q g)
+pub floor_shared : (life : NamedLft) (Q : RattleType) (g : Ghosts Q.Denot) → IsSend Q → IsSync (Floor.the_field life Q g).row
 floor_shared life Q g pass =
     let caller = caller_sent life Q g pass in
-    recorded_sync _ _ _ (Floor.the_type life Q g).to_one
-    (struct_sync (shape (Floor.the_type life Q g))
-    (search (sendable, crosses) depth 20, (search (sendable, crosses, cohort_shared, caller) depth 30 fits 20000, tt)))
+    struct_sync (shape (Floor.the_type life Q g))
+    (search (sendable, crosses) depth 20, (search (sendable, crosses, cohort_shared, caller) depth 30 fits 20000, tt))

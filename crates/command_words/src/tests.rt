@@ -355,7 +355,7 @@ fn reads_runs_whose_callers_share_threads(rt: HostRuntime) -> Result<(), Fail> {
 
 #[test]
 fn refuses_words_of_runs_and_drills(rt: HostRuntime) -> Result<(), Fail> {
-    let cases: [&[&str]; 33] = [
+    let cases: [&[&str]; 36] = [
         &["run", "--quantum", "2"],
         &["run", "--quantum=2", "PU:2"],
         &["run", "--threads", "2", "--quantum", "0"],

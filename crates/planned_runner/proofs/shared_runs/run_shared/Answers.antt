@@ -1,12 +1,23 @@
-use denote.Param.Send.{sendable}
+use denote.Exit.{no}
+use denote.Param.Send.{arg_send, arg_sync, param_send, param_sync}
+use mir.Syntax.{named}
 use Rattle.std.proofs.Common.{◌≡◌, ◌∙◌, ap, arith, length}
 use Rattle.std.specs.Prelude.{slice_index}
 use Rattle.std.proofs.lemmas.List.{length-map}
 use Rattle.std.proofs.lemmas.Result.{IfOk-weaker}
+use Rattle.lock_rules.specs.contracts.tokens.Pass.{the_row as the_pass_row}
+use Rattle.lock_rules.specs.contracts.tokens.PassPlaced.TheImpl as placed
+use Rattle.clof_compose.specs.contracts.level_tokens.LevelPass.{the_row as the_low_row}
+use Rattle.clof_compose.specs.contracts.level_tokens.LevelPassResting.TheImpl as low_resting
+use Rattle.clof_compose.specs.contracts.top_tokens.TopPass.{the_row as the_top_row}
+use Rattle.clof_compose.specs.contracts.top_tokens.TopPassResting.TheImpl as top_resting
+use Rattle.clof_compose.specs.declared.token.Resting as resting
 use Rattle.lock_tree.proofs.Levels.{shape_named}
 use Rattle.cohort_desks.proofs.Crossing.{desk_sent}
-use Rattle.cohort_runner.proofs.Crossing.{caller_sent, floor_shared}
+use Rattle.cohort_runner.proofs.Crossing.{caller_sent}
+use Rattle.cohort_runner.specs.contracts.caller.CallerNumbered.TheImpl as numbered
 use Rattle.threaded_runner.specs.Books.{book_tag}
+use Rattle.planned_runner.proofs.Crossing.{room_shared}
 use Rattle.planned_runner.proofs.shared_runs.run_shared.Goals as goal
 
 pub run_flat-requires-clause-may : goal.run_flat-requires-clause-may
@@ -35,25 +46,34 @@ run_deep-requires-clause-may g c κs within =
       dealt_is = (c.in_ok-root.ensures.dealt, at_home);
     }
 
+-- what the tag of an idle pass means, of a top lock and of one of more levels
+abbrev top_ghosts : resting.Ghosts (the_top_row the_pass_row).Denot
+top_ghosts = top_resting.ghosts the_pass_row placed.ghosts top_resting.no_dict top_resting.no_dict
+
+abbrev low_ghosts : resting.Ghosts (the_low_row the_pass_row).Denot
+low_ghosts = low_resting.ghosts the_pass_row placed.ghosts low_resting.no_dict low_resting.no_dict
+
 pub run_flat-requires-send-J : goal.run_flat-requires-send-J
 run_flat-requires-send-J g c κs within =
-    let pass = c.top_passes_may_be_sent.ensures in
-    search (sendable, desk_sent, caller_sent, pass) depth 30 fits 20000
+    let row = the_top_row the_pass_row in
+    let caller = caller_sent (record { mir = named 1; lft = κs.1.0 }) row top_ghosts c.top_passes_may_be_sent.ensures in
+    param_send _ _ (arg_send _ no _ (desk_sent _ (numbered.ghosts row top_ghosts numbered.no_dict numbered.no_dict) caller))
 
 pub run_flat-requires-sync-K : goal.run_flat-requires-sync-K
 run_flat-requires-sync-K g c κs within =
-    let pass = c.top_passes_may_be_sent.ensures in
-    search (sendable, floor_shared, pass) depth 30 fits 20000
+    param_sync _ _ (arg_sync _ no _
+    (room_shared (record { mir = named 1; lft = κs.1.0 }) (the_top_row the_pass_row) top_ghosts c.top_passes_may_be_sent.ensures))
 
 pub run_deep-requires-send-J : goal.run_deep-requires-send-J
 run_deep-requires-send-J g c κs within =
-    let pass = c.low_passes_may_be_sent.ensures in
-    search (sendable, desk_sent, caller_sent, pass) depth 30 fits 20000
+    let row = the_low_row the_pass_row in
+    let caller = caller_sent (record { mir = named 1; lft = κs.1.0 }) row low_ghosts c.low_passes_may_be_sent.ensures in
+    param_send _ _ (arg_send _ no _ (desk_sent _ (numbered.ghosts row low_ghosts numbered.no_dict numbered.no_dict) caller))
 
 pub run_deep-requires-sync-K : goal.run_deep-requires-sync-K
 run_deep-requires-sync-K g c κs within =
-    let pass = c.low_passes_may_be_sent.ensures in
-    search (sendable, floor_shared, pass) depth 30 fits 20000
+    param_sync _ _ (arg_sync _ no _
+    (room_shared (record { mir = named 1; lft = κs.1.0 }) (the_low_row the_pass_row) low_ghosts c.low_passes_may_be_sent.ensures))
 
 pub returns-then-top-eq0-clause-shape : goal.returns-then-top-eq0-clause-shape
 returns-then-top-eq0-clause-shape g c =
