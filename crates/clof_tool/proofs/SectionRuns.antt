@@ -109,7 +109,7 @@ same_marked printed sections one other same few low first =
 -- the same under the lock of one plan
 same_under : (receipts : Bool) (described : Description) (plan : Plan) (printed : List ℕ) (sections : List Placed)
     → IsPlanFor described plan → length sections ≤ caller_limit
-    → (first second : PrintsRun receipts described plan sections printed) → holds_in receipts first ≡ holds_in receipts second
+    → (first second : PrintsRun receipts described plan sections printed) → holds_in receipts _ _ _ _ first ≡ holds_in receipts _ _ _ _ second
 same_under false described plan printed sections planned few first second =
     let pus = map (λ (section : Placed). section.pu) sections in
     same_holds printed sections first.shape second.shape
@@ -123,20 +123,20 @@ same_under true described plan printed sections planned few first second =
 
 same_runs : (receipts : Bool) (described : Description) (plan : Plan) (printed : List ℕ) (one other : List Placed) → one ≡ other
     → IsPlanFor described plan → length one ≤ caller_limit → (first : PrintsRun receipts described plan one printed)
-    (second : PrintsRun receipts described plan other printed) → holds_in receipts first ≡ holds_in receipts second
+    (second : PrintsRun receipts described plan other printed) → holds_in receipts _ _ _ _ first ≡ holds_in receipts _ _ _ _ second
 same_runs receipts described plan printed one other same planned few first =
     subst (λ (sections : List Placed). (second : PrintsRun receipts described plan sections printed)
-    → holds_in receipts first ≡ holds_in receipts second) same
+    → holds_in receipts _ _ _ _ first ≡ holds_in receipts _ _ _ _ second) same
     (λ second. same_under receipts described plan printed one planned few first second)
 
 -- and the same of an input
 same_prints : (receipts : Bool) (described : Description) (input printed : List ℕ) (one other : Plan) → one ≡ other
     → IsPlanFor described one → (first : PrintsUnder receipts described one input printed)
     (second : PrintsUnder receipts described other input printed)
-    → holds_in receipts first.runs ≡ holds_in receipts second.runs
+    → holds_in receipts _ _ _ _ first.runs ≡ holds_in receipts _ _ _ _ second.runs
 same_prints receipts described input printed one other same planned first =
     subst (λ (plan : Plan). (second : PrintsUnder receipts described plan input printed)
-    → holds_in receipts first.runs ≡ holds_in receipts second.runs) same
+    → holds_in receipts _ _ _ _ first.runs ≡ holds_in receipts _ _ _ _ second.runs) same
     (λ second. same_runs receipts described one printed first.sections second.sections
     (sections_same described input first.sections second.sections first.are second.are) planned
     (few_sections described input first.sections first.are) first.runs second.runs)
@@ -144,10 +144,10 @@ same_prints receipts described input printed one other same planned first =
 -- what is asked for on a topology tells one list of holds
 same_sections : (asked : Running) (input printed : List ℕ) (one other : Description) → one ≡ other
     → (first : PrintsSections one asked input printed) (second : PrintsSections other asked input printed)
-    → holds_in asked.receipts first.prints.runs ≡ holds_in asked.receipts second.prints.runs
+    → holds_in asked.receipts _ _ _ _ first.prints.runs ≡ holds_in asked.receipts _ _ _ _ second.prints.runs
 same_sections asked input printed one other same first =
     subst (λ (described : Description). (second : PrintsSections described asked input printed)
-    → holds_in asked.receipts first.prints.runs ≡ holds_in asked.receipts second.prints.runs) same
+    → holds_in asked.receipts _ _ _ _ first.prints.runs ≡ holds_in asked.receipts _ _ _ _ second.prints.runs) same
     (λ second. same_prints asked.receipts one input printed first.plan second.plan
     (plan_same one asked first.plan second.plan first.plan_is second.plan_is)
     (plan_is_for one asked.locks asked.keep first.plan first.plan_is.levels_are first.plan_is.kinds_are first.plan_is.keeps_are)

@@ -14,7 +14,7 @@ use Rattle.clof_tool.specs.Outcome.{IsAnswer, InputRefused}
 abbrev pub OneHistory : Type 0
 OneHistory =
     (asked : Running) (input printed : List ℕ) (one other : IsAnswer (Run asked) input printed)
-    → holds_in asked.receipts one.1.holds.prints.runs ≡ holds_in asked.receipts other.1.holds.prints.runs
+    → holds_in asked.receipts _ _ _ _ one.1.holds.prints.runs ≡ holds_in asked.receipts _ _ _ _ other.1.holds.prints.runs
 
 -- at most one refusal fits what is asked for and an input
 abbrev pub OneRefusal : Type 0

@@ -48,10 +48,10 @@ PrintsRun false described plan sections printed = RunsUnder described plan secti
 PrintsRun true described plan sections printed = MarksUnder described plan sections printed
 
 -- the holds of which it is the text
-abbrev pub holds_in : {described : Description} {plan : Plan} {sections : List Placed} {printed : List ℕ} (receipts : Bool)
+abbrev pub holds_in : (receipts : Bool) (described : Description) (plan : Plan) (sections : List Placed) (printed : List ℕ)
     → PrintsRun receipts described plan sections printed → List Hold
-holds_in false runs = runs.run.holds
-holds_in true marks = marks.marked.run.holds
+holds_in false described plan sections printed runs = runs.run.holds
+holds_in true described plan sections printed marks = marks.marked.run.holds
 
 -- the input is some sections on a topology, and what is printed is the text of a run of these under the lock of a plan, with receipts where
 -- they are asked for

@@ -36,7 +36,7 @@ pub(crate) fn run_text<R: Threads + Wait + Sync, G: Gate + Sync>(
 ) -> Result<Vec<u8>, Status>
     requires plan { IsPlanFor tree.now plan.now }
     requires input { length input.now ≤ input_limit }
-    ensures ok { IfOk result (λ printed. PrintsUnder asked.receipts tree.now plan.now input.now printed.items) }
+    ensures ok { IfOk result (λ printed. PrintsUnder asked.entry.receipts tree.now plan.now input.now printed.items) }
     ensures err { IfErr result (λ status. (status ≡ Status.OutOfMemory) ⊎ RefusesSections tree.now input.now status) }
     ensures early { IfErr result EndsEarly }
     ensures refused { (status : AnyStatus) → RefusesSections tree.now input.now status →
@@ -69,7 +69,7 @@ fn run_under<R: Threads + Wait + Sync, G: Gate + Sync>(
     requires pus { All (λ section. section.pu < pu_count tree.now) sections.now }
     requires few { length sections.now ≤ caller_limit }
     requires small { sum_by (λ section. length section.bytes.now) sections.now < 2 ^ 32 }
-    ensures { IfOk result (λ printed. PrintsRun asked.receipts tree.now plan.now (map section_view sections.now) printed.items) }
+    ensures { IfOk result (λ printed. PrintsRun asked.entry.receipts tree.now plan.now (map section_view sections.now) printed.items) }
 {
     let shape = shape_for(alloc, tree, plan, sections)?;
     if sections.is_empty() {

@@ -99,7 +99,7 @@ fn served<R: Threads + Wait + Sync, S: Source, G: Gate + Sync>(
     requires plan { IsPlanFor tree.now plan.now }
     ensures answer { IfOk result (λ printed. (input : List ℕ)
         × WasRead (S.left source.old) (S.given source.old) (S.given source.new) input
-        × (length input ≤ input_limit) × PrintsUnder asked.receipts tree.now plan.now input printed.items) }
+        × (length input ≤ input_limit) × PrintsUnder asked.entry.receipts tree.now plan.now input printed.items) }
     ensures at_end { OnOk result (IsDrained (S.left source.old) (S.left source.new)) }
     ensures cause { IfErr result (λ status. IsRefusal status →
         Found (S.left source.old) (S.given source.old) (S.given source.new) status tree.now) }

@@ -137,8 +137,8 @@ impl<'s, 'a, Q: Resting> Commanded<Q, (), FreshJob<'a, Q>, FreshBrought<'s, 'a>,
         requires sound { C.sound lock }
         requires crew { IsFreshCrew Q.rest (C.has lock) (C.level lock) (C.count lock) (C.tag lock) crew }
         requires count { C.count lock ≡ callers_of (course_of (C.tag lock)).shape }
-        requires some { (b : TheBrought) × IsFreshDealt (course_of (C.tag lock)) (map (λ section. section.bytes.now) b.sections.now) b.shares.items
-            b.seens.items }
+        requires some { (b : TheBrought) × IsFreshDealt (course_of (C.tag lock)) (map (λ section. section.bytes.now) b.sections.now)
+            b.shares.items b.seens.items }
         ensures { IfOk result (IsLeftMarked (course_of (C.tag lock))) }
     {
         close_fresh(lock, crew)

@@ -22,7 +22,8 @@ pub(crate) fn parted<'a, C: Composed<Book<'a>>>(
     ensures opened { IsOpen C.Pass.rest (C.has _lock.now) (C.level _lock.now) (C.count _lock.now) (C.tag _lock.now)
         (run_of result.floor.floor result.jobs result.aside) }
     ensures may { (i : ℕ) (d : _) → slice_get result.jobs.items i ≡ Some d → MaySit (C.has _lock.now) (C.level _lock.now)
-        (C.tag _lock.now) (C.sound _lock.now) (contexts_of C.Pass.rest result.floor.floor.roll.told.value.items) result.floor.floor.cohorts.items d }
+        (C.tag _lock.now) (C.sound _lock.now) (contexts_of C.Pass.rest result.floor.floor.roll.told.value.items)
+        result.floor.floor.cohorts.items d }
 {
     let Run { roll, hall, lists } = run;
     let Hall {

@@ -76,8 +76,8 @@ impl<'s, 'a, Q: Resting> Commanded<Q, (), Job<'a, Q>, Brought<'s, 'a>, Finished<
     ) -> Result<Dealt<(), Job<'a, Q>, Lists<Q>>, Crew<Q>>
         requires set { IsSet Q.rest (C.has lock.now) (C.sound lock.now) (C.level lock.now) (C.count lock.now) (C.tag lock.now)
             (λ course b. IsDealt course (map (λ section. section.bytes.now) b.sections.now) b.shares.items) brought passes.items }
-        ensures opened { IfOk result (λ made. AreDealt (IsJob Q.rest (C.has lock.now) (C.level lock.now) (C.tag lock.now)) (C.count lock.now)
-            (HasRoom (C.count lock.now) made.aside.passes made.aside.shares made.aside.stopped) made.jobs.items) }
+        ensures opened { IfOk result (λ made. AreDealt (IsJob Q.rest (C.has lock.now) (C.level lock.now) (C.tag lock.now))
+            (C.count lock.now) (HasRoom (C.count lock.now) made.aside.passes made.aside.shares made.aside.stopped) made.jobs.items) }
         ensures may { IfOk result (λ made. (k : ℕ) (j : _) → slice_get made.jobs.items k ≡ Some j → C.sound lock.now
             × (C.level lock.now ≡ 0) × ((number : ℕ) × IsJob Q.rest (C.has lock.now) (C.level lock.now) (C.tag lock.now) number j)) }
         ensures crew { IfErr result (IsCrew Q.rest (C.has lock.now) (C.level lock.now) (C.count lock.now) (C.tag lock.now)) }
@@ -137,7 +137,8 @@ impl<'s, 'a, Q: Resting> Commanded<Q, (), Job<'a, Q>, Brought<'s, 'a>, Finished<
         requires sound { C.sound lock }
         requires crew { IsCrew Q.rest (C.has lock) (C.level lock) (C.count lock) (C.tag lock) crew }
         requires count { C.count lock ≡ callers_of (course_of (C.tag lock)).shape }
-        requires some { (b : TheBrought) × IsDealt (course_of (C.tag lock)) (map (λ section. section.bytes.now) b.sections.now) b.shares.items }
+        requires some { (b : TheBrought) × IsDealt (course_of (C.tag lock)) (map (λ section. section.bytes.now) b.sections.now)
+            b.shares.items }
         ensures { IfOk result (IsLeft (course_of (C.tag lock))) }
     {
         close_run(lock, crew)

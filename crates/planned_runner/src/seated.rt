@@ -140,8 +140,8 @@ impl<'s, 'a, Q: Resting> Commanded<
         requires sound { C.sound lock }
         requires crew { IsCrew Q.rest (C.has lock) (C.level lock) (C.count lock) (C.tag lock) crew }
         requires count { C.count lock ≡ callers_of (course_of (C.tag lock)).shape }
-        requires some { (w : TheWaiting) × (IsDealt (course_of (C.tag lock)) (map (λ section. section.bytes.now) w.sections.now) w.shares.items
-            × (length w.homes.items ≡ length w.sections.now)) }
+        requires some { (w : TheWaiting) × (IsDealt (course_of (C.tag lock)) (map (λ section. section.bytes.now) w.sections.now)
+            w.shares.items × (length w.homes.items ≡ length w.sections.now)) }
         ensures { IfOk result (IsLeft (course_of (C.tag lock))) }
     {
         close_run(lock, crew)
