@@ -13,11 +13,11 @@ returns-then-is_empty g c =
     none_printed c.args.asked.receipts c.args.tree.now c.args.plan.now c.args.sections.now c.in_ok-shape.shape c.new.result.items
     c.in_ok-shape.ensures.shape none c.new.ensures.items
 
-pub returns-then-receipts : goal.returns-then-receipts
-returns-then-receipts g c =
+pub returns-then-asked : goal.returns-then-asked
+returns-then-asked g c =
     let sections = c.args.sections.now in
     IfOk-weaker c.printed_with_receipts.result _ _ (λ text is.
-    subst (λ r. PrintsRun r c.args.tree.now c.args.plan.now (map section_view sections) text.items) (sym c.if-receipts.true)
+    subst (λ r. PrintsRun r c.args.tree.now c.args.plan.now (map section_view sections) text.items) (sym c.if-asked.true)
     (marks_under c.args.tree.now c.args.plan.now sections c.in_ok-shape.shape text.items c.in_ok-shape.ensures.shape
     (subst (λ s. IsMarkedRun (map section_view sections) s text.items) c.in_ok-made.ensures.shape is)))
     c.printed_with_receipts.ensures.run
@@ -26,7 +26,7 @@ pub returns : goal.returns
 returns g c =
     let sections = c.args.sections.now in
     IfOk-weaker c.printed.result _ _ (λ text is.
-    subst (λ r. PrintsRun r c.args.tree.now c.args.plan.now (map section_view sections) text.items) (sym c.if-receipts.false)
+    subst (λ r. PrintsRun r c.args.tree.now c.args.plan.now (map section_view sections) text.items) (sym c.if-asked.false)
     (runs_under c.args.tree.now c.args.plan.now sections c.in_ok-shape.shape text.items c.in_ok-shape.ensures.shape
     (subst (λ s. IsRun (map section_view sections) s text.items) c.in_ok-left.ensures.shape is)))
     c.printed.ensures.run
