@@ -3,11 +3,11 @@
 
     bench/refusals.py [--clof PROGRAM] [--levels N]
 
-PROGRAM is the built program (crates/clof/out/clof). A row is a run under a plan of at most --levels levels, as a walk or on threads, or a
-drill. Each row is run with the first call of the C library's malloc, calloc, realloc or aligned_alloc refused, then with the second, and so
+PROGRAM is the built program (crates/clof/out/clof). A row is a run under a plan of at most --levels levels, as a walk, on a thread a caller,
+on two threads that the callers share, or with receipts; or a drill. Each row is run with the first call of the C library's malloc, calloc, realloc or aligned_alloc refused, then with the second, and so
 on, one number a run, until a run makes fewer calls. A run has to print `clof: out of memory` on standard error, nothing on standard output,
 and end with status 7; or print nothing on standard error, end with status 0, and print the row's text: that of the model for a walk, a run
-for threads, for a drill the text that it prints with all memory. It prints for each row how many calls were refused and how many of these
+for threads, with a line of receipts for each caller where these are asked for, for a drill the text that it prints with all memory. It prints for each row how many calls were refused and how many of these
 runs ended without memory, and ends with status 1 where a run did neither. It needs gcc, and a program that takes its memory from the C
 library, as a built one does. Not part of the gate.
 """
@@ -94,15 +94,23 @@ def wider_cases():
         yield Case(description, levels, kinds, keeps, sections, [None] * len(sections))
 
 
+def crowded_case():
+    """Twelve callers in two packages, who count together."""
+    sections = [Section("*", [b"add n 0 0 1\r\n0\r\n", b"incr n 1\r\n", b"incr n 1\r\n"]) for _ in range(12)]
+    return Case("Package:2 Core:4 PU:1", ["package", "machine"], ["mcs", "tkt"], [2], sections, [None] * len(sections))
+
+
 def rows(program, levels):
-    """Each case as a walk and on threads, and a drill."""
-    for case in [*(case for case, _ in worked_cases()), *wider_cases()]:
+    """Each case as a walk, on a thread a caller, on shared threads and with receipts, and a drill."""
+    for case in [*(case for case, _ in worked_cases()), *wider_cases(), crowded_case()]:
         if len(case.levels) > levels:
             continue
         words, given, walked = plan_words(case), case.given(), case.walked()
         name = f"{len(case.sections)} callers of {'-'.join(case.kinds)} keep {words[-2]}"
         yield Row(f"{name}, a walk", [*words, "--walk"], given, lambda text, walked=walked: None if text == walked else "not the walk's text")
         yield Row(f"{name}, on threads", words, given, case.fault)
+        yield Row(f"{name}, on two threads", [*words, "--threads", "2"], given, case.fault)
+        yield Row(f"{name}, with receipts", [*words, "--receipts"], given, case.marked_fault)
     drilled = subprocess.run([program, "drill", "7"], capture_output=True, check=True).stdout
     yield Row("a drill", ["drill", "7"], b"", lambda text: None if text == drilled else "not the drill's text")
 

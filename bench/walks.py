@@ -6,7 +6,8 @@
 
 PROGRAM is the built program (crates/clof/out/clof). A drawn plan has one to five levels of a drawn description, a kind of lock and a keep
 for each, and 1 to 24 callers with 0 to 12 commands each. The model is walk_model.py. The first inputs also run on threads, as many as
---threads says, where the text has to be a run (`fault` of runs.py), as each text of the model has to be. With --rows no program is called:
+--threads says, where the text has to be a run (`fault` of runs.py), as each text of the model has to be; so do they on threads that callers
+share, and with receipts, which have to be those of the text's turns. With --rows no program is called:
 the model has to print the texts that were worked out by hand, and runs. It prints how many agree and the first difference whole, and ends
 with status 1 where there is one. Not part of the gate.
 """
@@ -125,10 +126,31 @@ class Case:
             lines.append(b"caller %d pu %d commands %d rest %d\n" % (w, self.pus[w], len(section.commands), len(section.rest)))
         return b"".join(lines)
 
+    def marked_fault(self, text):
+        """Why a text is no run of this plan and these sections with the receipts of its turns behind it, or None."""
+        at = text.find(b"receipts 0")
+        if at < 0 or text[at - 1 : at] != b"\n":
+            return "no lines of receipts" if self.sections else self.fault(text)
+        if text[at:] != receipts_of(text[:at]):
+            return "other receipts than the turns tell"
+        return self.fault(text[:at])
+
     def fault(self, text):
         """Why a text is no run of this plan and these sections, or None."""
         commands = [section.commands for section in self.sections]
         return fault(commands, text, self.pus, [len(section.rest) for section in self.sections], self.paths, self.keeps)
+
+
+def receipts_of(text):
+    """The lines of receipts that belong to the lines of turns of a text."""
+    turns = {}
+    for line in text.splitlines():
+        words = line.split(b" ", 4)
+        if words[0] == b"turn":
+            turns.setdefault(int(words[3]), []).append(words[1])
+        elif words[0] == b"caller":
+            turns.setdefault(int(words[1]), [])
+    return b"".join(b" ".join([b"receipts", b"%d" % caller, *turns[caller]]) + b"\n" for caller in sorted(turns))
 
 
 def draw_word(draw, kind):
@@ -317,11 +339,16 @@ def walk_difference(program, case, words):
     return None if text == model else shown("the walk differs from the model", case, words, program=text, model=model)
 
 
-def threads_difference(program, case, words):
+def threads_difference(program, case, words, fault=Case.fault):
     """Why what the callers printed on threads isn't a run."""
     text = printed_by(program, words, case.given())
-    wrong = case.fault(text)
+    wrong = fault(case, text)
     return shown(f"the text on threads isn't a run: {wrong}", case, words, program=text) if wrong else None
+
+
+def shared_words(number):
+    """Words for callers that share threads: one to five threads, and up to three commands at a time."""
+    return ["--threads", str(1 + number % 5), "--quantum", str(1 + number % 3)]
 
 
 def is_wrong(said, found):
@@ -354,8 +381,13 @@ def main():
     said = "walks print what the model does" if program else "walks of the model are runs"
     wrong |= is_wrong(f"{said}, drawn from seed {asked.seed}", [walk_difference(program, *each) for each in cases[: asked.walks]])
     if program:
-        found = [threads_difference(program, *each) for each in cases[: asked.threads]]
+        some = cases[: asked.threads]
+        found = [threads_difference(program, *each) for each in some]
         wrong |= is_wrong(f"texts on threads are runs, drawn from seed {asked.seed}", found)
+        found = [threads_difference(program, case, shared_words(at) + words) for at, (case, words) in enumerate(some)]
+        wrong |= is_wrong("texts on threads that callers share are runs, of the same inputs", found)
+        found = [threads_difference(program, case, ["--receipts", *words], Case.marked_fault) for case, words in some]
+        wrong |= is_wrong("texts with receipts are runs with the receipts of their turns, of the same inputs", found)
     sys.exit(1 if wrong else 0)
 
 
