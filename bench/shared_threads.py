@@ -1,8 +1,8 @@
 #!/usr/bin/env python3
 """Times clof run with 256 callers of `incr` on one key who share threads, beside a thread a caller and beside memcached.
 
-Run from anywhere, with a built program (./clof):   bench/shared_threads.py [ROUNDS]
-Each caller has as many `incr` as 256 of them fit into 16 MiB. clof is timed as a whole process whose text goes to /dev/null: with
+Run from anywhere, with a built program (./clof):   bench/shared_threads.py [ROUNDS [COMMANDS]]
+Each caller has COMMANDS `incr` (1,000). clof is timed as a whole process whose text goes to /dev/null: with
 `--threads` 1, 2 and 4, each with `--quantum` 1 and 64, and without these words, which is a thread for each caller. memcached 1.6.18 (Debian's
 package) is timed with 1, 2 and 4 threads and 256 connections over loopback, from the first byte that is sent to the last reply, which two
 processes drop. The rows are taken in turn, ROUNDS times (five), and each prints the least and the greatest rate of its runs.
@@ -20,16 +20,14 @@ from memcached_server import PORT, server
 
 PROGRAM = pathlib.Path(__file__).parent.parent / "crates/clof/out/clof"
 CALLERS = 256
-LIMIT = 16 * 1024 * 1024
 COMMAND = b"incr n 1\r\n"
 FIRST = b"set n 0 0 1\r\n0\r\n"
 ASKERS = 2
 
 
-def texts():
+def texts(commands):
     """The text of each caller; the first one stores the number."""
-    room = LIMIT // CALLERS - len("worker * 65536\n\n")
-    return [FIRST * (caller == 0) + COMMAND * ((room - len(FIRST)) // len(COMMAND)) for caller in range(CALLERS)]
+    return [FIRST * (caller == 0) + COMMAND * commands for caller in range(CALLERS)]
 
 
 def count(asked):
@@ -100,8 +98,8 @@ def rows(place, asked):
         yield f"memcached -t {threads}", lambda threads=threads: answered(asked, threads)
 
 
-def main(rounds):
-    asked = texts()
+def main(rounds, each):
+    asked = texts(each)
     commands = count(asked)
     with tempfile.TemporaryDirectory() as folder:
         place = pathlib.Path(folder) / "in"
@@ -117,4 +115,4 @@ def main(rounds):
         print(f"{name:32} {min(rates):5.2f} to {max(rates):5.2f}" + (f"  {size:5.0f} MB" if size else ""))
 
 
-main(int(sys.argv[1]) if len(sys.argv) > 1 else 5)
+main(*map(int, [*sys.argv[1:], *[5, 1000][len(sys.argv) - 1 :]]))
