@@ -108,7 +108,9 @@ fn keeps_receipts<R: Threads + Wait + Sync + Abort>(
             end = place;
         }
     }
-    let (text, receipts) = ended.out.split_at(end);
+    let Some((text, receipts)) = ended.out.split_at_checked(end) else {
+        panic!(rt; "no receipts");
+    };
     assert_eq!(rt; receipts, told(alloc, text)?.as_slice());
     says(
         rt,
