@@ -1,5 +1,5 @@
 //! Vectors: each is played through the public calls, and compared with the turns that it must give and with the plain checker.
-ghost use Rattle.std.specs.Prelude.{◌≡◌, ◌≢◌, ◌^◌, ◌<◌, [], sum, true, All, IfSome, IsSome};
+ghost use Rattle.std.specs.Prelude.{◌≡◌, ◌≢◌, ◌^◌, ◌<◌, [], sum, true, All, IfSome, IsSome, IsTrue};
 ghost use Rattle.std.specs.Bool.{OnTrue};
 ghost use Rattle.keep_local.specs.Turns.{Begins};
 
@@ -82,7 +82,7 @@ fn release(trail: &mut Trail, tests: u32)
 
 // Whether a turn may begin behind the closed ones of a trail.
 fn may_begin(trail: &Trail, turn: Turn) -> bool
-    ensures { OnTrue result (Begins trail.now.shape trail.now.closed turn) }
+    ensures { IsTrue result → Begins trail.now.shape trail.now.closed turn }
 {
     match trail.last() {
         Some(last) => begins(trail.shape(), &[last], turn),

@@ -1,5 +1,5 @@
 //! What a run does with a lock over a payload, whatever lock that is.
-ghost use Rattle.std.specs.Prelude.{◌≡◌, ℕ, List, length, map, slice_get, IfErr, IfOk, Some};
+ghost use Rattle.std.specs.Prelude.{◌≡◌, ℕ, List, length, map, slice_get, IfErr, IfOk, Some, true};
 ghost use Rattle.lock_rules.specs.Trees.{lists_in};
 ghost use Rattle.clof_compose.specs.Courses.{course_of};
 ghost use Rattle.clof_compose.specs.Passes.{AreAll};
@@ -101,6 +101,7 @@ pub(crate) trait Commanded<Q: Resting, J, S, F>: Served<Q, J> {
         requires count { C.count lock ≡ length (lists_in (course_of (C.tag lock)).payload) }
         requires quotas { (course_of (C.tag lock)).quotas
             ≡ map (λ section. length (commands_of section)) (lists_in (course_of (C.tag lock)).payload) }
+        requires recorded { (course_of (C.tag lock)).recorded ≡ true }
         ensures finished { IfOk result (λ l. IsFinished (left l).trail (left l).journal) }
         ensures shape { IfOk result (λ l. (left l).trail.shape ≡ (course_of (C.tag lock)).shape) }
         ensures sections { IfOk result (λ l. (left l).journal.sections ≡ lists_in (course_of (C.tag lock)).payload) };
@@ -196,6 +197,7 @@ impl<'a, 's, Q: Resting> Commanded<Q, Job<'a, Q>, &'s [Section<'a>], Finished<'a
         requires count { C.count lock ≡ length (lists_in (course_of (C.tag lock)).payload) }
         requires quotas { (course_of (C.tag lock)).quotas
             ≡ map (λ section. length (commands_of section)) (lists_in (course_of (C.tag lock)).payload) }
+        requires recorded { (course_of (C.tag lock)).recorded ≡ true }
         ensures finished { IfOk result (λ l. IsFinished l.trail l.journal) }
         ensures shape { IfOk result (λ l. l.trail.shape ≡ (course_of (C.tag lock)).shape) }
         ensures sections { IfOk result (λ l. l.journal.sections ≡ lists_in (course_of (C.tag lock)).payload) }
