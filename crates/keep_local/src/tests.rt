@@ -181,20 +181,27 @@ fn plays(alloc: Global, case: &Case) -> Result<bool, OutOfMemory> {
     Ok(agree && has_turns(&trail, &turns) && has_runs(&trail))
 }
 
+// One hold, which has to be this turn.
+fn hold_as(trail: &mut Trail, share: &mut Share, turn: Turn) -> bool
+    requires own { share.old.name ≡ trail.old.name }
+    ensures trail { trail.new.name ≡ trail.old.name }
+    ensures share { share.new.name ≡ share.old.name }
+{
+    hold(trail, share, turn.tests) && trail.last() == Some(turn)
+}
+
 // Plays a case to its end over a trail that keeps no turns. The answer is no where it can't be played, or where a turn or a count differs.
 fn plays_unrecorded(alloc: Global, case: &Case) -> Result<bool, OutOfMemory> {
     let shape = shape_of(alloc, case)?;
-    if !shape.is_well_formed() || shape.paths.as_slice().len() > 100 {
+    let callers = shape.paths.as_slice().len();
+    if !shape.is_well_formed() || callers > 100 || callers != case.quotas.len() {
         return Ok(false);
     }
     let turns = turns_of(alloc, case.turns)?;
     let (mut trail, mut shares) = Trail::unrecorded(alloc, shape)?;
     for turn in &turns {
         let caller = turn.caller as usize;
-        if caller >= shares.len() || !hold(&mut trail, &mut shares[caller], turn.tests) {
-            return Ok(false);
-        }
-        if trail.last() != Some(*turn) {
+        if caller >= shares.len() || !hold_as(&mut trail, &mut shares[caller], *turn) {
             return Ok(false);
         }
     }

@@ -13,4 +13,4 @@ pub returns-in-None : goal.returns-in-None
 returns-in-None c = λ yes.
     let same : last_turn [] ≡ last_turn c.args.trail.now.closed = sym c.in-None.is ∙ c.last.ensures.last in
     subst (λ s. Begins s c.args.trail.now.closed c.args.turn) c.shape-in-None.ensures.shape
-    (begins_alike _ [] c.args.trail.now.closed c.args.turn same (c.begins2.ensures.0 yes))
+    (begins_alike _ [] c.args.trail.now.closed c.args.turn same (c.begins-in-None.ensures.0 yes))
