@@ -22,6 +22,10 @@ module _ {T : Type 0} (root : Root (Noted T)) (tag : Tag) (tagged : tag ≡ root
   pub name_of : (course_of tag).name ≡ root.trail.name
   name_of = ap (λ (c : Course). c.name) course_named
 
+  -- and its quotas
+  pub quotas_of : (course_of tag).quotas ≡ root.trail.quotas
+  quotas_of = ap (λ (c : Course). c.quotas) course_named
+
   -- its callers may begin with the shares that came with the root
   pub made_ready : {P : Type 0} (rest : P → Rest) (has : Context → Type 0) (sound : Type 0) (level count : ℕ) (shape : Shape)
       (quotas : List ℕ) (passes : List P) (shares : List ShareState) → sound → level ≡ 0 → count ≡ callers_of shape
@@ -30,7 +34,7 @@ module _ {T : Type 0} (root : Root (Noted T)) (tag : Tag) (tagged : tag ≡ root
       → IsReady rest has sound level count tag passes shares
   made_ready rest has sound level count shape quotas passes shares s lowest many all shape_is quotas_are each dealt =
       let own : (course_of tag).shape ≡ shape = ap (λ (c : Course). c.shape) course_named ∙ shape_is in
-      let given : (course_of tag).quotas ≡ quotas = ap (λ (c : Course). c.quotas) course_named ∙ quotas_are in
+      let given : (course_of tag).quotas ≡ quotas = quotas_of ∙ quotas_are in
       record {
         sound_is = s;
         lowest = lowest;

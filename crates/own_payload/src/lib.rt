@@ -14,7 +14,7 @@ mod runs;
 
 pub use calls::Calls;
 pub use holding::{hold, hold_all};
-pub use jobs::{Job, deal, gather};
+pub use jobs::{Job, Lists, deal, gather};
 pub use noted::Noted;
 pub use roots::new_root;
 pub use runs::run;

@@ -1,17 +1,13 @@
-use Rattle.std.proofs.Common.{◌≡◌, ℕ, ◌+◌, length, reverse, Some, vec_capacity, vec_len}
-use Rattle.std.specs.Prelude.{slice_get}
-use Rattle.clof_compose.specs.Passes.{AreFrom, IsNumber}
+use Rattle.std.proofs.Common.{◌≡◌, ◌+◌, ◌≤◌, ◌++◌, length, map, reverse, vec_len, vec_capacity}
 use Rattle.own_payload.proofs.jobs.gather.Given as goal
 
--- the jobs that have left the list have given their passes, the last one first
+-- what the jobs that have left their list had is in the lists, the last one first
 abbrev pub invariant-loop-job : goal.invariant-loop-job
 invariant-loop-job g l = record {
-  each : (k : ℕ) (j : _) → slice_get l.jobs.items k ≡ Some j → IsNumber (g.C.Composed.has l._lock) (g.C.Composed.level l._lock)
-      (g.C.Composed.tag l._lock) k (g.C.Pass.Resting.rest j.pass).context;
-  behind : AreFrom (λ p. (g.C.Pass.Resting.rest p).context) (g.C.Composed.has l._lock) (g.C.Composed.level l._lock)
-      (g.C.Composed.tag l._lock) (length l.jobs.items) (reverse l.passes.items);
-  counted : length l.jobs.items + length l.passes.items ≡ length l.fn.jobs.items;
-  room : vec_capacity l.passes ≡ vec_capacity l.fn.passes;
+  passes : map (λ job. job.pass) l.fn.jobs.items ≡ map (λ job. job.pass) l.jobs.items ++ reverse l.passes.items;
+  shares : map (λ job. job.share) l.fn.jobs.items ≡ map (λ job. job.share) l.jobs.items ++ reverse l.shares.items;
+  passes_room : length l.jobs.items + length l.passes.items ≤ vec_capacity l.passes;
+  shares_room : length l.jobs.items + length l.shares.items ≤ vec_capacity l.shares;
 }
 
 abbrev pub decreases-loop-job : goal.decreases-loop-job

@@ -39,7 +39,8 @@ loop-pass-preserved g c =
           }) inv.behind;
       counted = omega (arith, fewer, more, counted);
       room = c.push_reserved.ensures.capacity ∙ inv.room;
-      emptied = c.in-Some.ensures.capacity ∙ inv.emptied;
+      passes_kept = c.in-Some.ensures.capacity ∙ inv.passes_kept;
+      shares_kept = c.in-Some-pop.ensures.capacity ∙ inv.shares_kept;
     }
 
 pub returns-clause-each : goal.returns-clause-each

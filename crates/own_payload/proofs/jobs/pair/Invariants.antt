@@ -17,7 +17,8 @@ invariant-loop-pass g l = record {
       (g.C.Composed.has l._lock) (g.C.Composed.level l._lock) (g.C.Composed.tag l._lock) (length l.passes.items + k) j;
   counted : length l.passes.items + length l.jobs.items ≡ length l.fn.passes.items;
   room : vec_capacity l.jobs ≡ vec_capacity l.fn.jobs;
-  emptied : vec_capacity l.passes ≡ vec_capacity l.fn.passes;
+  passes_kept : vec_capacity l.passes ≡ vec_capacity l.fn.passes;
+  shares_kept : vec_capacity l.shares ≡ vec_capacity l.fn.shares;
 }
 
 abbrev pub decreases-loop-pass : goal.decreases-loop-pass
