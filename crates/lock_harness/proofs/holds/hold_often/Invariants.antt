@@ -1,5 +1,5 @@
 use Rattle.std.proofs.Common.{◌≡◌}
-use Rattle.lock_harness.proofs.threads.hold_often.Given as goal
+use Rattle.lock_harness.proofs.holds.hold_often.Given as goal
 
 -- the pass stays the same one
 abbrev pub invariant-loop : goal.invariant-loop
