@@ -6,7 +6,7 @@
 It needs a built program (./clof, or rt run in crates/clof). Each description is shared out between every two depths, in both
 orders of lists, whole and with each mask's first number alone, into 1 mask, into primes, into as many masks as there are PUs,
 and into 4,096. Where masks are fewer than objects, shares of 0 come in the middle and in the last place; the first share of a
-list is never 0. Not in the table: what docs/DECISIONS.md lists as different, which is L1i levels, interleaved siblings,
+list is never 0. Not in the table: what docs/HWLOC.md lists as different, which is L1i levels, interleaved siblings,
 levels of Groups, and --reverse with --single.
 """
 import itertools

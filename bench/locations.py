@@ -5,7 +5,7 @@
 
 It needs a built program (./clof, or rt run in crates/clof). Words are drawn over four descriptions, of which one has interleaved PUs and
 memory: every operator, all forms of index, parts inside parts, sets in hexadecimal, and each kind of answer. Not drawn: what
-docs/DECISIONS.md lists as different, as `a-b` with a above b, and `a:n` that goes past the end.
+docs/HWLOC.md lists as different, as `a-b` with a above b, and `a:n` that goes past the end.
 """
 import os
 import random

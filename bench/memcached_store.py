@@ -3,7 +3,7 @@
 
 Run from anywhere: bench/memcached_store.py   (Debian's package memcached 1.6.18; it is no part of the gate)
 Each section is asked of a server of its own, so that uniques begin at 1. It prints each section that memcached answers
-otherwise, and how many there are; docs/DECISIONS.md says why they differ.
+otherwise, and how many there are; docs/MEMCACHED.md has the kinds in which they differ.
 """
 import pathlib
 import re
