@@ -1,13 +1,14 @@
 //! Four threads, two in each package of a machine, work on one value under a composed lock of two levels, and its counts are printed.
 #![tactic(auto)]
 
-ghost use Rattle.std.specs.Prelude.{◌<◌};
+ghost use Rattle.std.specs.Prelude.{◌<◌, IfSome};
+ghost use Rattle.own_payload.specs.Jobs.{EachMadeAll};
 
 use anyhow::Context;
 use clof_compose::Root;
 use lock_plan::Plan;
-use lock_tree::make_2;
-use own_payload::{Lists, Noted, new_root, run};
+use own_payload::Noted;
+use own_runner::run;
 use std::alloc::Global;
 use std::sync::Wait;
 use std::thread::Threads;
@@ -30,27 +31,23 @@ impl Visits {
     }
 }
 
-/// The root of a lock that four threads have held a thousand times each, or `None` for want of memory.
-fn count<R: Threads + Wait + Sync>(rt: &R, alloc: Global) -> Option<Root<Noted<Visits>>> {
+/// What a lock leaves that four threads have held a thousand times each, or `None` for want of memory.
+fn count<R: Threads + Wait + Sync>(rt: &R, alloc: Global) -> Option<Root<Noted<Visits>>>
+    ensures made { IfSome result (λ r. EachMadeAll r.trail) }
+{
     // the machine, and a plan: a Ticket lock in each package below an MCS lock, and up to 9 turns in a row in one package
     let tree = Tree::build(alloc, read(alloc, b"Package:2 Core:2 PU:1").ok()?).ok()?;
     let plan = Plan::read(alloc, &tree, b"package,machine", Some(b"tkt-mcs"), b"9").ok()?;
     if tree.count(Layer::Depth(tree.depths() - 1)) < 4 || plan.kinds.as_slice().len() != 2 {
         return None;
     }
-    // a caller on each PU, who holds at most a thousand times
+    // a caller on each PU, who holds a thousand times: the callers 0 and 1 are in package 0
     let shape = plan.shape(alloc, &tree, &[0, 1, 2, 3]).ok()?;
     let value = Visits {
         all: 0,
         by_package: [0, 0],
     };
-    let (root, shares) = new_root(alloc, &shape, &[1000; 4], value)?;
-    let Ok((lock, passes)) = make_2(alloc, &plan, root, &shape) else {
-        return None;
-    };
-    // each caller in a thread of its own: the callers 0 and 1 are in package 0
-    let lists = Lists { passes, shares };
-    run(rt, alloc, lock, lists, &|visits: &mut Visits, caller: u32| {
+    run(rt, alloc, &plan, &shape, &[1000; 4], value, &|visits: &mut Visits, caller: u32| {
         visits.add(usize::from(caller >= 2))
     })
 }
