@@ -1,5 +1,6 @@
 -- A lock that has all of its levels, and what a run leaves.
-use Rattle.std.proofs.Common.{◌≡◌, ℕ, ◌+◌, ◌<◌, ◌^◌, List, length, ap, refl, sym, ◌∙◌, subst}
+use Rattle.std.proofs.Common.{◌≡◌, ℕ, ◌+◌, ◌<◌, ◌^◌, List, length, ap, refl, sym, ◌∙◌, subst, Option, Some, None}
+use Rattle.std.specs.Prelude.{IfSome}
 use Rattle.lock_rules.specs.Tag.{Tag, leaf}
 use Rattle.keep_local.specs.declared.shape.Shape.{Shape}
 use Rattle.keep_local.specs.Shapes.{IsWellFormed, callers_of, top_of}
@@ -44,6 +45,22 @@ module _ {T : Type 0} (root : Root (Noted T)) (t : Tag) (same : root_tag (λ _. 
 
   pub quotas_named : root.trail.quotas ≡ (course_of t).quotas
   quotas_named = sym (ap (λ (c : Course). c.quotas) (course_is (λ n. n.calls.callers) (λ _. leaf 0) t root same))
+
+-- what follows from what a value is known for
+if_some : {A : Type 0} (P Q : A → Type 0) (o : Option A) → ((a : A) → P a → Q a) → IfSome o P → IfSome o Q
+if_some P Q None weaker is = tt
+if_some P Q (Some a) weaker is = weaker a is
+
+module _ {T : Type 0} (root : Root (Noted T)) (left : Option (Root (Noted T)))
+    (tagged : IfSome left (λ r. root_tag (λ _. leaf 0) r ≡ root_tag (λ _. leaf 0) root)) where
+  -- what a run leaves has the shape and the quotas of the root that its lock was made around
+  pub of_shape : (shape : Shape) → root.trail.shape ≡ shape → IfSome left (λ r. r.trail.shape ≡ shape)
+  of_shape shape is = if_some (λ r. root_tag (λ _. leaf 0) r ≡ root_tag (λ _. leaf 0) root) (λ r. r.trail.shape ≡ shape) left
+      (λ r same. shape_named r _ same ∙ sym (shape_named root _ refl) ∙ is) tagged
+
+  pub of_quotas : (quotas : List ℕ) → root.trail.quotas ≡ quotas → IfSome left (λ r. r.trail.quotas ≡ quotas)
+  of_quotas quotas is = if_some (λ r. root_tag (λ _. leaf 0) r ≡ root_tag (λ _. leaf 0) root) (λ r. r.trail.quotas ≡ quotas) left
+      (λ r same. quotas_named r _ same ∙ sym (quotas_named root _ refl) ∙ is) tagged
 
 -- a new root with all its shares is one that a run can have
 pub may_run : {T : Type 0} (root : Root (Noted T)) (shape : Shape) (quotas : List ℕ) (kinds : List LockKind) (shares : List ShareState)
