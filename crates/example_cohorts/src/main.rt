@@ -37,19 +37,31 @@ fn count<R: Threads + Wait + Sync>(rt: &R, alloc: Global) -> Option<Root<Noted<V
 {
     // the machine, and a plan: a Ticket lock in each package below an MCS lock, and up to 9 turns in a row in one package
     let tree = Tree::build(alloc, read(alloc, b"Package:2 Core:2 PU:1").ok()?).ok()?;
-    let plan = Plan::read(alloc, &tree, b"package,machine", Some(b"tkt-mcs"), b"9").ok()?;
-    if tree.count(Layer::Depth(tree.depths() - 1)) < 4 || plan.kinds.as_slice().len() != 2 {
+    let Ok(plan) = Plan::read(alloc, &tree, b"package,machine", Some(b"tkt-mcs"), b"9") else {
+        return None;
+    };
+    // what the texts say the checker doesn't know: a PU for each caller, and two levels
+    let pus = tree.count(Layer::Depth(tree.depths() - 1));
+    if pus < 4 || plan.kinds.as_slice().len() != 2 {
         return None;
     }
     // a caller on each PU, who holds a thousand times: the callers 0 and 1 are in package 0
-    let shape = plan.shape(alloc, &tree, &[0, 1, 2, 3]).ok()?;
+    let Ok(shape) = plan.shape(alloc, &tree, &[0, 1, 2, 3]) else {
+        return None;
+    };
     let value = Visits {
         all: 0,
         by_package: [0, 0],
     };
-    run(rt, alloc, &plan, &shape, &[1000; 4], value, &|visits: &mut Visits, caller: u32| {
-        visits.add(usize::from(caller >= 2))
-    })
+    run(
+        rt,
+        alloc,
+        &plan,
+        &shape,
+        &[1000; 4],
+        value,
+        &|visits: &mut Visits, caller: u32| { visits.add(usize::from(caller >= 2)) },
+    )
 }
 
 fn main(rt: HostRuntime) -> anyhow::Result<()> {
@@ -57,6 +69,10 @@ fn main(rt: HostRuntime) -> anyhow::Result<()> {
     let (trail, noted) = root.into_parts();
     let visits = noted.value;
     let [first, second] = visits.by_package;
-    println!(rt; "{} turns, {} visits: {first} and {second}", trail.turns().len(), visits.all)?;
+    println!(rt;
+        "{} turns, {} visits: {first} and {second}",
+        trail.turns().len(),
+        visits.all
+    )?;
     Ok(())
 }
