@@ -101,6 +101,7 @@ module _ {P : Type 0} (calls : P → List ℕ) (tag : P → Tag) where
       kept_in_hand above = record {
         name = ap (λ (s : TrailState). s.name) trail;
         receipts = ap (λ (s : TrailState). s.receipts) trail;
+        recorded = ap (λ (s : TrailState). s.recorded) trail;
         shape = ap (λ (s : TrailState). s.shape) trail;
         quotas = ap (λ (s : TrailState). s.quotas) trail;
         more = [];

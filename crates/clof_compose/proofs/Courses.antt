@@ -1,8 +1,12 @@
 -- A course is told by its tag.
-use Rattle.std.proofs.Common.{◌≡◌, ap, sym, ◌∙◌}
+use Rattle.std.proofs.Common.{◌≡◌, Bool, true, false, refl, ap, sym, ◌∙◌}
 use Rattle.lock_rules.specs.Tag.{Tag}
 use Rattle.lock_rules.proofs.Trees.{list_in-tree_of, lists_in-tree_of_lists}
-use Rattle.clof_compose.specs.Courses.{Course, course_of, course_tag}
+use Rattle.clof_compose.specs.Courses.{Course, bool_of, course_of, course_tag, tag_of_bool}
+
+bool_of-tag_of_bool : (b : Bool) → bool_of (tag_of_bool b) ≡ b
+bool_of-tag_of_bool true = refl
+bool_of-tag_of_bool false = refl
 
 pub course_of-course_tag : (c : Course) → course_of (course_tag c) ≡ c
 unfolding course_of course_tag
@@ -13,6 +17,7 @@ course_of-course_tag c =
       receipts = record c.receipts { slot_names = others i };
       shape = record { paths = lists_in-tree_of_lists c.shape.paths i; keeps = list_in-tree_of c.shape.keeps i };
       quotas = list_in-tree_of c.quotas i;
+      recorded = bool_of-tag_of_bool c.recorded i;
       payload = c.payload;
     }
 

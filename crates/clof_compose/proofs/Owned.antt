@@ -104,6 +104,7 @@ pub kept_higher : {P : Type 0} (calls : P → List ℕ) (level above : ℕ) (old
 kept_higher calls level above old new h k = record {
   name = k.name;
   receipts = k.receipts;
+  recorded = k.recorded;
   shape = k.shape;
   quotas = k.quotas;
   more = k.more;

@@ -88,6 +88,7 @@ module _ {P : Type 0} (calls : P → List ℕ) (tag : P → Tag) (t : Tag) (leve
   noted_kept above = record {
     name = ap (λ (s : TrailState). s.name) noted_is;
     receipts = ap (λ (s : TrailState). s.receipts) noted_is;
+    recorded = ap (λ (s : TrailState). s.recorded) noted_is;
     shape = shape_same;
     quotas = ap (λ (s : TrailState). s.quotas) noted_is;
     more = [];
@@ -193,6 +194,7 @@ module _ {P : Type 0} (calls : P → List ℕ) (tag : P → Tag) (t : Tag) (leve
       left_kept above h = record {
         name = ap (λ (s : TrailState). s.name) left_is;
         receipts = ap (λ (s : TrailState). s.receipts) left_is;
+        recorded = ap (λ (s : TrailState). s.recorded) left_is;
         shape = ap (λ (s : TrailState). s.shape) left_is;
         quotas = ap (λ (s : TrailState). s.quotas) left_is;
         more = left_at noted_turn level ∷ [];

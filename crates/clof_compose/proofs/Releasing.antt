@@ -27,6 +27,7 @@ may_release_lowest calls tag t level number caller share r r₁ lowest has conte
       tagged = (λ i. course_tag (record {
         name = (trail i).name;
         receipts = (trail i).receipts;
+        recorded = (trail i).recorded;
         shape = (trail i).shape;
         quotas = (trail i).quotas;
         payload = payload i;

@@ -1,15 +1,17 @@
 -- What the tag of a root tells.
-use Rattle.std.specs.Prelude.{ℕ, List, [], ◌∷◌}
+use Rattle.std.specs.Prelude.{ℕ, Bool, cond, ◌==◌, List, [], ◌∷◌}
 use Rattle.atomic_table.specs.Seated.{TableId}
 use Rattle.lock_rules.specs.Tag.{Tag, leaf, fork}
 use Rattle.lock_rules.specs.Trees.{list_in, lists_in, tree_of_lists}
 use Rattle.lock_rules.specs.Views.{tree_of}
 use Rattle.keep_local.specs.declared.shape.Shape.{Shape}
 
--- what names a trail, its table and that of its receipts, its shape and its quotas, and the payload's tag
+-- what names a trail, its table and that of its receipts, whether it keeps its turns in memory, its shape and its quotas, and the payload's
+-- tag
 pub record Course : Type 0 where
   pub name : TableId
   pub receipts : TableId
+  pub recorded : Bool
   pub shape : Shape
   pub quotas : List ℕ
   pub payload : Tag
@@ -45,10 +47,18 @@ name_from l0 = let l1 = tail_of l0 in let l2 = tail_of l1 in let l3 = tail_of l2
       slot_names = tail_of l5;
     }
 
+-- a yes or no written as a tag
+abbrev pub tag_of_bool : Bool → Tag
+tag_of_bool b = leaf (cond b 1 0)
+
+abbrev pub bool_of : Tag → Bool
+bool_of (leaf n) = n == 1
+bool_of (fork a b) = 0 == 1
+
 -- a course written as a tag
 unfoldable pub course_tag : Course → Tag
 course_tag c = fork (tree_of_name c.name) (fork (tree_of_name c.receipts) (fork (tree_of_lists c.shape.paths) (fork (tree_of c.shape.keeps)
-    (fork (tree_of c.quotas) c.payload))))
+    (fork (tree_of c.quotas) (fork (tag_of_bool c.recorded) c.payload)))))
 
 -- the course that a tag names
 unfoldable pub course_of : Tag → Course
@@ -60,5 +70,6 @@ course_of t = record {
     keeps = list_in (left_of (right_of (right_of (right_of t))));
   };
   quotas = list_in (left_of (right_of (right_of (right_of (right_of t)))));
-  payload = right_of (right_of (right_of (right_of (right_of t))));
+  recorded = bool_of (left_of (right_of (right_of (right_of (right_of (right_of t))))));
+  payload = right_of (right_of (right_of (right_of (right_of (right_of t)))));
 }

@@ -9,11 +9,12 @@ use Rattle.clof_compose.specs.Courses.{Course, course_tag}
 use Rattle.clof_compose.specs.declared.root.Root.{Root}
 
 module _ {P : Type 0} (tag : P → Tag) where
-  -- what names the trail, its shape and its quotas, and the payload's tag
+  -- what names the trail, whether it keeps its turns in memory, its shape and its quotas, and the payload's tag
   abbrev pub root_course : Root P → Course
   root_course r = record {
     name = r.trail.name;
     receipts = r.trail.receipts;
+    recorded = r.trail.recorded;
     shape = r.trail.shape;
     quotas = r.trail.quotas;
     payload = tag r.payload;
@@ -44,6 +45,7 @@ module _ {P : Type 0} (calls : P → List ℕ) where
   pub record IsKept (level : ℕ) (old new : Root P) : Type 0 where
     pub name : new.trail.name ≡ old.trail.name
     pub receipts : new.trail.receipts ≡ old.trail.receipts
+    pub recorded : new.trail.recorded ≡ old.trail.recorded
     pub shape : new.trail.shape ≡ old.trail.shape
     pub quotas : new.trail.quotas ≡ old.trail.quotas
     pub more : List Turn

@@ -39,8 +39,7 @@ pub(crate) fn close_turn<P>(root: &mut Root<P>, level: u32) -> Report
     ensures own { result.receipt.name ≡ root.old.trail.receipts }
     ensures told { result.receipt.tests ≡ all_tests root.old.trail.closed ++ result.tests ∷ [] }
 {
-    let turns = root.trail.turns();
-    let tests = turns[turns.len() - 1].tests;
+    let tests = root.trail.tests();
     root.trail.leave(level);
     let receipt = root.trail.receipt();
     Report { tests, receipt }

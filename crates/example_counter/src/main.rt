@@ -1,13 +1,15 @@
-//! Four threads add to one counter under a Ticket lock, and the sum is printed.
+//! Threads add to one counter under a Ticket lock, and the sum is printed.
 #![tactic(auto)]
 
-ghost use Rattle.std.specs.Prelude.{◌≡◌};
+#[cfg(test)]
+mod tests;
+
+ghost use Rattle.std.specs.Prelude.{◌≡◌, ◌<◌};
 ghost use Rattle.lock_rules.specs.Passes.{IsOf};
 
 use anyhow::Context;
-use lock_harness::{apart, by_four};
 use lock_rules::{Basic, Pass, Placed, Plain};
-use lock_threads::Works;
+use lock_threads::{Works, by_all};
 use std::alloc::Global;
 use std::sync::Wait;
 use std::thread::Threads;
@@ -21,6 +23,7 @@ type Counter = Ticket<Plain<u64>>;
 struct Adder<'a, R> {
     rt: &'a R,
     counter: &'a Counter,
+    times: u32,
 }
 
 impl<'a, R: Wait> Works<Pass> for Adder<'a, R> {
@@ -31,9 +34,9 @@ impl<'a, R: Wait> Works<Pass> for Adder<'a, R> {
     // and gives the same pass back
     ghost gives = { λ _ p q. ⟦<Pass as Placed>⟧.place q ≡ ⟦<Pass as Placed>⟧.place p };
 
-    /// Adds 1 a thousand times. The pass is handed over and comes back, so nobody can use it twice at a time.
+    /// Adds 1 as often as asked. The pass is handed over and comes back, so nobody can use it twice at a time.
     fn work(&self, mut pass: Pass) -> Pass {
-        for _ in 0..1000 {
+        for _ in 0..self.times {
             // waits until this pass is the head of the queue; then the number is in `held`
             let mut held = self.counter.acquire(self.rt, pass);
             let number = Counter::value_mut(&mut held);
@@ -45,21 +48,32 @@ impl<'a, R: Wait> Works<Pass> for Adder<'a, R> {
     }
 }
 
-/// The sum that four threads make, or `None` for want of memory.
-fn add_by_four<R: Threads + Wait + Sync>(rt: &R, alloc: Global) -> Option<u64> {
-    let (lock, mut passes) = Counter::make(alloc, (), 4, Plain { value: 0 }).ok()?;
-    let counter = &lock;
-    let (front, back) = apart(counter, &mut passes)?;
-    let (front, back) = by_four(rt, &Adder { rt, counter }, front, back);
+/// The sum that so many threads make, or `None` for want of memory.
+fn add_by_all<R: Threads + Wait + Sync>(
+    rt: &R,
+    alloc: Global,
+    threads: u32,
+    times: u32,
+) -> Option<u64>
+    requires { 0 < threads }
+{
+    let Ok((lock, passes)) = Counter::make(alloc, (), threads, Plain { value: 0 }) else {
+        return None;
+    };
+    let adder = Adder {
+        rt,
+        counter: &lock,
+        times,
+    };
+    let passes = by_all(rt, &adder, passes);
     // with all passes back, in the order of their numbers, nobody holds: the lock may be taken apart
-    passes.push(front.0).ok()?;
-    passes.push(front.1).ok()?;
-    passes.push(back.0).ok()?;
-    passes.push(back.1).ok()?;
     Some(lock.close(passes).value)
 }
 
 fn main(rt: HostRuntime) -> anyhow::Result<()> {
-    println!(rt; "{}", add_by_four(&rt, rt.alloc()).context("no memory")?)?;
+    println!(rt;
+        "{}",
+        add_by_all(&rt, rt.alloc(), 4, 1000).context("no memory")?
+    )?;
     Ok(())
 }

@@ -26,6 +26,7 @@ fresh_dealt root r sections shares seens trail tag dealt tokens all blank =
     let same : root_course book_tag root ≡ book_course (root_course fresh_book_tag r) = λ i. record {
       name = (sym trail i).name;
       receipts = (sym trail i).receipts;
+      recorded = (sym trail i).recorded;
       shape = (sym trail i).shape;
       quotas = (sym trail i).quotas;
       payload = sym tag i;

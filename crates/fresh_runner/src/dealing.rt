@@ -26,7 +26,7 @@ pub(crate) fn marks_for(alloc: Global, shares: &[Share]) -> Result<Vec<Marks>, A
 {
     let mut marks = Vec::with_capacity(alloc, shares.len())?;
     for share in shares {
-        let turns = Vec::with_capacity(alloc, share.quota() as usize)?;
+        let turns = Vec::with_capacity(alloc, share.turns_allowed() as usize)?;
         marks.push_reserved(Marks { turns });
     }
     Ok(marks)

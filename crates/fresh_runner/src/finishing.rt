@@ -1,5 +1,5 @@
 //! How a run ends: its lock is taken apart, the tokens go back, and the marks are known to be the numbers of the turns.
-ghost use Rattle.std.specs.Prelude.{◌≡◌, ℕ, length, map, slice_get, IfOk, Some};
+ghost use Rattle.std.specs.Prelude.{◌≡◌, ℕ, length, map, slice_get, IfOk, Some, true};
 ghost use Rattle.lock_rules.specs.Trees.{lists_in};
 ghost use Rattle.keep_local.specs.States.{callers_in};
 ghost use Rattle.clof_compose.specs.Courses.{course_of};
@@ -41,6 +41,7 @@ pub fn close_fresh<'a, C: Composed<FreshBook<'a>> + Drop>(
     requires tokens { C.count lock ≡ tokens_in (course_of (C.tag lock)).payload }
     requires quotas { (course_of (C.tag lock)).quotas
         ≡ map (λ section. length (commands_of section)) (lists_in (book_in (course_of (C.tag lock)).payload)) }
+    requires recorded { (course_of (C.tag lock)).recorded ≡ true }
     ensures finished { IfOk result (λ made. IsFinished made.left.trail made.left.journal) }
     ensures shape { IfOk result (λ made. made.left.trail.shape ≡ (course_of (C.tag lock)).shape) }
     ensures sections { IfOk result (λ made. made.left.journal.sections ≡ lists_in (book_in (course_of (C.tag lock)).payload)) }
@@ -69,6 +70,7 @@ fn finish_fresh<'a>(
 ) -> Result<Marked<'a>, OutOfMemory>
     requires fit { IsFit fresh_book_calls root }
     requires quotas { root.trail.quotas ≡ map (λ section. length (commands_of section)) (lists_in root.payload.fresh.tag) }
+    requires recorded { root.trail.recorded ≡ true }
     requires shares { AreDone root.trail.name root.trail.quotas shares.items }
     requires many { length shares.items ≡ length (lists_in root.payload.fresh.tag) }
     requires seens { AreAll root.payload.fresh.name root.payload.fresh.tokens seens.items }

@@ -37,7 +37,7 @@ pub fn serve_fresh<'a, C: Composed<FreshBook<'a>>, G: Gate, R: Wait>(
     ensures served { IsFreshServed C.Pass.rest (C.has lock.now) (C.level lock.now) (C.tag lock.now) job.entry.account.share.caller result }
 {
     let mut job = job;
-    for _ in job.account.share.made()..job.account.share.quota() {
+    for _ in job.account.share.turns_made()..job.account.share.turns_allowed() {
         job = give_next(rt, lock, gate, job);
         if job.stopped {
             return job;

@@ -54,3 +54,11 @@ follows_at shape before (t ∷ ts) (suc i) d h all =
 pub lawful_at : (shape : Shape) (turns : List Turn) (i : ℕ) (d : Turn) → i < length turns → IsLawful shape turns
     → Follows shape (take i turns) (get_or turns i d)
 lawful_at shape turns i d h lawful = follows_at shape [] turns i d h lawful
+
+-- how a turn may begin is told by the last turn alone
+pub begins_alike : (shape : Shape) (before before' : List Turn) (t : Turn) → last_turn before ≡ last_turn before' → Begins shape before t
+    → Begins shape before' t
+begins_alike shape before before' t e is = record {
+  climb = is.climb ∙ ap (λ (o : Option Turn). option_map_or (λ (u : Turn). u.left) o (top_of shape)) e;
+  near = subst (λ (o : Option Turn). IfSome o (λ last. AreUnderOneNode shape t.climb t last)) e is.near;
+}

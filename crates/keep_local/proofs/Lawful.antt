@@ -37,7 +37,7 @@ module _ (shape : Shape) (level : ℕ) where
       (λ lower. let a = run_lower level before t lower in omega (arith, a, within))
       (λ not_lower. let above : level < t.left = omega arith in let a = run_higher level before t above in omega (arith, a)))
 
-  run_within : (before turns : List Turn) → level < top_of shape → FollowEachOther shape before turns → run level before ≤ keep
+  pub run_within : (before turns : List Turn) → level < top_of shape → FollowEachOther shape before turns → run level before ≤ keep
       → run level (before ++ turns) ≤ keep
   run_within before [] below all within = subst (λ (ts : List Turn). run level ts ≤ keep) (sym (append-nil before)) within
   run_within before (t ∷ ts) below all within =

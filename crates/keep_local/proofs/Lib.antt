@@ -8,6 +8,7 @@ pub mod Runs
 pub mod Trails
 pub mod Logs
 pub mod Steps
+pub mod Parts
 pub mod Lawful
 pub mod Checked
 pub mod Noting

@@ -261,7 +261,7 @@ module _ (quotas : List ℕ) where
   add_zero_left i = omega arith
 
   -- the table at the start
-  pub opens : sum quotas < 2 ^ 32 → Rule (opening (0 ∷ []) [] (first_view quotas))
+  pub opens : sum quotas < 2 ^ 64 → Rule (opening (0 ∷ []) [] (first_view quotas))
   opens small = record {
     callers = [];
     fits = small;

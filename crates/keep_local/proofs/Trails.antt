@@ -22,31 +22,6 @@ use Rattle.keep_local.proofs.Runs.{lawful_push}
 abbrev pub blank : Turn
 blank = record { caller = 0; climb = 0; tests = 0; left = 0 }
 
--- nothing stands at this place, so the list ends before it
-pub none_past : (turns : List Turn) (n : ℕ) → slice_get turns n ≡ None → length turns ≤ n
-none_past turns n e = dite (dec_le (suc n) (length turns))
-    (λ h. absurd (let s : slice_get turns n ≡ Some (get_or turns n blank) = slice_get-get_or turns n blank h in
-    let x : None ≡ Some (get_or turns n blank) = sym e ∙ s in cc))
-    (λ h. omega arith)
-
--- something stands at this place
-pub some_within : (turns : List Turn) (n : ℕ) → IsSome (slice_get turns n) → n < length turns
-some_within turns n is = dite (dec_le (suc n) (length turns)) (λ h. h)
-    (λ h. absurd (let past : length turns ≤ n = omega arith in
-    let x : false ≡ true = sym (ap (λ (o : Option Turn). is_some o) (slice_get_past turns n past)) ∙ is in cc))
-
-pub some_at : (turns : List Turn) (n : ℕ) → n < length turns → slice_get turns n ≡ Some (get_or turns n blank)
-some_at turns n h = slice_get-get_or turns n blank h
-
--- the closed turns and the open one are all turns
-pub whole : (turns : List Turn) (n : ℕ) → n ≤ length turns → length turns ≤ n + 1 → take n turns ++ option_list (slice_get turns n) ≡ turns
-whole turns n within one = dite (dec_le (suc n) (length turns))
-    (λ h. ap (λ (o : Option Turn). take n turns ++ option_list o) (some_at turns n h) ∙ sym (take_more turns n blank h)
-    ∙ take_all (n + 1) turns one)
-    (λ h. let past : length turns ≤ n = omega arith in
-    ap (λ (o : Option Turn). take n turns ++ option_list o) (slice_get_past turns n past) ∙ append-nil (take n turns)
-    ∙ take_all n turns past)
-
 -- a caller's turns by their callers
 pub times_callers : (caller : ℕ) (turns : List Turn) → times caller (callers_in turns) ≡ turns_of caller turns
 times_callers caller [] = refl
@@ -94,8 +69,10 @@ trail_opened s caller climb is free known room begins =
     subst (λ (o : Option Turn). IfNone o (s.noted ≡ 0)) free f in record {
       shaped = is.shaped;
       few = is.few;
+      countable = is.countable;
       quotas = is.quotas;
       fits = is.fits;
+      recordable = is.recordable;
       lawful = (is.lawful.0, begins);
       noting = record {
         below_top = omega (arith, none_noted);
@@ -120,8 +97,10 @@ trail_noted s t level queued is now next below =
     let levels = is.shaped.levels in record {
       shaped = is.shaped;
       few = is.few;
+      countable = is.countable;
       quotas = is.quotas;
       fits = is.fits;
+      recordable = is.recordable;
       lawful = (is.lawful.0, record { climb = begins.climb; near = begins.near });
       noting = record {
         below_top = omega (arith, below);
@@ -153,8 +132,10 @@ trail_left s t level is now may =
     record {
       shaped = is.shaped;
       few = is.few;
+      countable = is.countable;
       quotas = is.quotas;
       fits = is.fits;
+      recordable = is.recordable;
       lawful = (lawful_push s.shape s.closed u is.lawful.0 follows, tt);
       noting = tt;
       closed = refl;

@@ -1,7 +1,7 @@
 -- What a receipt, and the table that receipts come from, are seen as.
 use Rattle.std.specs.Prelude.{◌≡◌, ◌≤◌, true, false, List, [], ◌∷◌, length, All}
 use Rattle.atomic_table.specs.Seated.{TableId}
-use Rattle.keep_local.specs.States.{ReceiptState, NotesState, no_receipt}
+use Rattle.keep_local.specs.States.{ReceiptState, NotesState, all_tests, no_receipt}
 use Rattle.keep_local.specs.declared.receipt.Receipt.TheInside.{Inside}
 use Rattle.keep_local.specs.declared.receipt_view.ReceiptView.{ReceiptView}
 use Rattle.keep_local.specs.declared.receipts.Receipts.TheInside as table
@@ -9,7 +9,7 @@ use Rattle.keep_local.specs.declared.receipts.Receipts.TheInside as table
 -- what a badge at this table tells: nothing where it is no seat
 abbrev pub told_by : TableId → List ReceiptView → ReceiptState
 told_by name [] = no_receipt
-told_by name (v ∷ vs) = record { name = name; tests = v.tests }
+told_by name (v ∷ vs) = record { name = name; tests = all_tests v.turns }
 
 abbrev pub receipt_state : Inside → ReceiptState
 receipt_state r = told_by r.badge.table_id r.badge.views
@@ -20,12 +20,7 @@ pub record IsReceipt (r : Inside) : Type 0 where
   pub away : All (λ v. v.home ≡ false) r.badge.views
 
 abbrev pub notes_state : table.Inside → NotesState
-notes_state r = record {
-  name = r.table.shared.table_id;
-  tests = r.home.me.0.tests;
-  noting = r.home.me.0.noting;
-  noted = r.home.me.0.noted;
-}
+notes_state r = record { name = r.table.shared.table_id; turns = r.home.me.0.turns }
 
 -- the home seat is at this table, which has one word
 pub record HasHome (r : table.Inside) : Type 0 where

@@ -1,5 +1,6 @@
 -- What a trail and a share are seen as.
-use Rattle.std.specs.Prelude.{◌≡◌, ℕ, ◌+◌, ◌^◌, ◌<◌, ◌≤◌, Bool, if◌then◌else◌, List, [], ◌∷◌, ◌++◌, length, map, min, sum, slice_index}
+use Rattle.std.specs.Prelude.{◌≡◌, ℕ, ◌+◌, ◌-◌, ◌/◌, ◌^◌, ◌<◌, ◌≤◌, Bool, true, false, cond, if◌then◌else◌}
+use Rattle.std.specs.Prelude.{List, [], ◌∷◌, ◌++◌, length, map, max, min, sum, slice_index, replicate}
 use Rattle.std.specs.Prelude.{All, IfSome, IfNone, Option, Some, None, bit_or}
 use Rattle.std.specs.Int.{bit_at}
 use Rattle.std.specs.List.{enumerate_from}
@@ -10,11 +11,12 @@ use Rattle.keep_local.specs.Views.{times}
 use Rattle.keep_local.specs.Shapes.{top_of, callers_of, IsWellFormed}
 use Rattle.keep_local.specs.Turns.{turns_of, IsLeft, IsLawfulTrail}
 
--- A trail: what tells its table from all others, what tells the table of its receipts, its shape, the callers' quotas, the closed turns,
--- the open turn, and how many levels were noted for it
+-- A trail: what tells its table from all others, what tells the table of its receipts, whether it keeps its turns in memory, its shape,
+-- the callers' quotas, the closed turns, the open turn, and how many levels were noted for it
 pub record TrailState : Type 0 where
   pub name : TableId
   pub receipts : TableId
+  pub recorded : Bool
   pub shape : Shape
   pub quotas : List ℕ
   pub closed : List Turn
@@ -40,16 +42,13 @@ no_receipt = record {
   tests = [];
 }
 
--- What a trail keeps of the table of its receipts: its name, the tests of the closed turns, and those that were noted for the open turn so
--- far, and for how many levels
+-- What a trail keeps of the table of its receipts: its name, and the closed turns
 pub record NotesState : Type 0 where
   pub name : TableId
-  pub tests : List ℕ
-  pub noting : ℕ
-  pub noted : ℕ
+  pub turns : List Turn
 
 abbrev pub new_notes : TableId → NotesState
-new_notes name = record { name = name; tests = []; noting = 0; noted = 0 }
+new_notes name = record { name = name; turns = [] }
 
 -- What a trail keeps of its table: its name, the quotas, and the callers of all turns
 pub record TieState : Type 0 where
@@ -100,17 +99,33 @@ pub record IsShareOf (s : TrailState) (share : ShareState) : Type 0 where
   pub quota : share.quota ≡ slice_index s.quotas share.caller
   pub made : share.made ≡ turns_of share.caller (all_turns s)
 
--- a trail before its first turn
+-- a recorded trail before its first turn
 abbrev pub new_trail : TableId → TableId → Shape → List ℕ → TrailState
 new_trail name receipts shape quotas = record {
   name = name;
   receipts = receipts;
+  recorded = true;
   shape = shape;
   quotas = quotas;
   closed = [];
   current = None;
   noted = 0;
 }
+
+-- the quota of each of so many callers of an unrecorded trail: their equal part of the greatest number that has 64 bits
+abbrev pub free_quota : ℕ → ℕ
+free_quota callers = (2 ^ 64 - 1) / max callers 1
+
+abbrev pub free_quotas : ℕ → List ℕ
+free_quotas callers = replicate callers (free_quota callers)
+
+-- an unrecorded trail before its first turn
+abbrev pub unrecorded_trail : TableId → TableId → Shape → TrailState
+unrecorded_trail name receipts shape = record (new_trail name receipts shape (free_quotas (callers_of shape))) { recorded = false }
+
+-- the turns that stand in memory: all where the trail is recorded, and none where it isn't
+abbrev pub recorded_turns : TrailState → List Turn
+recorded_turns s = cond s.recorded (all_turns s) []
 
 -- the turn as it is opened
 abbrev pub opened : TrailState → ℕ → ℕ → Turn
@@ -141,9 +156,12 @@ pub record IsNoting (shape : Shape) (noted : ℕ) (t : Turn) : Type 0 where
 pub record IsTrail (s : TrailState) : Type 0 where
   pub shaped : IsWellFormed s.shape
   pub few : callers_of s.shape < 2 ^ 32
-  -- a quota for each caller, and room for every turn
+  -- a run below the top has no more turns than its level's keep, a number of 32 bits
+  pub countable : (level : ℕ) → slice_index s.shape.keeps level < 2 ^ 32
+  -- a quota for each caller, and no more turns than can be counted, or recorded
   pub quotas : length s.quotas ≡ callers_of s.shape
-  pub fits : sum s.quotas < 2 ^ 32
+  pub fits : sum s.quotas < 2 ^ 64
+  pub recordable : s.recorded ≡ true → sum s.quotas < 2 ^ 32
   pub lawful : IsLawfulTrail s.shape s.closed s.current
   pub noting : IfSome s.current (λ t. IsNoting s.shape s.noted t)
   pub closed : IfNone s.current (s.noted ≡ 0)

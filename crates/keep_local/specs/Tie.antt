@@ -35,7 +35,7 @@ pub record HasHome (views : List View) : Type 0 where
 pub record IsTied (quotas : List ℕ) (s : State (Unit {0}) View) : Type 0 where
   -- the callers of all turns, in order
   pub callers : List ℕ
-  pub fits : sum quotas < 2 ^ 32
+  pub fits : sum quotas < 2 ^ 64
   -- the word is how many there are
   pub word : s.words ≡ length callers ∷ []
   pub known : All (λ caller. caller < length quotas) callers

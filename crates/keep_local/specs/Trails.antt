@@ -1,34 +1,30 @@
 -- What a trail keeps behind its pointer.
-use Rattle.std.specs.Prelude.{◌≡◌, ℕ, ◌+◌, ◌<◌, ◌≤◌, length, take, slice_get, slice_index, sum, vec_capacity}
+use Rattle.std.specs.Prelude.{◌≡◌, ℕ, ◌-◌, ◌^◌, ◌<◌, ◌≤◌, true, length, min, slice_index, sum, vec_capacity}
 use Rattle.keep_local.specs.declared.trail.Log.{Log}
-use Rattle.keep_local.specs.Turns.{run}
-use Rattle.keep_local.specs.States.{TrailState, IsTrail, all_tests, callers_in, tests_of}
+use Rattle.keep_local.specs.Turns.{run, last_turn}
+use Rattle.keep_local.specs.States.{TrailState, IsTrail, all_turns, callers_in, recorded_turns}
 
--- the first turns are closed, and one behind them is open
+-- the closed turns are those that receipts are given of
 abbrev pub log_state : Log → TrailState
 log_state l = record {
   name = l.tie.name;
   receipts = l.receipts.name;
+  recorded = l.recorded;
   shape = l.shape;
   quotas = l.tie.quotas;
-  closed = take l.closed l.turns.items;
-  current = slice_get l.turns.items l.closed;
+  closed = l.receipts.turns;
+  current = l.current;
   noted = l.noted;
 }
 
 pub record IsKept (l : Log) : Type 0 where
   pub trail : IsTrail (log_state l)
   -- the table counts these turns
-  pub callers : l.tie.callers ≡ callers_in l.turns.items
-  -- receipts are given of the tests of the closed ones
-  pub recorded : l.receipts.tests ≡ all_tests (take l.closed l.turns.items)
-  pub noting : l.receipts.noting ≡ tests_of (slice_get l.turns.items l.closed)
-  pub levels_noted : l.receipts.noted ≡ l.noted
-  -- at most one turn is open
-  pub closed : l.closed ≤ length l.turns.items
-  pub open_one : length l.turns.items ≤ l.closed + 1
-  -- there is room for every turn
-  pub room : sum l.tie.quotas ≤ vec_capacity l.turns
-  -- a counter for each level
+  pub callers : l.tie.callers ≡ callers_in (all_turns (log_state l))
+  -- a recorded trail has them in memory, and room for every turn
+  pub turns : l.turns.items ≡ recorded_turns (log_state l)
+  pub room : l.recorded ≡ true → sum l.tie.quotas ≤ vec_capacity l.turns
+  pub last : l.last ≡ last_turn l.receipts.turns
+  -- a counter for each level, which stays where it can't rise
   pub counters : length l.runs ≡ 33
-  pub runs : (level : ℕ) → level < 33 → slice_index l.runs level ≡ run level (take l.closed l.turns.items)
+  pub runs : (level : ℕ) → level < 33 → slice_index l.runs level ≡ min (run level l.receipts.turns) (2 ^ 32 - 1)

@@ -10,7 +10,7 @@ use sequence::Sequence;
 /// The rule of the table. Its key is the list of the callers' quotas.
 pub struct TieRule;
 
-impl TableRule<(), View, Sequence<u32>> for TieRule {
+impl TableRule<(), View, Sequence<u64>> for TieRule {
     ghost holds = { IsTied };
 
     ghost first = { first_view };

@@ -1,11 +1,12 @@
-//! The rule of the table that the receipts of a trail come from, and its six kinds of step. No step changes the table's word: by each the
-//! home seat notes or is told something, or a seat is split off or joined.
+//! The rule of the table that the receipts of a trail come from, and its four kinds of step. No step changes the table's word: by each the
+//! home seat learns of a closed turn or is told something, or a seat is split off or joined.
 ghost use Rattle.keep_local.specs.ReceiptRule.{AreOneList};
-ghost use Rattle.keep_local.specs.ReceiptViews.{before_turns, itself, copy_of, shown_to, no_tests};
-ghost use Rattle.keep_local.specs.ReceiptSteps.{noted_yes, noted_no, recorded, checked};
+ghost use Rattle.keep_local.specs.ReceiptViews.{before_turns, itself, copy_of, shown_to, no_turns};
+ghost use Rattle.keep_local.specs.ReceiptSteps.{recorded, checked, no_turn};
 
 use crate::receipt_view::ReceiptView;
 use atomic_table::{Join, Play, Split, TableRule};
+use std::marker::{Brand, PhantomData};
 
 /// The rule of the table.
 pub struct ReceiptRule;
@@ -16,35 +17,34 @@ impl TableRule<(), ReceiptView, ()> for ReceiptRule {
     ghost first = { λ _. before_turns };
 }
 
-/// The load by which the home seat notes that another caller was queued at the next level.
-pub struct NoteYes;
+/// The turn that a step records, for the proof alone. A call at `Brand` picks it.
+pub trait ClosedTurn {
+    ghost use Rattle.keep_local.specs.declared.turn.Turn.{Turn};
 
-impl Play<(), ReceiptView> for NoteYes {
-    ghost then = { noted_yes };
+    ghost turn: { Turn };
 }
 
-/// The load by which the home seat notes that no other caller was queued at the next level.
-pub struct NoteNo;
-
-impl Play<(), ReceiptView> for NoteNo {
-    ghost then = { noted_no };
+impl ClosedTurn for Brand {
+    ghost turn = { no_turn };
 }
 
-/// The load by which the home seat adds what was noted to the tests of the closed turns.
-pub struct Record;
-
-impl Play<(), ReceiptView> for Record {
-    ghost then = { recorded };
+/// The load by which the home seat adds a turn to those that are closed.
+pub struct Record<T> {
+    of: PhantomData<T>,
 }
 
-/// The load by the home seat, which tells that what it was shown are the first of the tests that it knows.
+impl<T: ClosedTurn> Play<(), ReceiptView> for Record<T> {
+    ghost then = { recorded T.turn };
+}
+
+/// The load by the home seat, which tells that what it was shown are the first of the turns that it knows.
 pub struct Check;
 
 impl Play<(), ReceiptView> for Check {
     ghost then = { checked };
 }
 
-/// A new seat knows the same closed turns' tests.
+/// A new seat knows the same closed turns.
 pub struct Copy;
 
 impl Split<ReceiptView> for Copy {
@@ -59,5 +59,5 @@ pub struct Show;
 impl Join<ReceiptView> for Show {
     ghost both = { shown_to };
 
-    ghost spent = { no_tests };
+    ghost spent = { no_turns };
 }

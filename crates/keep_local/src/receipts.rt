@@ -1,15 +1,16 @@
 //! The table that the receipts of a trail come from.
-ghost use Rattle.std.specs.Prelude.{◌≡◌, ◌+◌, [], ◌∷◌, ◌++◌, ◌≢◌, IfOk};
+ghost use Rattle.std.specs.Prelude.{◌≡◌, [], ◌∷◌, ◌++◌, ◌≢◌, IfOk};
 ghost use Rattle.keep_local.specs.ReceiptRule.{AreFirst};
-ghost use Rattle.keep_local.specs.States.{new_notes, with_test};
+ghost use Rattle.keep_local.specs.States.{all_tests, new_notes};
 
 use crate::receipt::Receipt;
-use crate::receipt_plays::{Check, Copy, NoteNo, NoteYes, ReceiptRule, Record, Show};
+use crate::receipt_plays::{Check, ClosedTurn, Copy, ReceiptRule, Record, Show};
 use crate::receipt_view::ReceiptView;
+use crate::turn::Turn;
 use atomic_table::{Badge, Seat, Table};
 use out_of_memory::OutOfMemory;
 use std::alloc::Global;
-use std::marker::Model;
+use std::marker::{Brand, Model};
 use std::mem;
 
 type ReceiptTable = Table<(), ReceiptView, (), ReceiptRule, Global>;
@@ -17,8 +18,7 @@ type ReceiptTable = Table<(), ReceiptView, (), ReceiptRule, Global>;
 // The one word never changes: each step loads it.
 const WORD: usize = 0;
 
-/// The table with its home seat, as a trail keeps it. Contracts see its name, the tests of the closed turns, and those that were noted for
-/// the open one.
+/// The table with its home seat, as a trail keeps it. Contracts see its name and the closed turns, which stand nowhere in memory.
 #[derive(Drop)]
 pub(crate) struct Receipts {
     table: ReceiptTable,
@@ -46,33 +46,26 @@ impl Receipts {
         Ok(Receipts { table, home })
     }
 
-    /// Notes for the open turn whether another caller was queued at the next level.
-    pub(crate) fn note(&mut self, queued: bool)
-        ensures { self.new ≡ record self.old {
-          noting = with_test self.old.noting self.old.noted queued;
-          noted = self.old.noted + 1;
-        } }
+    /// A turn is closed. Nothing is written but what clauses see.
+    pub(crate) fn record(&mut self, turn: Turn)
+        ensures { self.new ≡ record self.old { turns = self.old.turns ++ turn ∷ [] } }
     {
-        let table = &self.table;
-        if queued {
-            table.shared.load::<NoteYes>(&mut self.home, WORD);
-        } else {
-            table.shared.load::<NoteNo>(&mut self.home, WORD);
-        }
+        self.record_as::<Brand>(turn);
     }
 
-    /// The open turn is closed, with what was noted for it.
-    pub(crate) fn record(&mut self)
-        ensures { self.new ≡ record self.old { tests = self.old.tests ++ self.old.noting ∷ []; noting = 0; noted = 0 } }
+    // The same for the turn that the proof of a call picks.
+    fn record_as<T: ClosedTurn>(&mut self, _turn: Turn)
+        requires { _turn ≡ T.turn }
+        ensures { self.new ≡ record self.old { turns = self.old.turns ++ T.turn ∷ [] } }
     {
         let table = &self.table;
-        table.shared.load::<Record>(&mut self.home, WORD);
+        table.shared.load::<Record<T>>(&mut self.home, WORD);
     }
 
     /// A receipt of the turns that are closed now.
     pub(crate) fn give(&mut self) -> Receipt
         ensures own { result.name ≡ self.old.name }
-        ensures tests { result.tests ≡ self.old.tests }
+        ensures tests { result.tests ≡ all_tests self.old.turns }
         ensures same { self.new ≡ self.old }
     {
         let table = &self.table;
@@ -86,7 +79,7 @@ impl Receipts {
     pub(crate) fn check(&mut self, receipt: &mut Receipt)
         requires own { receipt.old.name ≡ self.old.name }
         requires some { receipt.old.tests ≢ [] }
-        ensures first { AreFirst receipt.old.tests self.old.tests }
+        ensures first { AreFirst receipt.old.tests (all_tests self.old.turns) }
         ensures receipt { receipt.new ≡ receipt.old }
         ensures same { self.new ≡ self.old }
     {

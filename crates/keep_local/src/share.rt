@@ -1,5 +1,5 @@
 //! The right of one caller to make its turns.
-ghost use Rattle.std.specs.Prelude.{◌≡◌, ◌≤◌};
+ghost use Rattle.std.specs.Prelude.{◌≡◌, ◌-◌, ◌^◌, ◌<◌, ◌≤◌, ◌↔◌, IsTrue, min};
 
 use crate::view::View;
 use atomic_table::Badge;
@@ -10,8 +10,8 @@ use std::marker::Model;
 pub struct Share {
     pub(crate) badge: Badge<View>,
     pub(crate) caller: u32,
-    pub(crate) made: u32,
-    pub(crate) quota: u32,
+    pub(crate) made: u64,
+    pub(crate) quota: u64,
 }
 
 impl Model for Share {
@@ -34,18 +34,55 @@ impl Share {
         self.caller
     }
 
-    /// How many turns its caller has made, an open one included.
+    /// How many turns its caller has made, an open one included. Where these are more than 32 bits have, which is so of no recorded trail,
+    /// it is the greatest number of 32 bits.
     pub fn made(&self) -> u32
+        ensures made { self.now.quota < 2 ^ 32 → result ≡ self.now.made }
+        ensures most { result ≡ min self.now.made (2 ^ 32 - 1) }
+        ensures within { result ≤ self.now.quota }
+    {
+        clamped(self.made)
+    }
+
+    /// How many turns its caller may make. Where these are more than 32 bits have, which is so of no recorded trail, it is the greatest
+    /// number of 32 bits.
+    pub fn quota(&self) -> u32
+        ensures quota { self.now.quota < 2 ^ 32 → result ≡ self.now.quota }
+        ensures most { result ≡ min self.now.quota (2 ^ 32 - 1) }
+    {
+        clamped(self.quota)
+    }
+
+    /// How many turns its caller has made, an open one included, in 64 bits.
+    pub fn turns_made(&self) -> u64
         ensures made { result ≡ self.now.made }
         ensures within { result ≤ self.now.quota }
     {
         self.made
     }
 
-    /// How many turns its caller may make.
-    pub fn quota(&self) -> u32
+    /// How many turns its caller may make, in 64 bits.
+    pub fn turns_allowed(&self) -> u64
         ensures { result ≡ self.now.quota }
     {
         self.quota
+    }
+
+    /// Whether its caller may make another turn.
+    pub fn may_turn(&self) -> bool
+        ensures { IsTrue result ↔ (self.now.made < self.now.quota) }
+    {
+        self.made < self.quota
+    }
+}
+
+// The number, or the greatest of 32 bits where it has more.
+fn clamped(number: u64) -> u32
+    ensures { result ≡ min number (2 ^ 32 - 1) }
+{
+    if number < 1 << 32 {
+        number as u32
+    } else {
+        u32::MAX
     }
 }

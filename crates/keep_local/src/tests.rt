@@ -1,6 +1,7 @@
 //! Vectors: each is played through the public calls, and compared with the turns that it must give and with the plain checker.
-ghost use Rattle.std.specs.Prelude.{◌≡◌, ◌≢◌, ◌^◌, ◌<◌, [], sum, All, IfSome, IsSome};
+ghost use Rattle.std.specs.Prelude.{◌≡◌, ◌≢◌, ◌^◌, ◌<◌, [], sum, true, All, IfSome, IsSome, IsTrue};
 ghost use Rattle.std.specs.Bool.{OnTrue};
+ghost use Rattle.keep_local.specs.Turns.{Begins};
 
 use crate::{Receipt, Shape, Share, Trail, Turn, begins, is_lawful, level_to_leave, run_of};
 use out_of_memory::OutOfMemory;
@@ -65,6 +66,7 @@ fn release(trail: &mut Trail, tests: u32)
     requires fresh { trail.old.noted ≡ 0 }
     ensures name { trail.new.name ≡ trail.old.name }
     ensures receipts { trail.new.receipts ≡ trail.old.receipts }
+    ensures recorded { trail.new.recorded ≡ trail.old.recorded }
 {
     let top = trail.shape().keeps.as_slice().len() as u32;
     for level in 0..top {
@@ -78,25 +80,36 @@ fn release(trail: &mut Trail, tests: u32)
     trail.leave(top);
 }
 
+// Whether a turn may begin behind the closed ones of a trail.
+fn may_begin(trail: &Trail, turn: Turn) -> bool
+    ensures { IsTrue result → Begins trail.now.shape trail.now.closed turn }
+{
+    match trail.last() {
+        Some(last) => begins(trail.shape(), &[last], turn),
+        None => begins(trail.shape(), &[], turn),
+    }
+}
+
 // One hold of the share's caller. The answer is no where it can't begin.
 fn hold(trail: &mut Trail, share: &mut Share, tests: u32) -> bool
     requires own { share.old.name ≡ trail.old.name }
     ensures trail { trail.new.name ≡ trail.old.name }
     ensures receipts { trail.new.receipts ≡ trail.old.receipts }
+    ensures recorded { trail.new.recorded ≡ trail.old.recorded }
     ensures share { share.new.name ≡ share.old.name }
 {
-    if trail.is_open() || share.made() >= share.quota() {
+    if trail.is_open() || !share.may_turn() {
         return false;
     }
     let top = trail.shape().keeps.as_slice().len() as u32;
-    let climb = trail.turns().last().map_or(top, |last| last.left);
+    let climb = trail.last().map_or(top, |last| last.left);
     let turn = Turn {
         caller: share.caller(),
         climb,
         tests: 0,
         left: top,
     };
-    if !begins(trail.shape(), trail.turns(), turn) {
+    if !may_begin(trail, turn) {
         return false;
     }
     trail.open(share, climb);
@@ -105,24 +118,24 @@ fn hold(trail: &mut Trail, share: &mut Share, tests: u32) -> bool
 }
 
 // Whether the trail has just these turns, and the plain checker finds them lawful.
-fn has_turns(trail: &Trail, turns: &[Turn]) -> bool {
+fn has_turns(trail: &Trail, turns: &[Turn]) -> bool
+    requires { trail.now.recorded ≡ true }
+{
     let found = trail.turns();
     found == turns && is_lawful(trail.shape(), found)
 }
 
 // Whether the trail counts each run as the plain checker does, also of levels that it doesn't have.
-fn has_runs(trail: &Trail) -> bool {
-    for level in 0..40 {
-        if trail.run(level) as usize != run_of(trail.turns(), level) {
-            return false;
-        }
-    }
-    true
+fn has_runs(trail: &Trail) -> bool
+    requires { trail.now.recorded ≡ true }
+{
+    counts_runs(trail, trail.turns())
 }
 
 // Whether the trail agrees with a share on the number of its caller's turns.
 fn agrees(trail: &mut Trail, share: &mut Share) -> bool
     requires own { share.old.name ≡ trail.old.name }
+    requires recorded { trail.old.recorded ≡ true }
     ensures trail { trail.new ≡ trail.old }
     ensures share { share.new ≡ share.old }
 {
@@ -133,7 +146,8 @@ fn agrees(trail: &mut Trail, share: &mut Share) -> bool
 }
 
 fn all_agree(trail: &mut Trail, shares: &mut [Share]) -> bool
-    requires { All (λ share. share.name ≡ trail.old.name) shares.old }
+    requires own { All (λ share. share.name ≡ trail.old.name) shares.old }
+    requires recorded { trail.old.recorded ≡ true }
     ensures { trail.new ≡ trail.old }
 {
     for share in shares.iter_mut() {
@@ -165,6 +179,55 @@ fn plays(alloc: Global, case: &Case) -> Result<bool, OutOfMemory> {
     }
     let agree = all_agree(&mut trail, shares.as_mut_slice());
     Ok(agree && has_turns(&trail, &turns) && has_runs(&trail))
+}
+
+// One hold, which has to be this turn.
+fn hold_as(trail: &mut Trail, share: &mut Share, turn: Turn) -> bool
+    requires own { share.old.name ≡ trail.old.name }
+    ensures trail { trail.new.name ≡ trail.old.name }
+    ensures share { share.new.name ≡ share.old.name }
+{
+    hold(trail, share, turn.tests) && trail.last() == Some(turn)
+}
+
+// Plays a case to its end over a trail that keeps no turns. The answer is no where it can't be played, or where a turn or a count differs.
+fn plays_unrecorded(alloc: Global, case: &Case) -> Result<bool, OutOfMemory> {
+    let shape = shape_of(alloc, case)?;
+    let callers = shape.paths.as_slice().len();
+    if !shape.is_well_formed() || callers > 100 || callers != case.quotas.len() {
+        return Ok(false);
+    }
+    let turns = turns_of(alloc, case.turns)?;
+    let (mut trail, mut shares) = Trail::unrecorded(alloc, shape)?;
+    for turn in &turns {
+        let caller = turn.caller as usize;
+        if caller >= shares.len() || !hold_as(&mut trail, &mut shares[caller], *turn) {
+            return Ok(false);
+        }
+    }
+    Ok(!trail.is_recorded() && counts_runs(&trail, &turns) && counts_turns(&shares, &turns))
+}
+
+// Whether a trail counts each run as the plain checker does for these turns.
+fn counts_runs(trail: &Trail, turns: &[Turn]) -> bool {
+    for level in 0..40 {
+        if trail.run(level) as usize != run_of(turns, level) {
+            return false;
+        }
+    }
+    true
+}
+
+// Whether each share has made as many of these turns as there are of its caller.
+fn counts_turns(shares: &[Share], turns: &[Turn]) -> bool {
+    for share in shares {
+        let caller = share.caller();
+        let count = turns.iter().filter(|turn| turn.caller == caller).count();
+        if share.turns_made() != count as u64 {
+            return false;
+        }
+    }
+    true
 }
 
 // Two callers under one node, which keeps the lock once.
@@ -280,6 +343,9 @@ fn the_trail_of_each_case_is_its_turns(rt: HostRuntime) {
         let Ok(true) = plays(rt.alloc(), case) else {
             panic!(rt; "a case is played otherwise")
         };
+        let Ok(true) = plays_unrecorded(rt.alloc(), case) else {
+            panic!(rt; "a case is played otherwise where no turns are kept")
+        };
     }
 }
 
@@ -379,6 +445,7 @@ fn other_paths_are_not_well_formed(rt: HostRuntime) {
 
 // A receipt of the closed turns, where there are some and none is open.
 fn receipt_of(trail: &mut Trail) -> Option<Receipt>
+    requires recorded { trail.old.recorded ≡ true }
     ensures own { IfSome result (λ receipt. receipt.name ≡ trail.old.receipts) }
     ensures some { IfSome result (λ receipt. receipt.tests ≢ []) }
     ensures trail { trail.new ≡ trail.old }

@@ -14,9 +14,9 @@ use std::alloc::Global;
 use std::marker::Model;
 use std::mem;
 
-type Words = Shared<(), View, Sequence<u32>, TieRule>;
+type Words = Shared<(), View, Sequence<u64>, TieRule>;
 
-type TieTable = Table<(), View, Sequence<u32>, TieRule, Global>;
+type TieTable = Table<(), View, Sequence<u64>, TieRule, Global>;
 
 // The one word counts the turns. Its number is told to proofs alone.
 const TURNS: usize = 0;
@@ -42,9 +42,9 @@ impl Model for Tie {
 
 impl Tie {
     /// The tie before any turn, and a share for each quota, in order.
-    pub(crate) fn make(alloc: Global, quotas: &[u32]) -> Result<(Tie, Vec<Share>), OutOfMemory>
+    pub(crate) fn make(alloc: Global, quotas: &[u64]) -> Result<(Tie, Vec<Share>), OutOfMemory>
         requires few { length quotas.now < 2 ^ 32 }
-        requires fits { sum quotas.now < 2 ^ 32 }
+        requires fits { sum quotas.now < 2 ^ 64 }
         ensures quotas { IfOk result (λ m. m.0.quotas ≡ quotas.now) }
         ensures callers { IfOk result (λ m. m.0.callers ≡ []) }
         ensures shares { IfOk result (λ m. m.1.items ≡ new_shares m.0.name quotas.now) }
@@ -90,8 +90,8 @@ impl Tie {
 }
 
 // The table with its word at 0, and its first seat, which has all tallies.
-fn new_table(alloc: Global, quotas: &[u32]) -> Result<(TieTable, Seat<(), View>), OutOfMemory>
-    requires fits { sum quotas.now < 2 ^ 32 }
+fn new_table(alloc: Global, quotas: &[u64]) -> Result<(TieTable, Seat<(), View>), OutOfMemory>
+    requires fits { sum quotas.now < 2 ^ 64 }
     ensures table { IfOk result (λ m. m.0.shared.key ≡ quotas.now) }
     ensures word { IfOk result (λ m. m.0.shared.table_id.words ≡ 1) }
     ensures own { IfOk result (λ m. m.1.table_id ≡ m.0.shared.table_id) }
@@ -105,7 +105,7 @@ fn new_table(alloc: Global, quotas: &[u32]) -> Result<(TieTable, Seat<(), View>)
 fn split_shares(
     words: &Words,
     home: &mut Seat<(), View>,
-    quotas: &[u32],
+    quotas: &[u64],
     room: Vec<Share>,
 ) -> Vec<Share>
     requires word { words.now.table_id.words ≡ 1 }

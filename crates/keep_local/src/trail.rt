@@ -1,11 +1,12 @@
 //! The record of all holds of a lock.
-ghost use Rattle.std.specs.Prelude.{◌≡◌, ℕ, ◌+◌, ◌^◌, ◌<◌, ◌≤◌, ◌↔◌, [], ◌∷◌, ◌++◌, length, sum, slice_index, IfOk, IfSome, IsSome};
-ghost use Rattle.std.specs.Prelude.{IsTrue, None, Some, option_map, ◌≢◌};
+ghost use Rattle.std.specs.Prelude.{◌≡◌, ℕ, ◌+◌, ◌-◌, ◌^◌, ◌<◌, ◌≤◌, ◌↔◌, ◌⊎◌, [], ◌∷◌, ◌++◌, length, sum, slice_index};
+ghost use Rattle.std.specs.Prelude.{slice_set, IfOk, IfSome, IsSome, IsTrue, None, Some, cond, max, min, option_map, replicate, true, vec_capacity, ◌≢◌};
 ghost use Rattle.keep_local.specs.ReceiptRule.{AreFirst};
 ghost use Rattle.keep_local.specs.Shapes.{IsWellFormed, top_of, callers_of};
-ghost use Rattle.keep_local.specs.Turns.{run, Begins};
-ghost use Rattle.keep_local.specs.States.{IsTrail, IsShareOf, MayLeave, all_tests, all_turns, left_at, new_shares, new_trail, opened};
-ghost use Rattle.keep_local.specs.States.{option_list, tested, with_test as set_where_queued};
+ghost use Rattle.keep_local.specs.Turns.{run, last_turn, Begins};
+ghost use Rattle.keep_local.specs.States.{IsTrail, IsShareOf, MayLeave, all_tests, all_turns, free_quota, free_quotas, left_at};
+ghost use Rattle.keep_local.specs.States.{new_shares, new_trail, opened, option_list, tested, tests_of, unrecorded_trail};
+ghost use Rattle.keep_local.specs.States.{with_test as set_where_queued};
 
 use crate::receipt::Receipt;
 use crate::receipts::Receipts;
@@ -20,14 +21,17 @@ use std::marker::Model;
 // A shape has at most 33 levels: the tests of a turn have 32 bits, and the top has none.
 const LEVELS: usize = 33;
 
-// What a trail keeps. The turns up to `closed` are closed, and at most one behind them is open.
+// What a trail keeps.
 #[derive(Drop)]
 pub(crate) struct Log {
-    // What changes with each turn stands first, together.
-    turns: Vec<Turn>,
-    closed: usize,
+    // What changes with each turn stands first, together: the open turn, and the last closed one.
+    current: Option<Turn>,
+    last: Option<Turn>,
     noted: u32,
-    // The run of each level, over the closed turns.
+    recorded: bool,
+    // All turns where the trail is recorded, an open one last, and none where it isn't.
+    turns: Vec<Turn>,
+    // The run of each level, over the closed turns. It stays at the greatest number of 32 bits where it comes to that.
     runs: [u32; LEVELS],
     tie: Tie,
     receipts: Receipts,
@@ -53,8 +57,8 @@ impl Model for Trail {
 }
 
 impl Trail {
-    /// A trail without turns, for callers with these paths, and a share for each caller with its quota, in order. It takes the room for
-    /// every turn.
+    /// A recorded trail without turns, for callers with these paths, and a share for each caller with its quota, in order. It takes the
+    /// room for every turn.
     pub fn reserve(
         alloc: Global,
         shape: Shape,
@@ -70,16 +74,56 @@ impl Trail {
     {
         let room: u32 = quotas.iter().sum();
         let turns = Vec::with_capacity(alloc, room as usize)?;
+        let quotas = widened(alloc, quotas)?;
+        Trail::make(alloc, shape, &quotas, true, turns)
+    }
+
+    /// A trail without turns that keeps none in memory, for callers with these paths, and a share for each caller, in order. Their quotas
+    /// are equal, and the greatest of which 64 bits have one for each caller: 2^64 - 1, divided by the number of callers.
+    pub fn unrecorded(alloc: Global, shape: Shape) -> Result<(Trail, Vec<Share>), OutOfMemory>
+        requires shape { IsWellFormed shape }
+        requires few { callers_of shape < 2 ^ 32 }
+        ensures trail { IfOk result (λ m. m.0 ≡ unrecorded_trail m.0.name m.0.receipts shape) }
+        ensures shares { IfOk result (λ m. m.1.items ≡ new_shares m.0.name (free_quotas (callers_of shape))) }
+        ensures lawful { IfOk result (λ m. IsTrail m.0) }
+    {
+        let callers = shape.callers();
+        let quotas = vec![in alloc; equal_part(callers); callers]?;
+        Trail::make(alloc, shape, &quotas, false, Vec::new(alloc))
+    }
+
+    // A trail without turns. A recorded one takes a list that has room for every turn.
+    fn make(
+        alloc: Global,
+        shape: Shape,
+        quotas: &[u64],
+        recorded: bool,
+        turns: Vec<Turn>,
+    ) -> Result<(Trail, Vec<Share>), OutOfMemory>
+        requires shape { IsWellFormed shape }
+        requires few { callers_of shape < 2 ^ 32 }
+        requires quotas { length quotas.now ≡ callers_of shape }
+        requires fits { sum quotas.now < 2 ^ 64 }
+        requires recordable { recorded ≡ true → sum quotas.now < 2 ^ 32 }
+        requires room { recorded ≡ true → sum quotas.now ≤ vec_capacity turns }
+        requires empty { turns.items ≡ [] }
+        ensures trail { IfOk result (λ m. m.0 ≡ record (new_trail m.0.name m.0.receipts shape quotas.now) { recorded = recorded }) }
+        ensures shares { IfOk result (λ m. m.1.items ≡ new_shares m.0.name quotas.now) }
+        ensures lawful { IfOk result (λ m. IsTrail m.0) }
+    {
+        check_keeps(shape.keeps.as_slice());
         let (tie, shares) = Tie::make(alloc, quotas)?;
         let receipts = Receipts::make(alloc)?;
         let log = Log {
+            current: None,
+            last: None,
+            noted: 0,
+            recorded,
+            turns,
+            runs: [0; LEVELS],
             tie,
             receipts,
             shape,
-            turns,
-            closed: 0,
-            noted: 0,
-            runs: [0; LEVELS],
         };
         let log = Box::new(alloc, log)?;
         Ok((Trail { log }, shares))
@@ -104,7 +148,8 @@ impl Trail {
             tests: 0,
             left: log.shape.top(),
         };
-        log.turns.push_reserved(turn);
+        log.current = Some(turn);
+        push_where(&mut log.turns, log.recorded, turn);
     }
 
     /// Notes for the open turn whether its release found another caller queued at a level. Levels are noted from 0 up.
@@ -116,9 +161,15 @@ impl Trail {
         ensures lawful { IsTrail self.new }
     {
         let log = &mut *self.log;
-        let turn = &mut log.turns[log.closed];
-        turn.tests = with_test(turn.tests, level, yes);
-        log.receipts.note(yes);
+        let Some(turn) = log.current else {
+            unreachable!()
+        };
+        let turn = Turn {
+            tests: with_test(turn.tests, level, yes),
+            ..turn
+        };
+        log.current = Some(turn);
+        write_last(&mut log.turns, turn);
         log.noted = level + 1;
     }
 
@@ -135,9 +186,17 @@ impl Trail {
         ensures lawful { IsTrail self.new }
     {
         let log = &mut *self.log;
-        log.turns[log.closed].left = level;
-        log.receipts.record();
-        log.closed += 1;
+        let Some(turn) = log.current else {
+            unreachable!()
+        };
+        let turn = Turn {
+            left: level,
+            ..turn
+        };
+        log.receipts.record(turn);
+        write_last(&mut log.turns, turn);
+        log.current = None;
+        log.last = Some(turn);
         log.noted = 0;
         count_run(&mut log.runs, level);
     }
@@ -170,20 +229,50 @@ impl Trail {
         ensures open { IsTrue result ↔ IsSome self.now.current }
         ensures lawful { IsTrail self.now }
     {
-        self.log.closed < self.log.turns.len()
+        self.log.current.is_some()
     }
 
-    /// All turns, an open one last.
+    /// The tests that were noted for the open turn, 0 where none is open.
+    pub fn tests(&self) -> u32
+        ensures tests { result ≡ tests_of self.now.current }
+        ensures lawful { IsTrail self.now }
+    {
+        match self.log.current {
+            Some(turn) => turn.tests,
+            None => 0,
+        }
+    }
+
+    /// The last closed turn, or `None` before the first.
+    pub fn last(&self) -> Option<Turn>
+        ensures last { result ≡ last_turn self.now.closed }
+        ensures lawful { IsTrail self.now }
+    {
+        self.log.last
+    }
+
+    /// Whether the trail keeps its turns in memory.
+    pub fn is_recorded(&self) -> bool
+        ensures recorded { result ≡ self.now.recorded }
+        ensures lawful { IsTrail self.now }
+    {
+        self.log.recorded
+    }
+
+    /// All turns of a recorded trail, an open one last.
     pub fn turns(&self) -> &[Turn]
+        requires recorded { self.now.recorded ≡ true }
         ensures turns { result.now ≡ all_turns self.now }
         ensures lawful { IsTrail self.now }
     {
         &self.log.turns
     }
 
-    /// How many closed turns left at a level, behind the last one that left higher.
+    /// How many closed turns left at a level, behind the last one that left higher. Where these are more than 32 bits have, which is so at
+    /// the top of an unrecorded trail alone, it is the greatest number of 32 bits.
     pub fn run(&self, level: u32) -> u32
-        ensures run { result ≡ run level self.now.closed }
+        ensures run { (self.now.recorded ≡ true) ⊎ (level < top_of self.now.shape) → result ≡ run level self.now.closed }
+        ensures most { result ≡ min (run level self.now.closed) (2 ^ 32 - 1) }
         ensures lawful { IsTrail self.now }
     {
         if (level as usize) < LEVELS {
@@ -201,10 +290,11 @@ impl Trail {
         &self.log.shape
     }
 
-    /// How many turns the share's caller has in the trail.
+    /// How many turns the share's caller has in the trail. The number is that of a recorded trail; an unrecorded one shows the same of its
+    /// share, whose `turns_made` has the number.
     pub fn agree(&mut self, share: &mut Share) -> u32
         requires own { share.old.name ≡ self.old.name }
-        ensures made { result ≡ share.old.made }
+        ensures made { self.old.recorded ≡ true → result ≡ share.old.made }
         ensures trail { self.new ≡ self.old }
         ensures share { share.new ≡ share.old }
         ensures counted { IsShareOf self.old share.old }
@@ -224,15 +314,63 @@ fn with_test(tests: u32, level: u32, queued: bool) -> u32
     if queued { tests | 1 << level } else { tests }
 }
 
-// Counts one more turn that left at a level: the runs of the lower levels end.
+// Shows that each keep has 32 bits.
+fn check_keeps(_keeps: &[u32])
+    ensures { (level : ℕ) → slice_index _keeps.now level < 2 ^ 32 }
+{}
+
+// The quotas in 64 bits.
+fn widened(alloc: Global, quotas: &[u32]) -> Result<Vec<u64>, OutOfMemory>
+    ensures { IfOk result (λ wide. wide.items ≡ quotas.now) }
+{
+    let mut wide = Vec::with_capacity(alloc, quotas.len())?;
+    for quota in quotas {
+        wide.push(u64::from(*quota))?;
+    }
+    Ok(wide)
+}
+
+// The part of each of so many callers in the greatest number of 64 bits.
+fn equal_part(callers: usize) -> u64
+    ensures { result ≡ free_quota callers }
+{
+    if callers == 0 {
+        u64::MAX
+    } else {
+        u64::MAX / callers as u64
+    }
+}
+
+// Adds a turn where the trail is recorded.
+fn push_where(turns: &mut Vec<Turn>, recorded: bool, turn: Turn)
+    requires { recorded ≡ true → length turns.old.items < vec_capacity turns.old }
+    ensures items { turns.new.items ≡ cond recorded (turns.old.items ++ turn ∷ []) turns.old.items }
+    ensures capacity { vec_capacity turns.new ≡ vec_capacity turns.old }
+{
+    if recorded {
+        turns.push_reserved(turn);
+    }
+}
+
+// Writes a turn in the place of the last one, where there is one.
+fn write_last(turns: &mut Vec<Turn>, turn: Turn)
+    ensures items { turns.new.items ≡ slice_set turns.old.items (length turns.old.items - 1) turn }
+    ensures capacity { vec_capacity turns.new ≡ vec_capacity turns.old }
+{
+    let many = turns.len();
+    if many > 0 {
+        turns[many - 1] = turn;
+    }
+}
+
+// Counts one more turn that left at a level, as far as 32 bits go: the runs of the lower levels end.
 fn count_run(runs: &mut [u32], level: u32)
     requires there { level < length runs.old }
-    requires small { slice_index runs.old level + 1 < 2 ^ 32 }
-    ensures own { slice_index runs.new level ≡ slice_index runs.old level + 1 }
+    ensures own { slice_index runs.new level ≡ min (slice_index runs.old level + 1) (2 ^ 32 - 1) }
     ensures lower { (k : ℕ) → k < level → slice_index runs.new k ≡ 0 }
     ensures higher { (k : ℕ) → level < k → slice_index runs.new k ≡ slice_index runs.old k }
 {
     let (lower, others) = runs.split_at_mut(level as usize);
     lower.fill(0);
-    others[0] += 1;
+    others[0] = others[0].saturating_add(1);
 }

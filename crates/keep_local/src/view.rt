@@ -3,8 +3,8 @@
 /// How many turns a caller has made, and how many it may make. It exists in proofs alone, and no value of it is made.
 pub struct Tally {
     pub caller: u32,
-    pub made: u32,
-    pub quota: u32,
+    pub made: u64,
+    pub quota: u64,
 }
 
 /// What a seat knows. It exists in proofs alone, and no value of it is made.
@@ -14,7 +14,7 @@ pub struct Tally {
 pub struct View {
     pub home: bool,
     // A clause reads an array as a list, of any length.
-    pub quotas: [u32; 0],
+    pub quotas: [u64; 0],
     pub callers: [u32; 0],
     pub tallies: [Tally; 0],
 }

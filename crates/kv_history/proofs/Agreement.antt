@@ -12,10 +12,10 @@ use Rattle.kv_history.specs.declared.dues.Dues.{Dues}
 use Rattle.kv_history.specs.declared.expiry.Expiry.{Expiry}
 use Rattle.kv_history.specs.declared.expiry.Expiry.TheVariants.{Never, At}
 use Rattle.kv_history.specs.declared.item.Edit.{Edit}
-use Rattle.kv_history.specs.declared.item.Edit.TheVariants.{Whole, Block, Join}
+use Rattle.kv_history.specs.declared.item.Edit.TheVariants.{Whole, Join}
 use Rattle.kv_history.specs.Contents.{Item, Items, is_live, left_at}
 use Rattle.kv_history.specs.Dues.{Agrees, AreAlike, ListsAt, NoneListed, Relists, expires_at, is_listed, is_same_key}
-use Rattle.kv_history.specs.Edits.{edited, edited_alike}
+use Rattle.kv_history.specs.Edits.{counted_in, edited, edited_alike, number_after, renumbered_item}
 use Rattle.kv_history.specs.Expiry.{is_due, is_time, same_expiry}
 
 pub agrees-alike : (items : Items) (old new : Dues) → AreAlike old new → Agrees old items → Agrees new items
@@ -66,7 +66,6 @@ agrees-same key before item items dues was same agrees =
 
 edited-expiry : (edit : Edit) (unique : ℕ) (item : Item) → (edited edit unique item).expiry ≡ item.expiry
 edited-expiry (Whole flags block) unique item = refl
-edited-expiry (Block block) unique item = refl
 edited-expiry (Join side more) unique item = refl
 
 pub agrees-edited : (key : List ℕ) (edit : Edit) (unique : ℕ) (items : Items) (dues : Dues) → Agrees dues items
@@ -77,6 +76,20 @@ agrees-edited key edit unique items dues agrees = chosen (get items key) refl
         → Agrees dues (option_map_or (λ item. insert items key (edited edit unique item)) found items)
     chosen None was = agrees
     chosen (Some item) was = agrees-same key item (edited edit unique item) items dues was (edited-expiry edit unique item) agrees
+
+-- an item that is counted expires when it did
+pub agrees-counted : (key : List ℕ) (up : Bool) (delta unique : ℕ) (items : Items) (dues : Dues) → Agrees dues items
+    → Agrees dues (counted_in items key up delta unique (get items key))
+agrees-counted key up delta unique items dues agrees = chosen (get items key) refl
+  where
+    within : (item : Item) (number : Option ℕ) → get items key ≡ Some item
+        → Agrees dues (option_map_or (λ n. insert items key (renumbered_item item n unique)) number items)
+    within item None was = agrees
+    within item (Some number) was = agrees-same key item (renumbered_item item number unique) items dues was refl agrees
+
+    chosen : (found : Option Item) → get items key ≡ found → Agrees dues (counted_in items key up delta unique found)
+    chosen None was = agrees
+    chosen (Some item) was = within item (number_after up delta item) was
 
 pub agrees-edited_alike : (key : List ℕ) (expiry : Expiry) (edit : Edit) (unique : ℕ) (items : Items) (dues : Dues) → Agrees dues items
     → Agrees dues (edited_alike items key expiry edit unique (get items key))

@@ -16,6 +16,7 @@ use Rattle.std.specs.Ordering.{nat_cmp, eq_by_cmp}
 use Rattle.std.specs.FinMap.{find, get, insert, remove, from_entries, get-from_entries, get-insert, get-remove, same_map, slice_cmp-IsAntisymmetric, nat_cmp-IsAntisymmetric, IsAntisymmetric}
 use Rattle.kv_history.specs.declared.item.Item.{Item}
 use Rattle.kv_history.specs.Contents as contents
+use Rattle.kv_history.specs.Edits.{counted_in, counted_item, number_after, renumbered_item}
 use Rattle.kv_history.specs.Views.{plain_item, keyed}
 
 abbrev pub Entries : Type 0
@@ -129,6 +130,20 @@ same-keyed key old new before after was alike here keeps =
         → cond b (Some (plain_item after)) (get (kept_items old) q) ≡ get (kept_items old) q
     chosen q true same = sym there ∙ ap (get (kept_items old)) (same_bytes q same)
     chosen q false differs = refl
+
+-- an item that is counted
+pub counted-keyed : (key : List ℕ) (old new : Entries) (before after : Item) (up : Bool) (delta unique : ℕ)
+    → lookup (names key) old ≡ Some before → plain_item after ≡ counted_item up delta unique (plain_item before)
+    → lookup (names key) new ≡ Some after → KeepsOthers same_key (names key) old new
+    → kept_items new ≡ counted_in (kept_items old) key up delta unique (Some (plain_item before))
+counted-keyed key old new before after up delta unique was is here keeps = chosen (number_after up delta (plain_item before)) is
+  where
+    chosen : (number : Option ℕ)
+        → plain_item after ≡ option_map_or (λ n. renumbered_item (plain_item before) n unique) number (plain_item before)
+        → kept_items new
+        ≡ option_map_or (λ n. insert (kept_items old) key (renumbered_item (plain_item before) n unique)) number (kept_items old)
+    chosen None same = same-keyed key old new before after was same here keeps
+    chosen (Some number) same = put-keyed key old new after here keeps ∙ ap (insert (kept_items old) key) same
 
 pub option_map-map : {A B C : Type 0} (f : B → C) (g : A → B) (o : Option A) → option_map (λ x. f (g x)) o ≡ option_map f (option_map g o)
 option_map-map f g None = refl

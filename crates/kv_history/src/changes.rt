@@ -1,7 +1,7 @@
 // What each command makes of the store.
 ghost use Rattle.std.specs.Prelude.{◌≡◌, IfOk, OnErr, OnOk};
 ghost use Rattle.std.specs.FinMap as map;
-ghost use Rattle.kv_history.specs.Answer.{counted, counting, deletion, kept, moved, number_of, storage, touching};
+ghost use Rattle.kv_history.specs.Answer.{counting, deletion, kept, moved, storage, touching};
 ghost use Rattle.kv_history.specs.Edits.{joining};
 ghost use Rattle.kv_history.specs.Lines.{fixed_line, written_line};
 ghost use Rattle.kv_history.specs.Views.{storing_view};
@@ -10,19 +10,14 @@ ghost use Rattle.mc_text.specs.declared.command.How.TheVariants.{Cas};
 
 use crate::Store;
 use crate::expiry::expiry_of;
-use crate::item::{Edit, Side};
+use crate::item::{Counting, Edit, Side};
 use crate::reply_line::{FixedLine, ReplyLine};
 use crate::storing::Storing;
-use byte_text::number_up_to;
-use itoa::Buffer;
 use mc_text::How;
 use out_of_memory::OutOfMemory;
 
 // The greatest number of bytes of a value.
 const VALUE_LIMIT: usize = 1_048_576;
-
-// The greatest number of digits of a number that can be counted.
-const DIGIT_LIMIT: usize = 20;
 
 impl Store {
     /// Stores an item as a storage command asks. Without memory the store stays.
@@ -128,18 +123,14 @@ impl Store {
         ensures store { OnOk result (self.new ≡ (counting self.old up key.now delta (map.get self.old.items key.now)).store) }
         ensures err { OnErr result (self.new ≡ self.old) }
     {
-        let Some(item) = self.items.get(key) else {
-            return Ok(ReplyLine::Fixed(FixedLine::NotFound));
-        };
-        let Some(number) = number_of(&item.block) else {
-            return Ok(ReplyLine::Fixed(FixedLine::NotNumber));
-        };
-        let number = counted(up, number, delta);
-        let mut buffer = Buffer::new();
-        let digits = buffer.format(number).as_bytes();
-        self.items.edit(key, Edit::Block(digits), self.next_unique)?;
-        self.next_unique = self.next_unique.wrapping_add(1);
-        Ok(ReplyLine::Number(number))
+        match self.items.count(key, up, delta, self.next_unique)? {
+            Counting::Absent => Ok(ReplyLine::Fixed(FixedLine::NotFound)),
+            Counting::NotNumber => Ok(ReplyLine::Fixed(FixedLine::NotNumber)),
+            Counting::Number(number) => {
+                self.next_unique = self.next_unique.wrapping_add(1);
+                Ok(ReplyLine::Number(number))
+            }
+        }
     }
 
     /// Lets a key's item expire at another time, which may be at once. Without memory the store stays.
@@ -172,27 +163,5 @@ impl Store {
         self.items.expire(moment);
         self.moment = moment;
         FixedLine::Done
-    }
-}
-
-// The number that a block is.
-fn number_of(block: &[u8]) -> Option<u64>
-    ensures { result ≡ number_of block.now }
-{
-    if block.len() <= DIGIT_LIMIT {
-        number_up_to(u64::MAX, block)
-    } else {
-        None
-    }
-}
-
-// A number counted up, round at 2^64, or down, to 0 at least.
-fn counted(up: bool, number: u64, delta: u64) -> u64
-    ensures { result ≡ counted up number delta }
-{
-    if up {
-        number.wrapping_add(delta)
-    } else {
-        number.saturating_sub(delta)
     }
 }

@@ -1,8 +1,14 @@
 // What the store keeps of an item.
 ghost use Rattle.std.specs.Prelude.{◌≡◌, ◌++◌, IfOk, OnErr, OnOk};
+ghost use Rattle.kv_history.specs.Answer.{counted, number_of};
 
 use crate::expiry::Expiry;
+use byte_text::number_up_to;
+use itoa::Buffer;
 use std::alloc::{AllocError, Global};
+
+// The greatest number of digits of a number that can be counted.
+const DIGIT_LIMIT: usize = 20;
 
 /// An item.
 #[derive(Drop)]
@@ -18,10 +24,19 @@ pub(crate) struct Item {
 pub(crate) enum Edit<'a> {
     /// Other flags and another block.
     Whole { flags: u32, block: &'a [u8] },
-    /// Another block.
-    Block(&'a [u8]),
     /// More bytes beside the block.
     Join(Side, &'a [u8]),
+}
+
+/// What becomes of the number that a key's item holds.
+#[derive(Clone, Copy)]
+pub(crate) enum Counting {
+    /// There is no item.
+    Absent,
+    /// The item holds no number.
+    NotNumber,
+    /// The number that the item holds now.
+    Number(u64),
 }
 
 /// Where bytes are joined to a block.
@@ -33,7 +48,7 @@ pub(crate) enum Side {
 
 impl Item {
     ghost use Rattle.kv_history.specs.Views.{plain_item};
-    ghost use Rattle.kv_history.specs.Edits.{edited};
+    ghost use Rattle.kv_history.specs.Edits.{edited, counting_item, counted_item};
 
     pub fn new(
         alloc: Global,
@@ -63,12 +78,50 @@ impl Item {
                 overwrite(&mut self.block, block)?;
                 self.flags = flags;
             }
-            Edit::Block(block) => overwrite(&mut self.block, block)?,
             Edit::Join(Side::Back, piece) => self.block.extend_from_slice(piece)?,
             Edit::Join(Side::Front, piece) => put_in_front(&mut self.block, piece)?,
         }
         self.unique = unique;
         Ok(())
+    }
+
+    /// Counts the number that the item holds up or down; the item gets another unique. It stays where it holds no number, and
+    /// without memory.
+    pub fn count(&mut self, up: bool, delta: u64, next_unique: u64) -> Result<Counting, AllocError>
+        ensures number { IfOk result (λ counting. counting ≡ counting_item up delta (plain_item self.old)) }
+        ensures ok { OnOk result (plain_item self.new ≡ counted_item up delta next_unique (plain_item self.old)) }
+        ensures err { OnErr result (plain_item self.new ≡ plain_item self.old) }
+    {
+        let Some(number) = number_of(&self.block) else {
+            return Ok(Counting::NotNumber);
+        };
+        let number = counted(up, number, delta);
+        let mut buffer = Buffer::new();
+        overwrite(&mut self.block, buffer.format(number).as_bytes())?;
+        self.unique = next_unique;
+        Ok(Counting::Number(number))
+    }
+}
+
+// The number that a block is.
+fn number_of(block: &[u8]) -> Option<u64>
+    ensures { result ≡ number_of block.now }
+{
+    if block.len() <= DIGIT_LIMIT {
+        number_up_to(u64::MAX, block)
+    } else {
+        None
+    }
+}
+
+// A number counted up, round at 2^64, or down, to 0 at least.
+fn counted(up: bool, number: u64, delta: u64) -> u64
+    ensures { result ≡ counted up number delta }
+{
+    if up {
+        number.wrapping_add(delta)
+    } else {
+        number.saturating_sub(delta)
     }
 }
 

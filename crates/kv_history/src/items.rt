@@ -4,12 +4,12 @@ ghost use Rattle.std.specs.Bool.{OnFalse};
 ghost use Rattle.std.specs.Option.{option_map_or};
 ghost use Rattle.std.specs.FinMap as map;
 ghost use Rattle.kv_history.specs.Contents.{left_at};
-ghost use Rattle.kv_history.specs.Edits.{edited};
+ghost use Rattle.kv_history.specs.Edits.{counted_in, counting_of, edited};
 ghost use Rattle.kv_history.specs.Views.{plain_item};
 
 use crate::dues::Dues;
 use crate::expiry::Expiry;
-use crate::item::{Edit, Item};
+use crate::item::{Counting, Edit, Item};
 use crate::table::{Found, Table};
 use out_of_memory::OutOfMemory;
 use std::alloc::Global;
@@ -165,5 +165,21 @@ impl Items {
         ensures err { OnErr result (self.new ≡ self.old) }
     {
         self.table.edit(key, edit, unique)
+    }
+
+    /// Counts the number that a key's item holds up or down; the item gets another unique. The items stay where there is none
+    /// or it holds no number, and without memory.
+    pub fn count(
+        &mut self,
+        key: &[u8],
+        up: bool,
+        delta: u64,
+        unique: u64,
+    ) -> Result<Counting, OutOfMemory>
+        ensures number { IfOk result (λ counting. counting ≡ counting_of up delta (map.get self.old key.now)) }
+        ensures ok { OnOk result (self.new ≡ counted_in self.old key.now up delta unique (map.get self.old key.now)) }
+        ensures err { OnErr result (self.new ≡ self.old) }
+    {
+        self.table.count(key, up, delta, unique)
     }
 }

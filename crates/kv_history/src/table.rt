@@ -3,10 +3,10 @@ ghost use Rattle.std.specs.Prelude.{◌≡◌, IfNone, IfOk, IfSome, OnErr, OnOk
 ghost use Rattle.std.specs.Option.{option_map_or};
 ghost use Rattle.std.specs.FinMap as map;
 ghost use Rattle.kv_history.specs.Views.{plain_item};
-ghost use Rattle.kv_history.specs.Edits.{edited, edited_alike, found_of};
+ghost use Rattle.kv_history.specs.Edits.{counted_in, counting_of, edited, edited_alike, found_of};
 
 use crate::expiry::Expiry;
-use crate::item::{Edit, Item};
+use crate::item::{Counting, Edit, Item};
 use indexmap::IndexMap;
 use out_of_memory::OutOfMemory;
 use std::alloc::Global;
@@ -153,5 +153,25 @@ impl Table {
         };
         item.edit(edit, unique)?;
         Ok(true)
+    }
+
+    /// Counts the number that a key's item holds up or down; the item gets another unique. The items stay where there is none
+    /// or it holds no number, and without memory.
+    pub fn count(
+        &mut self,
+        key: &[u8],
+        up: bool,
+        delta: u64,
+        unique: u64,
+    ) -> Result<Counting, OutOfMemory>
+        ensures number { IfOk result (λ counting. counting ≡ counting_of up delta (map.get self.old key.now)) }
+        ensures ok { OnOk result (self.new ≡ counted_in self.old key.now up delta unique (map.get self.old key.now)) }
+        ensures err { OnErr result (self.new ≡ self.old) }
+    {
+        let Some(item) = self.entries.get_mut(key) else {
+            return Ok(Counting::Absent);
+        };
+        let counting = item.count(up, delta, unique)?;
+        Ok(counting)
     }
 }

@@ -1,5 +1,5 @@
 -- The course of a lock that is made for a new trail and a new roll.
-use Rattle.std.proofs.Common.{◌≡◌, ℕ, ◌≤◌, List, ap, sym, ◌∙◌, subst, Option, Some, None, vec_capacity}
+use Rattle.std.proofs.Common.{◌≡◌, ℕ, ◌≤◌, true, List, ap, sym, ◌∙◌, subst, Option, Some, None, vec_capacity}
 use Rattle.std.specs.Prelude.{IfSome, sum}
 use Rattle.atomic_table.specs.Seated.{TableId}
 use Rattle.lock_rules.specs.Tag.{Tag}
@@ -32,16 +32,23 @@ module _ (name receipts : TableId) (shape : Shape) (quotas : List ℕ) (t : Tag)
   pub quotas_made : (course_of t).quotas ≡ quotas
   quotas_made = ap (λ (c : Course). c.quotas) course_made ∙ ap (λ (s : TrailState). s.quotas) trail
 
+  recorded_made : (course_of t).recorded ≡ true
+  recorded_made = ap (λ (c : Course). c.recorded) course_made ∙ ap (λ (s : TrailState). s.recorded) trail
+
   pub room_made : (roll : Roll) → root.payload ≡ roll → sum quotas ≤ vec_capacity roll.callers → HasRoom (course_of t)
   room_made roll is enough = record {
+    recorded = recorded_made;
     room = vec_capacity roll.callers;
     payload_is = ap (λ (c : Course). c.payload) course_made ∙ ap roll_tag is;
     enough = subst (λ (q : List ℕ). sum q ≤ vec_capacity roll.callers) (sym quotas_made) enough;
   }
 
--- the shape and the quotas of a root are those that its tag names
+-- the shape and the quotas of a root are those that its tag names, and so is whether its trail is recorded
 pub shape_named : (r : Root Roll) (t : Tag) → root_tag roll_tag r ≡ t → r.trail.shape ≡ (course_of t).shape
 shape_named r t same = sym (ap (λ (c : Course). c.shape) (course_is calls_of roll_tag t r same))
 
 pub quotas_named : (r : Root Roll) (t : Tag) → root_tag roll_tag r ≡ t → r.trail.quotas ≡ (course_of t).quotas
 quotas_named r t same = sym (ap (λ (c : Course). c.quotas) (course_is calls_of roll_tag t r same))
+
+pub recorded_named : (r : Root Roll) (t : Tag) → root_tag roll_tag r ≡ t → (course_of t).recorded ≡ true → r.trail.recorded ≡ true
+recorded_named r t same is = sym (ap (λ (c : Course). c.recorded) (course_is calls_of roll_tag t r same)) ∙ is

@@ -52,7 +52,7 @@ pub fn hold_all<C: Composed<Roll>, R: Wait>(rt: &R, lock: &C, job: Job<C::Pass>)
         mut pass,
         mut share,
     } = job;
-    for _ in share.made()..share.quota() {
+    for _ in share.turns_made()..share.turns_allowed() {
         pass = hold(rt, lock, pass, &mut share);
     }
     Job { pass, share }

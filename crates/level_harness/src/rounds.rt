@@ -82,7 +82,7 @@ fn is_done<P, Q, H, L>(walker: &Walker<P, Q, H, L>) -> bool
     ensures { IsTrue result → IsDone walker.now }
 {
     match &walker.state {
-        State::Idle(_) => walker.share.made() == walker.share.quota(),
+        State::Idle(_) => walker.share.turns_made() == walker.share.turns_allowed(),
         _ => false,
     }
 }

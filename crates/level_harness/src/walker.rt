@@ -66,7 +66,7 @@ fn enter<C: Composed<Roll>>(lock: &C, pass: C::Pass, share: &mut Share) -> State
         (C.has lock.now) (C.level lock.now) (C.tag lock.now) result share.new }
     ensures share { IsShareIn (course_of (C.tag lock.now)) share.old.caller share.new }
 {
-    if share.made() == share.quota() {
+    if !share.may_turn() {
         return State::Idle(pass);
     }
     match lock.begin(pass, share) {

@@ -8,7 +8,7 @@
 use anyhow::{Context, bail};
 use clh_lock::Clh;
 use hemlock_lock::Hemlock;
-use lock_harness::{BoundedCount, count_alone, count_by_four, count_by_two};
+use lock_harness::{BoundedCount, count_by};
 use mcs_lock::Mcs;
 use std::env;
 use std::sync::atomic::{AtomicU64, Ordering};
@@ -32,18 +32,18 @@ fn main(rt: HostRuntime) -> anyhow::Result<()> {
     let alloc = rt.alloc();
     let count = match (lock.as_str(), threads) {
         ("adds", 1) => Some(add_often(holds)),
-        ("ticket", 1) => count_alone::<Ticket<BoundedCount>, _>(&rt, alloc, (), holds),
-        ("ticket", 2) => count_by_two::<Ticket<BoundedCount>, _>(&rt, alloc, (), holds),
-        ("ticket", 4) => count_by_four::<Ticket<BoundedCount>, _>(&rt, alloc, (), holds),
-        ("mcs", 1) => count_alone::<Mcs<BoundedCount>, _>(&rt, alloc, (), holds),
-        ("mcs", 2) => count_by_two::<Mcs<BoundedCount>, _>(&rt, alloc, (), holds),
-        ("mcs", 4) => count_by_four::<Mcs<BoundedCount>, _>(&rt, alloc, (), holds),
-        ("clh", 1) => count_alone::<Clh<BoundedCount>, _>(&rt, alloc, (), holds),
-        ("clh", 2) => count_by_two::<Clh<BoundedCount>, _>(&rt, alloc, (), holds),
-        ("clh", 4) => count_by_four::<Clh<BoundedCount>, _>(&rt, alloc, (), holds),
-        ("hemlock", 1) => count_alone::<Hemlock<BoundedCount>, _>(&rt, alloc, (), holds),
-        ("hemlock", 2) => count_by_two::<Hemlock<BoundedCount>, _>(&rt, alloc, (), holds),
-        ("hemlock", 4) => count_by_four::<Hemlock<BoundedCount>, _>(&rt, alloc, (), holds),
+        ("ticket", 1 | 2 | 4) => count_by::<Ticket<BoundedCount>, _>(
+            &rt,
+            alloc,
+            (),
+            threads,
+            holds,
+        ),
+        ("mcs", 1 | 2 | 4) => count_by::<Mcs<BoundedCount>, _>(&rt, alloc, (), threads, holds),
+        ("clh", 1 | 2 | 4) => count_by::<Clh<BoundedCount>, _>(&rt, alloc, (), threads, holds),
+        ("hemlock", 1 | 2 | 4) => {
+            count_by::<Hemlock<BoundedCount>, _>(&rt, alloc, (), threads, holds)
+        }
         _ => bail!(
             "there is no {lock} with {threads} threads: name a lock with 1, 2 or 4, or adds with 1"
         ),

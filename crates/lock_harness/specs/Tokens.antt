@@ -37,10 +37,3 @@ module _ {P : Type 0} (pass : P → Place) where
   pub record ArePasses (lock tag : Tag) (first second : P) : Type 0 where
     pub first_is : pass first ≡ record { lock = lock; tag = tag; number = 0 }
     pub second_is : pass second ≡ record { lock = lock; tag = tag; number = 1 }
-
-  -- the passes 0 to 3 of a lock
-  pub record AreFour (lock tag : Tag) (front back : P × P) : Type 0 where
-    pub first_is : pass front.0 ≡ record { lock = lock; tag = tag; number = 0 }
-    pub second_is : pass front.1 ≡ record { lock = lock; tag = tag; number = 1 }
-    pub third_is : pass back.0 ≡ record { lock = lock; tag = tag; number = 2 }
-    pub fourth_is : pass back.1 ≡ record { lock = lock; tag = tag; number = 3 }

@@ -10,7 +10,7 @@ use lock_rules::Cargo;
 pub struct Parcel {
     pub count: u64,
     pub parked: bool,
-    /// How often the holders of `hold_by_four` parked it.
+    /// How often the holders of `hold_by` parked it.
     pub parkings: u64,
     /// How often they found it parked.
     pub unparkings: u64,

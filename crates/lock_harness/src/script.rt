@@ -6,8 +6,8 @@ ghost use Rattle.lock_harness.specs.declared.script.Told.TheVariants.{Yes, No};
 ghost use Rattle.lock_harness.specs.declared.script.Who.TheVariants.{First, Second};
 ghost use Rattle.lock_harness.specs.Tokens.{place_of_token, Stands, IsNoted, IsSound, ArePair, ArePasses};
 
+use crate::holds::use_parcel;
 use crate::parcel::Parcel;
-use crate::threads::use_parcel;
 use lock_rules::{Basic, Step};
 use std::alloc::Global;
 
@@ -32,7 +32,7 @@ pub enum Call {
     Park,
     /// Takes the value's mark off.
     Unpark,
-    /// What a holder of `hold_by_four` does where the holders park.
+    /// What a holder of `hold_by` does where the holders park.
     Use,
 }
 

@@ -1,8 +1,10 @@
--- Numbers of any size.
-use Rattle.std.proofs.Common.{◌≡◌, ℕ, true, List, Ok, Err, refl}
+-- Numbers of any size, and of one digit.
+use Rattle.std.proofs.Common.{◌≡◌, ◌+◌, ◌-◌, ◌<◌, ◌≤◌, ℕ, true, List, [], ◌∷◌, Some, Ok, Err, refl, arith}
+use Rattle.std.specs.Char.{digit_value}
 use Rattle.std.specs.Str.Parse.{IsNumeral}
-use Rattle.byte_text.specs.Numerals.{is_decimal}
-use Rattle.byte_text.proofs.NumeralLaws.{Decides-is_decimal, no_decimal}
+use Rattle.std.proofs.lemmas.Str.{digit_value_digit}
+use Rattle.byte_text.specs.Numerals.{is_decimal, number_below}
+use Rattle.byte_text.proofs.NumeralLaws.{Decides-is_decimal, below_limit, no_decimal}
 use Rattle.mc_text.specs.declared.command.LineFault.TheVariants.{Format}
 use Rattle.mc_text.specs.Field.{level_of}
 
@@ -15,3 +17,10 @@ level_is word numeral = let test : is_decimal word ≡ true = (Decides-is_decima
 pub level_none : (word : List ℕ) → ¬ (IsNumeral 10 word) → level_of word ≡ Err Format
 unfolding level_of
 level_none word lacks = rw (no_decimal word lacks) refl
+
+-- one digit is a number
+pub one_digit : (limit digit : ℕ) → 48 ≤ digit → digit ≤ 57 → 9 < limit → number_below limit (digit ∷ []) ≡ Some (digit - 48)
+one_digit limit digit low high large =
+    let value : digit_value digit + 48 ≡ digit = digit_value_digit digit (low, high) in
+    let numeral : IsNumeral 10 (digit ∷ []) = (omega arith, (omega (arith, value), tt)) in
+    below_limit limit (digit - 48) (digit ∷ []) numeral (omega (arith, value)) (omega arith)

@@ -20,7 +20,7 @@ ghost use Rattle.mc_text.specs.View.{Answers};
 
 use crate::command::LineFault;
 use crate::keys::Keys;
-use byte_text::{Numeral, Words, number_up_to, number32, read_numeral};
+use byte_text::{Numeral, Words, number_up_to, read_numeral};
 
 // The greatest number of bytes of a key.
 const KEY_LIMIT: usize = 250;
@@ -88,7 +88,24 @@ fn are_keys(mut words: Words<'_>) -> bool
 pub(crate) fn read_number32(word: &[u8]) -> Result<u32, LineFault>
     ensures { Answers (λ number. number) (number32_of word.now) result }
 {
-    number32(word).ok_or(LineFault::Format)
+    match number_of(u64::from(u32::MAX), word) {
+        Some(number) => Ok(number as u32),
+        None => Err(LineFault::Format),
+    }
+}
+
+// The number that a word writes, where it is at most `greatest`. Many numbers have one digit, which is read at once.
+#[tactic(auto, using(crate::proofs::Numbers::one_digit))]
+#[inline(always)]
+fn number_of(greatest: u64, word: &[u8]) -> Option<u64>
+    requires { 9 ≤ greatest }
+    ensures number { result ≡ number_below (greatest + 1) word.now }
+    ensures bound { IfSome result (λ number. number ≤ greatest) }
+{
+    match word {
+        [digit] if *digit >= b'0' && *digit <= b'9' => Some(u64::from(*digit - b'0')),
+        _ => number_up_to(greatest, word),
+    }
 }
 
 /// The unique that a word writes.
@@ -96,7 +113,7 @@ pub(crate) fn read_number32(word: &[u8]) -> Result<u32, LineFault>
 pub(crate) fn read_unique(word: &[u8]) -> Result<u64, LineFault>
     ensures { Answers (λ number. number) (unique_of word.now) result }
 {
-    number_up_to(u64::MAX, word).ok_or(LineFault::Format)
+    number_of(u64::MAX, word).ok_or(LineFault::Format)
 }
 
 /// The delta that a word writes.
@@ -104,7 +121,7 @@ pub(crate) fn read_unique(word: &[u8]) -> Result<u64, LineFault>
 pub(crate) fn read_delta(word: &[u8]) -> Result<u64, LineFault>
     ensures { Answers (λ number. number) (delta_of word.now) result }
 {
-    number_up_to(u64::MAX, word).ok_or(LineFault::Delta)
+    number_of(u64::MAX, word).ok_or(LineFault::Delta)
 }
 
 /// The expiry time that a word writes.
@@ -124,7 +141,7 @@ fn read_expiry(word: &[u8]) -> Option<i32>
         let number = number_up_to(2_147_483_648, digits)?;
         Some((0 - number as i64) as i32)
     } else {
-        let number = number_up_to(2_147_483_647, word)?;
+        let number = number_of(2_147_483_647, word)?;
         Some(number as i32)
     }
 }

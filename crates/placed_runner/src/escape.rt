@@ -7,7 +7,8 @@ use byte_text::hex_digit;
 use std::alloc::AllocError;
 
 /// Appends a text as it is printed between quotes, and what stands behind it, `end`. Most texts end with `\r\n`; `line_end` is that, as it
-/// is printed, and `end`.
+/// is printed, and `end`. In line, so that what stands behind a text is appended without a call.
+#[inline(always)]
 pub(crate) fn push_ended(
     out: &mut Vec<u8>,
     text: &[u8],
@@ -30,6 +31,7 @@ pub(crate) fn push_ended(
 }
 
 // Appends a text as it is printed between quotes.
+#[inline(always)]
 fn push_escaped(out: &mut Vec<u8>, text: &[u8]) -> Result<(), AllocError>
     ensures { OnOk result (out.new.items ≡ out.old.items ++ escaped text.now) }
 {

@@ -50,14 +50,22 @@ const POWERS: [usize; 9] = [
 
 // How many digits the numbers of turns have that tell how they found and left the lock.
 fn levels_size(turns: &[Turn]) -> usize {
-    let mut size: usize = 0;
+    let mut size = turns.len().wrapping_mul(3);
     for turn in turns {
-        size = size
-            .wrapping_add(digits(u64::from(turn.climb)))
-            .wrapping_add(digits(u64::from(turn.tests)))
-            .wrapping_add(digits(u64::from(turn.left)));
+        // Where no number has a bit above the lowest three, each has one digit, as under a lock of one level.
+        if (turn.climb | turn.tests | turn.left) > 7 {
+            size = size.wrapping_add(more_digits(turn));
+        }
     }
     size
+}
+
+// How many digits these numbers of a turn have beyond one each.
+fn more_digits(turn: &Turn) -> usize {
+    digits(u64::from(turn.climb))
+        .wrapping_add(digits(u64::from(turn.tests)))
+        .wrapping_add(digits(u64::from(turn.left)))
+        .wrapping_sub(3)
 }
 
 // How many bytes the line of a caller has, and those of its turns, but for their replies and the numbers of their own.
@@ -89,27 +97,27 @@ fn digits(number: u64) -> usize {
 
 // How many bytes a text has between quotes.
 fn escaped_size(text: &[u8]) -> usize {
-    let mut size: usize = 0;
+    let mut size = text.len();
     for piece in text.chunks(PIECE) {
-        size = size.wrapping_add(piece_size(piece) as usize);
+        size = size.wrapping_add(usize::from(more_in(piece)));
     }
     size
 }
 
-// So few bytes at a time that eight bits have their sizes' sum: many bytes are then counted together.
-const PIECE: usize = 48;
+// So few bytes at a time that eight bits have what they take beyond one each: many bytes are then counted together.
+const PIECE: usize = 64;
 
-// How many bytes a piece of a text has between quotes: four for each byte without a sign of its own, but two for a line end's, and
-// two for a sign with a backslash.
-fn piece_size(piece: &[u8]) -> u8 {
-    let mut size: u8 = 0;
+// How many bytes a piece of a text takes between quotes beyond one each: three for each byte without a sign of its own, but one for a line
+// end's, and one for a sign with a backslash.
+fn more_in(piece: &[u8]) -> u8 {
+    let mut more: u8 = 0;
     for byte in piece {
         let hidden = u8::from(byte.wrapping_sub(b' ') > b'~' - b' ');
         let line_end = u8::from(*byte == b'\r') + u8::from(*byte == b'\n');
         let sign = u8::from(*byte == b'"') + u8::from(*byte == b'\\');
-        size = size
-            .wrapping_add(1 + 3 * hidden + sign)
+        more = more
+            .wrapping_add(3 * hidden + sign)
             .wrapping_sub(2 * line_end);
     }
-    size
+    more
 }

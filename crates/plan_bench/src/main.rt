@@ -34,7 +34,11 @@ fn main(rt: HostRuntime) -> anyhow::Result<()> {
         "there was no memory, or these are too many levels or holds",
     )?;
     let (trail, roll) = root.into_parts();
-    let turns = trail.turns().len();
+    let turns = if trail.is_recorded() {
+        trail.turns().len()
+    } else {
+        0
+    };
     let calls = roll.callers.get().len();
     match end {
         End::Done(_) => println!(rt; "{locks} {keep} {threads} {turns} {calls}")?,

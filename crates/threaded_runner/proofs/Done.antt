@@ -80,11 +80,12 @@ all_closed s closed = ap (λ (o : Option Turn). s.closed ++ option_list o) close
 pub finished : (root : Root Book) (shares : List ShareState) → IsFit book_calls root
     → root.trail.quotas ≡ map (λ (one : List ℕ). length (commands_of one)) root.payload.journal.sections → All (IsShareOf root.trail) shares
     → AreDone root.trail.name root.trail.quotas shares → length shares ≡ length root.payload.journal.sections → EachOwnFirst root.payload.journal
-    → NoneVoid root.payload.journal.entries → IsFinished root.trail root.payload.journal
-finished root shares fit quotas counted done many first whole =
+    → NoneVoid root.payload.journal.entries → root.trail.recorded ≡ true → IsFinished root.trail root.payload.journal
+finished root shares fit quotas counted done many first whole recorded =
     let made = subst (EachMadeAll root.payload.journal.sections) (all_closed root.trail fit.settled.closed)
     (turns_made root.trail shares root.payload.journal.sections counted done many quotas) in
     record {
+      recorded = recorded;
       closed = fit.settled.closed;
       lawful = fit.settled.trail.lawful.0;
       ends = fit.left;

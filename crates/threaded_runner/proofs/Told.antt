@@ -29,6 +29,7 @@ dealt name receipts shape quotas root sections shares trail many told each given
       callers = ap (λ (c : Course). callers_of c.shape) course ∙ ap (λ (s : TrailState). callers_of s.shape) trail ∙ many;
       told = ap (λ (c : Course). lists_in c.payload) course ∙ lists_in-tree_of_lists root.payload.journal.sections ∙ told;
       quotas = quotas_are ∙ each;
+      recorded = ap (λ (c : Course). c.recorded) course ∙ ap (λ (s : TrailState). s.recorded) trail;
       dealt = given ∙ (λ i. new_shares (sym name_is i) (sym quotas_are i));
     }
 

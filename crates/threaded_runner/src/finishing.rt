@@ -1,5 +1,5 @@
 //! How a run ends: its lock is taken apart, and the shares that came back show that every turn was made.
-ghost use Rattle.std.specs.Prelude.{◌≡◌, ◌<◌, ℕ, length, map, slice_get, All, IfOk, OnErr, Some};
+ghost use Rattle.std.specs.Prelude.{◌≡◌, ◌<◌, ℕ, length, map, slice_get, All, IfOk, OnErr, Some, true};
 ghost use Rattle.lock_rules.specs.Trees.{lists_in};
 ghost use Rattle.keep_local.specs.States.{IsShareOf};
 ghost use Rattle.clof_compose.specs.Courses.{course_of};
@@ -40,6 +40,7 @@ pub fn close_run<'a, C: Composed<Book<'a>> + Drop>(
     requires count { C.count lock ≡ length (lists_in (course_of (C.tag lock)).payload) }
     requires quotas { (course_of (C.tag lock)).quotas
         ≡ map (λ section. length (commands_of section)) (lists_in (course_of (C.tag lock)).payload) }
+    requires recorded { (course_of (C.tag lock)).recorded ≡ true }
     ensures finished { IfOk result (λ left. IsFinished left.trail left.journal) }
     ensures shape { IfOk result (λ left. left.trail.shape ≡ (course_of (C.tag lock)).shape) }
     ensures sections { IfOk result (λ left. left.journal.sections ≡ lists_in (course_of (C.tag lock)).payload) }
@@ -61,6 +62,7 @@ pub fn close_run<'a, C: Composed<Book<'a>> + Drop>(
 pub fn finish<'a>(root: Root<Book<'a>>, shares: Vec<Share>) -> Result<Finished<'a>, OutOfMemory>
     requires fit { IsFit book_calls root }
     requires quotas { root.trail.quotas ≡ map (λ section. length (commands_of section)) root.payload.journal.sections }
+    requires recorded { root.trail.recorded ≡ true }
     requires shares { AreDone root.trail.name root.trail.quotas shares.items }
     requires many { length shares.items ≡ length root.payload.journal.sections }
     ensures finished { IfOk result (λ left. IsFinished left.trail left.journal) }

@@ -29,7 +29,7 @@ pub fn serve<'a, C: Composed<Book<'a>>, G: Gate, R: Wait>(
     ensures served { HasServed C.Pass.rest job.entry result }
 {
     let mut job = job;
-    for _ in job.share.made()..job.share.quota() {
+    for _ in job.share.turns_made()..job.share.turns_allowed() {
         job = give_next(rt, lock, gate, job);
         if job.stopped {
             return job;

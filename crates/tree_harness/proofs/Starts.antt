@@ -1,5 +1,5 @@
 -- What a trial is made of, and the shape and the quotas of what it leaves.
-use Rattle.std.proofs.Common.{◌≡◌, ℕ, ◌+◌, ◌<◌, ◌^◌, List, length, ap, refl, sym, ◌∙◌, subst, Option}
+use Rattle.std.proofs.Common.{◌≡◌, ℕ, ◌+◌, ◌<◌, ◌^◌, true, List, length, ap, refl, sym, ◌∙◌, subst, Option}
 use Rattle.std.specs.Prelude.{IfSome}
 use Rattle.lock_rules.specs.Tag.{Tag}
 use Rattle.keep_local.specs.declared.shape.Shape.{Shape}
@@ -11,7 +11,7 @@ use Rattle.clof_compose.specs.Roots.{root_tag}
 use Rattle.clof_compose.specs.declared.root.Root.{Root}
 use Rattle.level_harness.specs.Rooms.{HasRoom, roll_tag}
 use Rattle.level_harness.specs.declared.roll.Roll.{Roll}
-use Rattle.level_harness.proofs.Making.{if_some, quotas_named, shape_named}
+use Rattle.level_harness.proofs.Making.{if_some, quotas_named, recorded_named, shape_named}
 use Rattle.tree_harness.specs.declared.outcome.Outcome.{Outcome}
 use Rattle.tree_harness.specs.Ready.{MayTry}
 
@@ -47,3 +47,7 @@ module _ (root : Root Roll) where
     pub of_quotas : (quotas : List ℕ) → root.trail.quotas ≡ quotas → IfSome left (λ o. o.root.trail.quotas ≡ quotas)
     of_quotas quotas is = if_some (λ o. root_tag roll_tag o.root ≡ own_tag) (λ o. o.root.trail.quotas ≡ quotas) left
         (λ o same. quotas_named o.root own_tag same ∙ sym (quotas_named root own_tag refl) ∙ is) tagged
+
+    pub of_recorded : (course_of own_tag).recorded ≡ true → IfSome left (λ o. o.root.trail.recorded ≡ true)
+    of_recorded is = if_some (λ o. root_tag roll_tag o.root ≡ own_tag) (λ o. o.root.trail.recorded ≡ true) left
+        (λ o same. recorded_named o.root own_tag same is) tagged

@@ -1,5 +1,5 @@
 //! A trial of a lock, from its making to its end.
-ghost use Rattle.std.specs.Prelude.{◌≡◌, ◌+◌, ◌^◌, ◌<◌, length, sum, IfSome};
+ghost use Rattle.std.specs.Prelude.{◌≡◌, ◌+◌, ◌^◌, ◌<◌, length, sum, true, IfSome};
 ghost use Rattle.keep_local.specs.Shapes.{IsWellFormed, callers_of, top_of};
 ghost use Rattle.clof_compose.specs.Roots.{IsFit};
 
@@ -34,6 +34,7 @@ pub fn try_lock<R: Threads + Wait + Sync>(
     ensures fit { IfSome result (λ o. IsFit (λ r. r.callers.items) o.root) }
     ensures shape { IfSome result (λ o. o.root.trail.shape ≡ shape) }
     ensures quotas { IfSome result (λ o. o.root.trail.quotas ≡ quotas.now) }
+    ensures recorded { IfSome result (λ o. o.root.trail.recorded ≡ true) }
 {
     if quotas.is_empty() {
         return None;

@@ -36,10 +36,20 @@ pub(crate) const fn turn(caller: u32, climb: u32, tests: u32, left: u32) -> Turn
     }
 }
 
+/// The turns that the trail of a root has in memory, none where it isn't recorded.
+pub(crate) fn turns_in(root: &Root<Roll>) -> &[Turn] {
+    let trail = root.trail();
+    if trail.is_recorded() {
+        trail.turns()
+    } else {
+        &[]
+    }
+}
+
 /// Whether the turns are lawful by the plain checker, and the roll has a call of each one's caller, in order.
 pub(crate) fn is_of_its_turns(root: &Root<Roll>) -> bool {
     let trail = root.trail();
-    let turns = trail.turns();
+    let turns = turns_in(root);
     let callers = root.payload().callers.get().as_slice();
     is_lawful(trail.shape(), turns)
         && callers.len() == turns.len()
@@ -51,7 +61,7 @@ pub(crate) fn is_of_its_turns(root: &Root<Roll>) -> bool {
 
 /// Whether the turns are those of the table, and the rest of the root fits them.
 pub(crate) fn has_turns(root: &Root<Roll>, turns: &[Turn]) -> bool {
-    root.trail().turns() == turns && is_of_its_turns(root)
+    turns_in(root) == turns && is_of_its_turns(root)
 }
 
 /// Whether a walk was made, and the callers that were named stood there behind their steps.

@@ -75,6 +75,7 @@ pub kept_trail : (tag : Tag) (level above : ℕ) (share : ShareState) (old new :
 kept_trail tag level above share old new opened same = record {
   name = ap (λ (s : TrailState). s.name) same;
   receipts = ap (λ (s : TrailState). s.receipts) same;
+  recorded = ap (λ (s : TrailState). s.recorded) same;
   shape = ap (λ (s : TrailState). s.shape) same;
   quotas = ap (λ (s : TrailState). s.quotas) same;
   more = [];

@@ -28,7 +28,7 @@ fn enter<'a, C: Composed<Book<'a>>>(lock: &C, pass: C::Pass, task: &mut Task<'a>
     ensures share { IsShareIn (course_of (C.tag lock.now)) task.old.share.caller task.new.share }
     ensures moved { FromIdle result task.old task.new }
 {
-    if task.stopped || task.share.made() == task.share.quota() {
+    if task.stopped || !task.share.may_turn() {
         return State::Idle(pass);
     }
     match lock.begin(pass, &mut task.share) {

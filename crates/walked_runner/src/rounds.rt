@@ -81,7 +81,8 @@ fn is_done<P, Q, H, L>(walker: &Walker<'_, P, Q, H, L>) -> bool
 {
     match &walker.state {
         State::Idle(_) => {
-            walker.task.stopped || walker.task.share.made() == walker.task.share.quota()
+            walker.task.stopped
+                || walker.task.share.turns_made() == walker.task.share.turns_allowed()
         }
         _ => false,
     }

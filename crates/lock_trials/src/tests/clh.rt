@@ -1,7 +1,7 @@
 //! Tests of `clh_lock`.
 use clh_lock::Clh;
 use lock_harness::Told::{Got, No, Not, Yes};
-use lock_harness::{Call, HOLDS, Parcel, START, carry_out, first, hold_by_four, second};
+use lock_harness::{Call, HOLDS, Parcel, START, carry_out, first, hold_by, second};
 use lock_rules::Basic;
 
 #[test]
@@ -56,7 +56,7 @@ fn a_parked_value_is_handed_over(rt: HostRuntime) {
 #[test]
 fn four_threads_hold_in_turn(rt: HostRuntime) {
     for parks in [false, true] {
-        let Some(parcel) = hold_by_four::<Clh<Parcel>, _>(&rt, rt.alloc(), (), HOLDS, parks) else {
+        let Some(parcel) = hold_by::<Clh<Parcel>, _>(&rt, rt.alloc(), (), 4, HOLDS, parks) else {
             panic!(rt; "there was no memory")
         };
         assert!(rt; parcel.count == 4 * u64::from(HOLDS));

@@ -1,7 +1,7 @@
 //! Tests of `hemlock_lock`.
 use hemlock_lock::Hemlock;
 use lock_harness::Told::{Got, No, Not, Yes};
-use lock_harness::{Call, HOLDS, Parcel, START, carry_out, first, hold_by_four, second};
+use lock_harness::{Call, HOLDS, Parcel, START, carry_out, first, hold_by, second};
 use lock_rules::Basic;
 
 #[test]
@@ -49,7 +49,7 @@ fn a_parked_value_is_handed_over(rt: HostRuntime) {
 #[test]
 fn four_threads_hold_in_turn(rt: HostRuntime) {
     for parks in [false, true] {
-        let Some(parcel) = hold_by_four::<Hemlock<Parcel>, _>(&rt, rt.alloc(), (), HOLDS, parks)
+        let Some(parcel) = hold_by::<Hemlock<Parcel>, _>(&rt, rt.alloc(), (), 4, HOLDS, parks)
         else {
             panic!(rt; "there was no memory")
         };

@@ -1,6 +1,6 @@
 //! Tests of `mcs_lock`.
 use lock_harness::Told::{Got, No, Not, Yes};
-use lock_harness::{Call, HOLDS, Parcel, START, carry_out, first, hold_by_four, second};
+use lock_harness::{Call, HOLDS, Parcel, START, carry_out, first, hold_by, second};
 use lock_rules::Basic;
 use mcs_lock::Mcs;
 
@@ -67,7 +67,7 @@ fn a_pass_holds_again(rt: HostRuntime) {
 #[test]
 fn four_threads_hold_in_turn(rt: HostRuntime) {
     for parks in [false, true] {
-        let Some(parcel) = hold_by_four::<Mcs<Parcel>, _>(&rt, rt.alloc(), (), HOLDS, parks) else {
+        let Some(parcel) = hold_by::<Mcs<Parcel>, _>(&rt, rt.alloc(), (), 4, HOLDS, parks) else {
             panic!(rt; "there was no memory")
         };
         assert!(rt; parcel.count == 4 * u64::from(HOLDS));

@@ -1,8 +1,7 @@
 //! Tests of `ticket_lock`.
 use lock_harness::Told::{Got, No, Not, Yes};
 use lock_harness::{
-    BoundedCount, Call, HOLDS, Parcel, START, Slow, carry_out, count_alone, count_by_four,
-    count_by_two, first, hold_alone, hold_by_four, hold_by_two, second,
+    BoundedCount, Call, HOLDS, Parcel, START, Slow, carry_out, count_by, first, hold_by, second,
 };
 use lock_rules::Basic;
 use ticket_lock::Ticket;
@@ -74,7 +73,8 @@ fn a_holder_parks_where_another_waits(rt: HostRuntime) {
 #[test]
 fn a_hold_may_take_millions_of_polls(rt: HostRuntime) {
     let polls = 1_000_001;
-    let Some(parcel) = hold_alone::<Slow<Ticket<Parcel>>, _>(&rt, rt.alloc(), ((), polls), 1) else {
+    let Some(parcel) = hold_by::<Slow<Ticket<Parcel>>, _>(&rt, rt.alloc(), ((), polls), 1, 1, false)
+    else {
         panic!(rt; "there was no memory")
     };
     assert!(rt; parcel.count == 1);
@@ -83,8 +83,7 @@ fn a_hold_may_take_millions_of_polls(rt: HostRuntime) {
 #[test]
 fn four_threads_hold_in_turn(rt: HostRuntime) {
     for parks in [false, true] {
-        let Some(parcel) = hold_by_four::<Ticket<Parcel>, _>(&rt, rt.alloc(), (), HOLDS, parks)
-        else {
+        let Some(parcel) = hold_by::<Ticket<Parcel>, _>(&rt, rt.alloc(), (), 4, HOLDS, parks) else {
             panic!(rt; "there was no memory")
         };
         assert!(rt; parcel.count == 4 * u64::from(HOLDS));
@@ -110,24 +109,19 @@ fn passes_are_made_or_the_value_comes_back(rt: HostRuntime) {
 
 #[test]
 fn every_hold_is_made(rt: HostRuntime) {
-    let holds = u64::from(HOLDS);
-    let Some(alone) = hold_alone::<Ticket<Parcel>, _>(&rt, rt.alloc(), (), HOLDS) else {
-        panic!(rt; "there was no memory")
-    };
-    assert!(rt; alone.count == holds);
-    let Some(by_two) = hold_by_two::<Ticket<Parcel>, _>(&rt, rt.alloc(), (), HOLDS) else {
-        panic!(rt; "there was no memory")
-    };
-    assert!(rt; by_two.count == 2 * holds);
+    for threads in [1, 2, 5] {
+        let Some(parcel) = hold_by::<Ticket<Parcel>, _>(&rt, rt.alloc(), (), threads, HOLDS, false)
+        else {
+            panic!(rt; "there was no memory")
+        };
+        assert!(rt; parcel.count == u64::from(threads) * u64::from(HOLDS));
+    }
 }
 
 #[test]
 fn every_count_is_made(rt: HostRuntime) {
-    let holds = u64::from(HOLDS);
-    let alone = count_alone::<Ticket<BoundedCount>, _>(&rt, rt.alloc(), (), HOLDS);
-    assert!(rt; alone == Some(holds));
-    let by_two = count_by_two::<Ticket<BoundedCount>, _>(&rt, rt.alloc(), (), HOLDS);
-    assert!(rt; by_two == Some(2 * holds));
-    let by_four = count_by_four::<Ticket<BoundedCount>, _>(&rt, rt.alloc(), (), HOLDS);
-    assert!(rt; by_four == Some(4 * holds));
+    for threads in [1, 2, 4] {
+        let count = count_by::<Ticket<BoundedCount>, _>(&rt, rt.alloc(), (), threads, HOLDS);
+        assert!(rt; count == Some(u64::from(threads) * u64::from(HOLDS)));
+    }
 }

@@ -1,5 +1,5 @@
 //! Callers in threads of their own. In which order they come is up to the machine.
-use super::{Setting, is_of_its_turns, tried};
+use super::{Setting, is_of_its_turns, tried, turns_in};
 use clof_compose::Root;
 use level_harness::Roll;
 use lock_tree::LockKind::{Clh, Hem, Mcs, Tkt};
@@ -10,7 +10,7 @@ const HOLDS: u32 = 1000;
 
 /// Whether the turns are lawful by the plain checker, the calls are theirs, and each caller has made so many holds.
 fn has_all(root: &Root<Roll>, callers: u32, holds: u32) -> bool {
-    let turns = root.trail().turns();
+    let turns = turns_in(root);
     is_of_its_turns(root)
         && turns.len() == callers as usize * holds as usize
         && (0..callers).all(|caller| {
@@ -95,7 +95,7 @@ fn one_caller_holds_five_levels_twice(rt: HostRuntime) {
     let Some(outcome) = tried(&rt, rt.alloc(), &setting, Trial::Hold) else {
         panic!(rt; "there was no memory")
     };
-    let mut turns = outcome.root.trail().turns().iter();
+    let mut turns = turns_in(&outcome.root).iter();
     assert!(rt; turns.all(|turn| turn.climb == 4 && turn.tests == 0 && turn.left == 4));
     assert!(rt; has_all(&outcome.root, 1, 2));
 }

@@ -1,5 +1,5 @@
 //! The turns of walks, in their order, by hand and by the plain model in bench/walk_model.py.
-use super::{Setting, has_turns, tried, turn};
+use super::{Setting, has_turns, tried, turn, turns_in};
 use keep_local::Turn;
 use lock_tree::LockKind::{self, Clh, Hem, Mcs, Tkt};
 use tree_harness::Trial;
@@ -167,6 +167,6 @@ fn a_walk_tells_kinds_apart(rt: HostRuntime) {
         let Some(outcome) = tried(&rt, rt.alloc(), &setting, Trial::Walk(&[])) else {
             panic!(rt; "there was no memory")
         };
-        assert!(rt; are_turns_of(outcome.root.trail().turns(), &callers, &tests));
+        assert!(rt; are_turns_of(turns_in(&outcome.root), &callers, &tests));
     }
 }

@@ -26,6 +26,7 @@ finish_fresh-requires g c =
     record {
       fit = c.close.ensures.fit;
       quotas = sym (ap (λ (k : Course). k.quotas) told) ∙ c.requires.quotas ∙ ap (map (λ (one : List ℕ). length (commands_of one))) book;
+      recorded = sym (ap (λ (k : Course). k.recorded) told) ∙ c.requires.recorded;
       shares = done_after _ _ _ _ _ (crew_in c.args.crew) crew.crew_is c.if-refused.false root.trail.name root.trail.quotas
           (ap (λ (k : Course). k.name) told) (ap (λ (k : Course). k.quotas) told);
       many = crew.crew_is.many ∙ c.requires.count ∙ ap length book;

@@ -24,6 +24,10 @@ finish-requires-clause-quotas c =
     let sections = sections_in c.args.root.payload.fresh.tag c.new.result.payload.journal.sections tagged in
     ap (λ (s : TrailState). s.quotas) trail ∙ c.requires.quotas ∙ ap (map (λ (one : List ℕ). length (commands_of one))) sections
 
+pub finish-requires-clause-recorded : goal.finish-requires-clause-recorded
+finish-requires-clause-recorded c =
+    ap (λ (s : TrailState). s.recorded) (c.new.ensures.trail ∙ c.into_parts-trail.ensures.trail) ∙ c.requires.recorded
+
 pub finish-requires-clause-many : goal.finish-requires-clause-many
 finish-requires-clause-many c =
     let tagged = ap book_tag c.new.ensures.payload ∙ c.close-book.ensures.tagged

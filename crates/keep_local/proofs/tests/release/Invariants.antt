@@ -7,5 +7,6 @@ invariant-loop-level l = record {
   name : l.trail.name ≡ l.fn.trail.name;
   receipts : l.trail.receipts ≡ l.fn.trail.receipts;
   shape : l.trail.shape ≡ l.fn.trail.shape;
+  recorded : l.trail.recorded ≡ l.fn.trail.recorded;
   releasing : IsReleasing l.trail l.level;
 }

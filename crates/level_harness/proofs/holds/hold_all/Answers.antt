@@ -10,4 +10,4 @@ pub hold-pass-requires-clause-share : goal.hold-pass-requires-clause-share
 hold-pass-requires-clause-share g c =
     may_turn _ _ c.loop.counter c.args.job.share c.loop.share c.requires.share
     (ap (λ (x : Context). x.number) c.loop.invariant.pass ∙ c.requires.pass.number_is) c.loop.invariant.share
-    (let below = c.loop-test.true in let end = c.quota-end.ensures in omega (arith, below, end))
+    (let below = c.loop-test.true in let end = c.turns_allowed-end.ensures in omega (arith, below, end))

@@ -36,3 +36,6 @@ close-root-requires-clause-all g c =
     let all = ap length same ∙ long ∙ c.seat-walkers.ensures.many ∙ c.requires.all.all in
     subst (λ n. AreAll (λ p. (g.C.Pass.Resting.rest p).context) (g.C.Composed.has c.args.lock) (g.C.Composed.level c.args.lock)
     (g.C.Composed.tag c.args.lock) n c.idle_passes-passes.result.items) all c.idle_passes-passes.ensures
+
+pub turns-requires : goal.turns-requires
+turns-requires g c = ?

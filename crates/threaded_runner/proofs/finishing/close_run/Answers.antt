@@ -16,6 +16,11 @@ finish-requires-clause-quotas g c =
     sym (ap (λ (k : Course). k.quotas) course) ∙ c.requires.quotas
     ∙ ap (map (λ (one : List ℕ). length (commands_of one))) (sections_told _ c.close.result course)
 
+pub finish-requires-clause-recorded : goal.finish-requires-clause-recorded
+finish-requires-clause-recorded g c =
+    let course = course_is book_calls book_tag _ c.close.result c.close.ensures.tagged in
+    sym (ap (λ (k : Course). k.recorded) course) ∙ c.requires.recorded
+
 pub finish-requires-clause-shares : goal.finish-requires-clause-shares
 finish-requires-clause-shares g c =
     let course = course_is book_calls book_tag _ c.close.result c.close.ensures.tagged in

@@ -1,4 +1,4 @@
-use Rattle.tree_harness.proofs.Starts.{may_try, of_quotas, of_shape}
+use Rattle.tree_harness.proofs.Starts.{may_try, of_quotas, of_recorded, of_shape}
 use Rattle.tree_harness.proofs.trials.try_lock.Goals as goal
 
 pub try_flat-requires-clause-may : goal.try_flat-requires-clause-may
@@ -28,3 +28,11 @@ returns-clause-shape g c =
 pub returns-clause-quotas : goal.returns-clause-quotas
 returns-clause-quotas g c =
     of_quotas c.in-Some.start.root c.try_deep.result c.try_deep.ensures.tagged c.args.quotas.now c.in-Some.ensures.quotas
+
+pub returns-then-top-eq0-clause-recorded : goal.returns-then-top-eq0-clause-recorded
+returns-then-top-eq0-clause-recorded g c =
+    of_recorded c.in-Some.start.root c.try_flat.result c.try_flat.ensures.tagged c.in-Some.ensures.room.recorded
+
+pub returns-clause-recorded : goal.returns-clause-recorded
+returns-clause-recorded g c =
+    of_recorded c.in-Some.start.root c.try_deep.result c.try_deep.ensures.tagged c.in-Some.ensures.room.recorded

@@ -1,27 +1,24 @@
-use Rattle.keep_local.proofs.Steps.{as_held, counter_fits, left_within, turn_left}
+use Rattle.std.proofs.Common.{◌+◌, ◌<◌, length, refl, arith}
+use Rattle.keep_local.proofs.Steps.{as_held, left_within, turn_left}
 use Rattle.keep_local.proofs.trail.Trail.leave.Goals as goal
 
-pub count_run-requires-clause-small : goal.count_run-requires-clause-small
-count_run-requires-clause-small c = let has = (as_held _ _ _ c.deref_mut-log.ensures.value c.self.invariant c.self.view_is) in
-    counter_fits _ _ _ has c.requires.open (left_within _ _ _ has c.requires.open c.requires.may)
+pub count_run-requires : goal.count_run-requires
+count_run-requires c =
+    let has = as_held _ _ _ c.deref_mut-log.ensures.value c.self.invariant c.self.view_is in
+    let below = left_within _ _ _ _ has c.in-Some.is c.requires.may in
+    let many = has.kept.counters in
+    omega (arith, below, many)
 
 pub invariant_of-self : goal.invariant_of-self
 invariant_of-self c =
-    (turn_left _ _ c.index_mut.result.now _ _ _
-    (as_held _ _ _ c.deref_mut-log.ensures.value c.self.invariant c.self.view_is) c.requires.open c.record.ensures
-    c.index_mut.ensures.value c.requires.may c.count_run.auto.runs
+    (turn_left _ _ c.in-Some.turn _ c.args.level c.write_last.new.turns c.count_run.new.runs c.record.new.self
+    (as_held _ _ _ c.deref_mut-log.ensures.value c.self.invariant c.self.view_is) c.in-Some.is c.requires.may refl c.record.ensures
+    c.write_last.ensures.items c.write_last.ensures.capacity c.count_run.auto.runs
     (record { own = c.count_run.ensures.own; lower = c.count_run.ensures.lower; higher = c.count_run.ensures.higher })).kept
-
-pub returns-clause-left : goal.returns-clause-left
-returns-clause-left c =
-    (turn_left _ _ c.index_mut.result.now _ _ _
-    (as_held _ _ _ c.deref_mut-log.ensures.value c.self.invariant c.self.view_is) c.requires.open c.record.ensures
-    c.index_mut.ensures.value c.requires.may c.count_run.auto.runs
-    (record { own = c.count_run.ensures.own; lower = c.count_run.ensures.lower; higher = c.count_run.ensures.higher })).state
 
 pub returns-clause-lawful : goal.returns-clause-lawful
 returns-clause-lawful c =
-    (turn_left _ _ c.index_mut.result.now _ _ _
-    (as_held _ _ _ c.deref_mut-log.ensures.value c.self.invariant c.self.view_is) c.requires.open c.record.ensures
-    c.index_mut.ensures.value c.requires.may c.count_run.auto.runs
+    (turn_left _ _ c.in-Some.turn _ c.args.level c.write_last.new.turns c.count_run.new.runs c.record.new.self
+    (as_held _ _ _ c.deref_mut-log.ensures.value c.self.invariant c.self.view_is) c.in-Some.is c.requires.may refl c.record.ensures
+    c.write_last.ensures.items c.write_last.ensures.capacity c.count_run.auto.runs
     (record { own = c.count_run.ensures.own; lower = c.count_run.ensures.lower; higher = c.count_run.ensures.higher })).kept.trail

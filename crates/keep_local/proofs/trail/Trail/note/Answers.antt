@@ -3,18 +3,12 @@ use Rattle.keep_local.proofs.trail.Trail.note.Goals as goal
 
 pub invariant_of-self : goal.invariant_of-self
 invariant_of-self c =
-    (level_noted _ _ c.index_mut-turn.result.now _ _ _ _
-    (as_held _ _ _ c.deref_mut-log.ensures.value c.self.invariant c.self.view_is) c.requires.open c.note.ensures c.index_mut-turn.ensures.value c.requires.next c.requires.below
-    c.with_test-turn.ensures).kept
-
-pub returns-clause-noted : goal.returns-clause-noted
-returns-clause-noted c =
-    (level_noted _ _ c.index_mut-turn.result.now _ _ _ _
-    (as_held _ _ _ c.deref_mut-log.ensures.value c.self.invariant c.self.view_is) c.requires.open c.note.ensures c.index_mut-turn.ensures.value c.requires.next c.requires.below
-    c.with_test-turn.ensures).state
+    (level_noted _ _ c.in-Some.turn _ c.args.level c.args.yes c.write_last.new.turns
+    (as_held _ _ _ c.deref_mut-log.ensures.value c.self.invariant c.self.view_is) c.in-Some.is c.requires.next c.requires.below
+    (λ i. record c.in-Some.turn { tests = c.with_test.ensures i }) c.write_last.ensures.items c.write_last.ensures.capacity).kept
 
 pub returns-clause-lawful : goal.returns-clause-lawful
 returns-clause-lawful c =
-    (level_noted _ _ c.index_mut-turn.result.now _ _ _ _
-    (as_held _ _ _ c.deref_mut-log.ensures.value c.self.invariant c.self.view_is) c.requires.open c.note.ensures c.index_mut-turn.ensures.value c.requires.next c.requires.below
-    c.with_test-turn.ensures).kept.trail
+    (level_noted _ _ c.in-Some.turn _ c.args.level c.args.yes c.write_last.new.turns
+    (as_held _ _ _ c.deref_mut-log.ensures.value c.self.invariant c.self.view_is) c.in-Some.is c.requires.next c.requires.below
+    (λ i. record c.in-Some.turn { tests = c.with_test.ensures i }) c.write_last.ensures.items c.write_last.ensures.capacity).kept.trail

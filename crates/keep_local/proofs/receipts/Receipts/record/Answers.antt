@@ -1,6 +1,0 @@
-use Rattle.std.proofs.Common.{rules}
-use Rattle.keep_local.proofs.ReceiptKept.{records}
-use Rattle.keep_local.proofs.receipts.Receipts.record.Goals as goal
-
-pub load-requires : goal.load-requires
-load-requires c = (search rules, search rules, records _ _ _ (search rules))

@@ -1,0 +1,6 @@
+use Rattle.std.proofs.Common.{◌≡◌, take}
+use Rattle.own_payload.proofs.roots.copied.Given as goal
+
+-- the paths so far
+abbrev pub invariant-loop-path : goal.invariant-loop-path
+invariant-loop-path l = l.paths.items ≡ take l.path-index l.shape.paths

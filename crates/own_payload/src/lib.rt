@@ -1,0 +1,20 @@
+//! A payload of a composed lock for any value of one's own.
+//!
+//! `Noted` keeps the value, and the callers of all calls as a list that only proofs read. `hold` holds a lock once and has the value
+//! changed, `hold_all` as often as a caller may. `new_root` makes what a lock is made around, `deal` gives each caller its part of a run
+//! on threads, and `gather` takes the passes back.
+#![tactic(auto)]
+
+mod calls;
+mod holding;
+mod jobs;
+mod noted;
+mod roots;
+mod runs;
+
+pub use calls::Calls;
+pub use holding::{hold, hold_all};
+pub use jobs::{Job, Lists, deal, gather};
+pub use noted::Noted;
+pub use roots::new_root;
+pub use runs::run;

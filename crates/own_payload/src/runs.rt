@@ -1,0 +1,98 @@
+//! A run of all callers, each in a thread of its own.
+ghost use Rattle.std.specs.Prelude.{◌≡◌, ℕ, slice_get, All, IfSome, Some};
+ghost use Rattle.lock_rules.specs.Tag.{leaf};
+ghost use Rattle.keep_local.specs.States.{IsShareOf};
+ghost use Rattle.clof_compose.specs.Roots.{IsFit, root_tag};
+ghost use Rattle.own_payload.specs.Jobs.{EachMadeAll, HasWorked, MayWork};
+ghost use Rattle.own_payload.specs.Ready.{IsReady};
+
+use crate::holding::hold_all;
+use crate::jobs::{Job, Lists, deal, gather};
+use crate::noted::Noted;
+use clof_compose::{Composed, Root};
+use keep_local::{Share, Trail};
+use lock_threads::{Works, by_all};
+use std::alloc::Global;
+use std::marker::PhantomData;
+use std::sync::Wait;
+use std::thread::Threads;
+
+// What each thread needs: they share the lock and the work by plain borrows.
+#[derive(Drop)]
+struct Shift<'b, T, C, F, R> {
+    rt: &'b R,
+    lock: &'b C,
+    work: &'b F,
+    value: PhantomData<T>,
+}
+
+impl<'b, T: Drop, C: Composed<Noted<T>>, F: Fn(&mut T, u32), R: Wait> Works<Job<C::Pass>>
+    for Shift<'b, T, C, F, R> {
+    // the job is that of a caller of this lock, and the work may always be done
+    ghost allows = { λ s j. MayWork C.Pass.rest (C.has s.lock.now) (C.sound s.lock.now) (C.level s.lock.now) (C.tag s.lock.now) j
+        × F.IsAlwaysCallable s.work.now };
+
+    // and all its turns are made
+    ghost gives = { λ _ j k. HasWorked C.Pass.rest j k };
+
+    fn work(&self, job: Job<C::Pass>) -> Job<C::Pass> {
+        hold_all(self.rt, self.lock, job, self.work)
+    }
+}
+
+/// Each caller holds the lock as often as its share allows, in a thread of its own, and has `work` change the value each time. The lock is
+/// then taken apart, and gives its root, whose trail has all turns of all callers. The answer is `None` for want of memory.
+pub fn run<
+    T: Send + Sync + Drop,
+    C: Composed<Noted<T>> + Sync + Drop,
+    F: Fn(&mut T, u32) + Sync,
+    R: Threads + Wait + Sync,
+>(rt: &R, alloc: Global, lock: C, lists: Lists<C::Pass>, work: &F) -> Option<Root<Noted<T>>>
+where
+    C::Pass: Send,
+    C::Queue: Send,
+    C::Held: Send,
+    C::Leave: Send,
+    requires ready { IsReady C.Pass.rest (C.has lock) (C.sound lock) (C.level lock) (C.count lock) (C.tag lock) lists.passes.items
+        lists.shares.items }
+    requires callable { F.IsAlwaysCallable work.now }
+    ensures fit { IfSome result (IsFit (λ n. n.calls.callers)) }
+    ensures tagged { IfSome result (λ r. root_tag (λ _. leaf 0) r ≡ C.tag lock) }
+    ensures made { IfSome result (λ r. EachMadeAll r.trail) }
+{
+    let Some((jobs, lists)) = deal(alloc, &lock, lists) else {
+        return None;
+    };
+    let shift = Shift::<T, C, F, R> {
+        rt,
+        lock: &lock,
+        work,
+        value: PhantomData,
+    };
+    let jobs = by_all(rt, &shift, jobs);
+    let Lists { passes, shares } = gather(jobs, lists);
+    let root = lock.close(passes);
+    Some(agreed(root, shares))
+}
+
+// The same root: its trail and the shares show each other how many turns each caller has made.
+fn agreed<T: Drop>(root: Root<Noted<T>>, shares: Vec<Share>) -> Root<Noted<T>>
+    requires own { (k : ℕ) (s : _) → slice_get shares.items k ≡ Some s → s.name ≡ root.trail.name }
+    ensures trail { result.trail ≡ root.trail }
+    ensures payload { result.payload ≡ root.payload }
+    ensures counted { All (IsShareOf root.trail) shares.items }
+{
+    let (mut trail, payload) = root.into_parts();
+    agree(&mut trail, shares);
+    Root::new(trail, payload)
+}
+
+fn agree(trail: &mut Trail, mut shares: Vec<Share>)
+    requires own { (k : ℕ) (s : _) → slice_get shares.items k ≡ Some s → s.name ≡ trail.old.name }
+    ensures trail { trail.new ≡ trail.old }
+    ensures counted { All (IsShareOf trail.old) shares.items }
+{
+    while let Some(mut share) = shares.pop() {
+        trail.agree(&mut share);
+    }
+}
