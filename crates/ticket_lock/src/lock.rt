@@ -10,6 +10,7 @@ ghost use Rattle.lock_rules.specs.Passes.{IsOf, AreAll};
 ghost use Rattle.lock_rules.specs.Tokens.{view_of, badge_place, badge_waiting};
 ghost use Rattle.lock_tables.specs.Happened.{counting};
 ghost use Rattle.lock_tables.specs.Seats.{IsOwn};
+ghost use Rattle.ticket_lock.specs.Choice.{ticket_waiters};
 ghost use Rattle.ticket_lock.specs.Calls.{HasEntered, HasMissed, HasTaken, HasAsked, HasLeft};
 
 use crate::laws::TicketWords;
@@ -22,6 +23,15 @@ use std::alloc::Global;
 #[derive(Drop)]
 pub struct Ticket<V: Cargo> {
     words: Words<V>,
+}
+
+impl<V: Cargo> Ticket<V> {
+    /// How it learns of waiters.
+    pub fn waiters(&self) -> Waiters
+        ensures { result ≡ ticket_waiters self.now }
+    {
+        self.words.waiters
+    }
 }
 
 impl<V: Cargo> Basic<V> for Ticket<V> {
@@ -42,7 +52,7 @@ impl<V: Cargo> Basic<V> for Ticket<V> {
 
     ghost count = { λ l. (padded_value l.words.table).shared.key.passes };
 
-    ghost made = { λ l waiters. (padded_value l.words.table).shared.key.waiters ≡ waiters };
+    ghost made = { λ l waiters. ticket_waiters l ≡ waiters };
 
     fn make(
         alloc: Global,
