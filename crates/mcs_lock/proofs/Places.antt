@@ -2,6 +2,7 @@
 use Rattle.std.proofs.Common.{◌≡◌, ◌≢◌, ℕ, suc, ◌<◌, ◌≤◌, true, false, List, length, refl, ap, sym, ◌∙◌, inl, arith}
 use mathlib.Core.Option.{some, some-injective}
 use lib.ListN.{get_elem?}
+use Rattle.lock_rules.specs.Rows.{waiting}
 use Rattle.lock_rules.specs.Tag.{Tag}
 use Rattle.lock_rules.specs.declared.view.Phase.TheVariants.{Queued}
 use Rattle.lock_rules.specs.declared.view.View.{View}
@@ -11,7 +12,17 @@ use Rattle.lock_tables.proofs.Numbers.{number_below, one_number}
 use Rattle.lock_tables.specs.Numbers.{by_pass}
 use Rattle.lock_tables.proofs.Stands.{has_stands}
 use Rattle.lock_tables.proofs.Queues.{lives, no_place, one_seat_of}
-use Rattle.mcs_lock.specs.Rule.{IsPlaced, NamesBehind, name, mcs_discipline}
+use Rattle.mcs_lock.specs.Rule.{tail, next, locked, name, IsPlaced, NamesBehind, mcs_discipline}
+
+-- words of passes, and of their names, are none that counts waiters
+pub tail_waiting : tail ≢ waiting
+tail_waiting e = absurd (omega arith)
+
+pub next_waiting : (p : ℕ) → next p ≢ waiting
+next_waiting p e = absurd (omega arith)
+
+pub locked_waiting : (p : ℕ) → locked p ≢ waiting
+locked_waiting p e = absurd (omega arith)
 
 -- a seat's view at a place is one
 pub one_view : (seats : List ℕ) (views : List View) (i : ℕ) (u v : View) → IsPlaced seats views i u → IsPlaced seats views i v → u ≡ v

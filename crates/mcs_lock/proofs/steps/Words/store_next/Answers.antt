@@ -20,4 +20,4 @@ store-requires g c =
 pub returns-clause-seat : goal.returns-clause-seat
 returns-clause-seat g c = own_after _ _ _ _ _ (cleared_view c.args.seat.now.me.0) _ c.requires.seat c.store.ensures.0 c.store.ensures.2.1.0
     (alike c.args.seat.now.me.0
-    (cleared_view c.args.seat.now.me.0) refl refl refl refl refl refl refl refl refl refl c.requires.seat.plain.predecessor_within)
+    (cleared_view c.args.seat.now.me.0) refl refl refl refl refl refl refl refl refl refl refl c.requires.seat.plain.predecessor_within)
