@@ -15,7 +15,7 @@ compare_exchange-requires g c =
     let home = c.requires.home in (
       c.requires.seat.table ∙ sym (ap (λ t. t.shared.table_id) c.deref.ensures),
       omega (arith, words),
-      exchanges g.V.Cargo.fit g.V.Cargo.tag g.V.Cargo.parked _ _ _ _ _ home.0 _ _
+      exchanges g.V.Cargo.fit g.V.Cargo.tag g.V.Cargo.parked _ _ _ _ _ _ home.0 _ _
           (omega (arith, number)) c.requires.holds c.requires.seat.plain.unspent c.requires.silent home.1 home.2,
     )
 

@@ -13,7 +13,7 @@ swap-requires g c =
     let number = c.requires.seat.number in (
       c.requires.seat.table ∙ sym (ap (λ t. t.shared.table_id) c.deref.ensures),
       omega (arith, words),
-      swaps g.V.Cargo.fit g.V.Cargo.tag g.V.Cargo.parked _ _ _ _ _ _
+      swaps g.V.Cargo.fit g.V.Cargo.tag g.V.Cargo.parked _ _ _ _ _ _ _
           (omega (arith, number)) c.requires.idle c.requires.seat.plain.unspent c.requires.announced c.requires.cleared c.requires.raised,
     )
 

@@ -15,7 +15,7 @@ load-requires g c =
     let below = c.requires.seat.below in (
       c.requires.seat.table ∙ sym (ap (λ t. t.shared.table_id) c.deref.ensures),
       omega (arith, words, at, below),
-      polls g.V.Cargo.fit g.V.Cargo.tag g.V.Cargo.parked _ _ _ _ _ _ (at
+      polls g.V.Cargo.fit g.V.Cargo.tag g.V.Cargo.parked _ _ _ _ _ _ _ (at
           ∙ ap locked c.requires.seat.number) c.requires.queued c.requires.seat.plain.unspent,
     )
 

@@ -13,7 +13,7 @@ store-requires g c =
     let below = c.requires.seat.below in (
       c.requires.seat.table ∙ sym (ap (λ t. t.shared.table_id) c.deref.ensures),
       omega (arith, words, at, below),
-      clears g.V.Cargo.fit g.V.Cargo.tag g.V.Cargo.parked _ _ _ _ _ _ (at
+      clears g.V.Cargo.fit g.V.Cargo.tag g.V.Cargo.parked _ _ _ _ _ _ _ (at
           ∙ ap next c.requires.seat.number) c.requires.idle c.requires.seat.plain.unspent,
     )
 

@@ -24,7 +24,7 @@ store-requires g c =
     let some_pass = c.requires.preceded in (
       c.requires.seat.table ∙ sym (ap (λ t. t.shared.table_id) c.deref.ensures),
       omega (arith, words, at, within, counted, is, some_pass),
-      links g.V.Cargo.fit g.V.Cargo.tag g.V.Cargo.parked _ _ _ _ _ _ _ (at ∙ ap (λ (x : ℕ). next (pass_named x)) is)
+      links g.V.Cargo.fit g.V.Cargo.tag g.V.Cargo.parked _ _ _ _ _ _ _ _ (at ∙ ap (λ (x : ℕ). next (pass_named x)) is)
           (omega (arith, number)) c.requires.queued c.requires.seat.plain.unspent c.requires.unlinked,
     )
 

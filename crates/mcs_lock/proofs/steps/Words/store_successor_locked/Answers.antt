@@ -23,7 +23,7 @@ store-requires g c =
     let home = c.requires.home in (
       c.requires.seat.table ∙ sym (ap (λ t. t.shared.table_id) c.deref.ensures),
       omega (arith, words, at, within, counted, some_pass),
-      passes g.V.Cargo.fit g.V.Cargo.tag g.V.Cargo.parked _ _ _ _ _ home.0 _ _ (at
+      passes g.V.Cargo.fit g.V.Cargo.tag g.V.Cargo.parked _ _ _ _ _ _ home.0 _ _ (at
           ∙ ap (λ (x : ℕ). locked (pass_named x)) is) c.requires.holds
           c.requires.seat.plain.unspent c.requires.silent (λ e. some_pass (is ∙ e)) home.1 home.2,
     )
