@@ -22,14 +22,10 @@ use Rattle.lock_tables.proofs.Steps.{stays, loads, enters, enters_and_takes, tak
 use Rattle.mcs_lock.specs.Kinds.{cleared_view, raised_view, queued_view, entered_view, linked_view, looked_view, followed_view, left_view}
 use Rattle.mcs_lock.specs.Kinds.{others_wait, Cleared, Raised, Swapped, Linked, Polled, Tested, Looked, Passed, Exchanged}
 use Rattle.mcs_lock.specs.Rule.{tail, next, locked, name, pass_named, IsPlaced, NamesBehind, mcs_discipline}
-use Rattle.mcs_lock.proofs.Places.{tail_waiting, next_waiting, locked_waiting, KeepsLinks, live_at, below_at, placed_at}
+use Rattle.mcs_lock.proofs.Places.{tail_waiting, next_waiting, locked_waiting, none_left, KeepsLinks, live_at, below_at, placed_at, no_seats}
 use Rattle.mcs_lock.proofs.Queue.{disciplined}
 use Rattle.mcs_lock.proofs.Links.{core_clears, core_raises, core_enters, core_takes, core_links, core_loads, core_passes, core_ends}
 use Rattle.mcs_lock.proofs.Links.{alone_is, names_alone}
-
-none_left : (l : List ℕ) → length l ≡ 0 → l ≡ []
-none_left [] e = refl
-none_left (x ∷ xs) e = absurd (omega arith)
 
 other_test : (a b : ℕ) → a ≢ b → (a == b) ≡ false
 other_test a b ne = elim (a == b) as (λ x. (a == b) ≡ x → (a == b) ≡ false) [
@@ -106,11 +102,7 @@ module _ {V : Type 0} (fit : V → Type 0) (tag_of : V → Tag) (parked : V → 
       dite (ℕ_discrete found 0)
       (λ e.
       let w : View = entered_view v in
-      let empty : r.seats ≡ [] = none_left r.seats (elim (length r.seats) as (λ x. length r.seats ≡ x → x ≡ 0) [
-        | zero ↦ λ _. refl
-        | suc m ↦ λ f. let u = placed_at n tag s.words r.seats s.views q m (omega (arith, f)) in let z =
-            q.core.last m u.0 u.1 f in absurd (omega (arith, z, e))
-      ] refl) in
+      let empty = no_seats n tag s.words r.seats s.views q e in
       let k = enters_and_takes fit tag_of parked mcs_discipline disciplined ch n tag tail (name v.number) id me w s r tail_waiting at live
       (like v w refl refl refl refl refl refl refl refl) refl idle empty refl (λ x. absurd (cc)) refl
       (core_takes n tag s.words r.seats s.views q id v at live cleared) in

@@ -19,7 +19,7 @@ use Rattle.lock_tables.proofs.Lists.{number_is, at_below, no_true, both_true, wr
 use Rattle.lock_tables.proofs.Queues.{IsSame, WasAt, lives, few_seats, placed_before_split, placed_before_join, after_split, after_join}
 use Rattle.lock_tables.proofs.Queues.{one_seat_of}
 use Rattle.mcs_lock.specs.Rule.{tail, next, locked, name, before, passes_to, queue_of, IsPlaced, IsPrepared, IsLinked, mcs_discipline}
-use Rattle.mcs_lock.proofs.Places.{tail_waiting, next_waiting, locked_waiting, KeepsLinks, WasPlaced, still, names_still, names_as, busy_at, live_at, placed_at}
+use Rattle.mcs_lock.proofs.Places.{tail_waiting, next_waiting, locked_waiting, none_left, KeepsLinks, WasPlaced, still, names_still, names_as, busy_at, live_at, placed_at}
 use Rattle.mcs_lock.proofs.Core.{core_from}
 
 -- the name of the pass before, read off the view that the seat j has
@@ -53,10 +53,6 @@ take_all (x ∷ xs) = λ k. x ∷ take_all xs k
 none_to : (words : List ℕ) (views : List View) (most : ℕ) → passes_to words views most 0 ≡ []
 none_to words views zero = refl
 none_to words views (suc most) = refl
-
-none_left : (l : List ℕ) → length l ≡ 0 → l ≡ []
-none_left [] e = refl
-none_left (x ∷ xs) e = absurd (omega arith)
 
 long_replicate : (k : ℕ) → length {A = ℕ} (replicate k 0) ≡ k
 long_replicate zero = refl

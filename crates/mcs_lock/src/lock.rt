@@ -43,15 +43,15 @@ impl<V: Cargo> Basic<V> for Mcs<V> {
 
     ghost count = { λ l. (padded_value l.words.table).shared.key.passes };
 
-    ghost made = { λ l c. (padded_value l.words.table).shared.key.waiters ≡ c };
+    ghost made = { λ l waiters. (padded_value l.words.table).shared.key.waiters ≡ waiters };
 
     fn make(
         alloc: Global,
-        recipe: Waiters,
+        waiters: Waiters,
         passes: u32,
         value: V,
     ) -> Result<(Mcs<V>, Vec<Pass>), Refused<V>> {
-        let (words, list) = Words::make(alloc, recipe, passes, value)?;
+        let (words, list) = Words::make(alloc, waiters, passes, value)?;
         Ok((Mcs { words }, list))
     }
 

@@ -26,8 +26,8 @@ use atomic_table::Seat;
 use crossbeam_utils::CachePadded;
 use lock_rules::{Cargo, Held, Pass, Queue, Refused, View, Waiters};
 use lock_tables::{
-    LockTable, announce, count_waiting, into_value, join_passes, new_table, put, split_passes, take,
-    withdraw,
+    LockTable, announce, count_waiting, into_value, join_passes, new_table, put, split_passes,
+    take, withdraw,
 };
 use std::alloc::Global;
 
@@ -83,8 +83,13 @@ impl<V: Cargo> Words<V> {
         let Ok(room) = Vec::with_capacity(alloc, passes as usize) else {
             return Err(Refused { value });
         };
-        let (table, seat) =
-            new_table::<V, McsWords>(alloc, opening.as_slice(), waiters, passes, value)?;
+        let (table, seat) = new_table::<V, McsWords>(
+            alloc,
+            opening.as_slice(),
+            waiters,
+            passes,
+            value,
+        )?;
         let list = split_passes(&table.shared, seat, passes, room);
         let table = CachePadded::new(table);
         Ok((Words { table, waiters }, list))
