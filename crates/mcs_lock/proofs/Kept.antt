@@ -22,7 +22,8 @@ use Rattle.lock_tables.proofs.Steps.{stays, loads, enters, enters_and_takes, tak
 use Rattle.mcs_lock.specs.Kinds.{cleared_view, raised_view, queued_view, entered_view, linked_view, looked_view, followed_view, left_view}
 use Rattle.mcs_lock.specs.Kinds.{others_wait, Cleared, Raised, Swapped, Linked, Polled, Tested, Looked, Passed, Exchanged}
 use Rattle.mcs_lock.specs.Rule.{tail, next, locked, name, pass_named, IsPlaced, NamesBehind, mcs_discipline}
-use Rattle.mcs_lock.proofs.Places.{tail_waiting, next_waiting, locked_waiting, none_left, KeepsLinks, live_at, below_at, placed_at, no_seats}
+use Rattle.mcs_lock.proofs.Places.{tail_waiting, next_waiting, locked_waiting, none_left, no_seats, KeepsLinks, live_at, below_at}
+use Rattle.mcs_lock.proofs.Places.{placed_at}
 use Rattle.mcs_lock.proofs.Queue.{disciplined}
 use Rattle.mcs_lock.proofs.Links.{core_clears, core_raises, core_enters, core_takes, core_links, core_loads, core_passes, core_ends}
 use Rattle.mcs_lock.proofs.Links.{alone_is, names_alone}
@@ -154,8 +155,8 @@ module _ {V : Type 0} (fit : V → Type 0) (tag_of : V → Tag) (parked : V → 
       let zeroth = first_free s.words r.seats s.views q p.0 v (record { seat = id; place = p.1; at = at }) e in
       let first : get_elem? r.seats 0 ≡ some id = ap (get_elem? r.seats) (sym zeroth) ∙ p.1 in
       let keep : KeepsLinks v w = record { number = refl; predecessor = refl; linked = λ e'. e'; queued = λ _. queued } in
-      let k = takes_head fit tag_of parked mcs_discipline disciplined ch n tag (locked v.number) id me w s r (locked_waiting v.number) at live
-      (like v w refl refl refl refl refl refl refl refl) refl queued first
+      let k = takes_head fit tag_of parked mcs_discipline disciplined ch n tag (locked v.number) id me w s r
+      (locked_waiting v.number) at live (like v w refl refl refl refl refl refl refl refl) refl queued first
       refl (λ x. absurd (cc)) refl
       (core_loads n tag s.words r.seats s.views q id v w at live keep busy (λ e'. e') (λ e'. e') (λ i p' ne. q.core.noted i v p' ne)) in
       (w, k.0, k.1, k.2, (λ _. k.3, λ ne. absurd (ne e))))
@@ -265,7 +266,8 @@ module _ {V : Type 0} (fit : V → Type 0) (tag_of : V → Tag) (parked : V → 
       record { number = refl; predecessor = refl; linked = λ e'. e'; queued = λ e'. absurd (let z : Leaving ≡ Queued = e' in cc) } in
       let k = loads fit tag_of parked mcs_discipline disciplined ch n tag tail id (v, c) w s r tail_waiting at live
       (like v w refl refl refl refl refl refl refl refl) refl (inr (refl, silent)) (sym (held_busy true v.phase holds)) (sym holds)
-      (λ _ _. (silent, inl more)) (λ _ _. more) (core_loads n tag s.words r.seats s.views q id v w at live keep (held_busy true v.phase holds)
+      (λ _ _. (silent, inl more)) (λ _ _. more)
+      (core_loads n tag s.words r.seats s.views q id v w at live keep (held_busy true v.phase holds)
       (λ e'. e') (λ e'. e') (λ i p' ne'. q.core.noted i v p' ne')) in
       let now : either (found == own) 0 found ≡ found = ap (λ (b : Bool). either b 0 found) (other_test found own ne) in
       (w, keeps, k.0, subst (λ (y : ℕ). Rule (stepped s tail y id c w keeps)) (sym now) k.1, (λ e. absurd (ne e), λ _. k.2))))

@@ -19,7 +19,8 @@ use Rattle.lock_tables.proofs.Lists.{number_is, at_below, no_true, both_true, wr
 use Rattle.lock_tables.proofs.Queues.{IsSame, WasAt, lives, few_seats, placed_before_split, placed_before_join, after_split, after_join}
 use Rattle.lock_tables.proofs.Queues.{one_seat_of}
 use Rattle.mcs_lock.specs.Rule.{tail, next, locked, name, before, passes_to, queue_of, IsPlaced, IsPrepared, IsLinked, mcs_discipline}
-use Rattle.mcs_lock.proofs.Places.{tail_waiting, next_waiting, locked_waiting, none_left, KeepsLinks, WasPlaced, still, names_still, names_as, busy_at, live_at, placed_at}
+use Rattle.mcs_lock.proofs.Places.{tail_waiting, next_waiting, locked_waiting, none_left, KeepsLinks, WasPlaced, still, names_still}
+use Rattle.mcs_lock.proofs.Places.{names_as, busy_at, live_at, placed_at}
 use Rattle.mcs_lock.proofs.Core.{core_from}
 
 -- the name of the pass before, read off the view that the seat j has
@@ -232,14 +233,16 @@ disciplined = record {
       (wrote_waiting words x) k (let a = length-set views id w in omega (arith, a))
       (λ i j u _ e. was_noted views id v w at noted j u e)
       (λ j u e live. let t = was_noted views id v w at noted j u e in
-      same_prepared words (set words waiting x) u t.view (wrote_waiting words x) t.same (k.prepared j t.view t.at (sym t.same.spent ∙ live)));
+      same_prepared words (set words waiting x) u t.view (wrote_waiting words x) t.same
+      (k.prepared j t.view t.at (sym t.same.spent ∙ live)));
   splits = λ n tag words seats views id v q at live more. core_same n words words seats views
       (set views id (without_next v) ++ next_split v ∷ []) (all_kept words) q.core
       (let a = length-append (set views id (without_next v)) (next_split v ∷ []) in let b = length-set views id (without_next v)
       in omega (arith, a, b))
       (λ i j u e e'. placed_before_split mcs_discipline n tag words seats views q id v at i j u e e')
       (λ j u e live'. ⊎_elim
-      (λ (t : WasAt views j u). same_prepared words words u t.view (all_kept words) t.same (q.core.prepared j t.view t.at (sym t.same.spent ∙ live')))
+      (λ (t : WasAt views j u). same_prepared words words u t.view (all_kept words) t.same
+      (q.core.prepared j t.view t.at (sym t.same.spent ∙ live')))
       (λ (t : (j ≡ length views) × (next_split v ≡ u)). fresh_prepared words u (ap (λ (x : View). x.unlinked) (sym t.1))
       (ap (λ (x : View). x.raised) (sym t.1)))
       (after_split views id v at j u e));

@@ -34,4 +34,5 @@ module _ {V P : Type 0} where
 
   -- all passes of the lock with this table
   abbrev pub AreMine : (V → Tag) → Shared (Option V) View (Opening V) P → List Pass → Type 0
-  AreMine tag_of s passes = AreAll (λ p. badge_place p.badge) (lock_name Mcs s.key.waiters s.table_id) (tag_of s.key.value.value) s.key.passes passes
+  AreMine tag_of s passes =
+      AreAll (λ p. badge_place p.badge) (lock_name Mcs s.key.waiters s.table_id) (tag_of s.key.value.value) s.key.passes passes

@@ -37,7 +37,8 @@ impl<V: Cargo> Basic<V> for Mcs<V> {
 
     type Leave = Leave<V>;
 
-    ghost name = { λ l. lock_name mcs_algorithm (padded_value l.words.table).shared.key.waiters (padded_value l.words.table).shared.table_id };
+    ghost name = { λ l. lock_name mcs_algorithm (padded_value l.words.table).shared.key.waiters
+        (padded_value l.words.table).shared.table_id };
 
     ghost tag = { λ l. V.tag (padded_value l.words.table).shared.key.value.value };
 
@@ -112,7 +113,7 @@ impl<V: Cargo> Basic<V> for Mcs<V> {
         Step::Got(Held::of(seat, value, own, predecessor))
     }
 
-    /// The answer is yes exactly where the loaded `tail` isn't the holder's name, and in a lock that counts, where the loaded number isn't 0.
+    /// The answer is yes exactly where the loaded `tail` isn't the holder's name or, in a lock that counts, the loaded number isn't 0.
     fn waiter(&self, held: &mut Held<V>) -> bool
         requires own { IsMine V.tag (padded_value self.now.words.table).shared (holder_of held.old).place }
         ensures asked { HasAsked V.fit V.tag V.parked held.old held.new result }
