@@ -1,4 +1,5 @@
 pub mod Rule
+pub mod Links
 pub mod Kinds
 pub mod Own
 pub mod Leaves
