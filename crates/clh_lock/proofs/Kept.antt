@@ -77,8 +77,8 @@ module _ {V : Type 0} (fit : V → Type 0) (tag_of : V → Tag) (parked : V → 
       q.core.once id v at live)) ∙ q.core.free_granted)
       (λ _ _. wrote_here s.words (flag v.node) pending inside)
       (λ k e. stays_pending s.words (flag v.node) (flag k) inside e) in
-      let k = stays fit tag_of parked clh_discipline disciplined ch n tag (flag v.node) pending id me w s r (flag_not_waiting v.node) at live
-      (like v w refl refl refl refl refl refl refl refl) refl (inl refl) refl refl
+      let k = stays fit tag_of parked clh_discipline disciplined ch n tag (flag v.node) pending id me w s r
+      (flag_not_waiting v.node) at live (like v w refl refl refl refl refl refl refl refl) refl (inl refl) refl refl
       (λ h _. absurd (quiet h)) (λ h _. absurd (quiet h)) core in
       (w, keeps, k.0, k.1, (slice_index s.words (flag v.node), k.2)))
 

@@ -19,7 +19,8 @@ module _ (c : Waiters) (z : TableId) (tag : Tag) (y : TableId) (v : View) (own :
     count_is : v.count ≡ passes
     count_is =
         let there : y.words ≡ row_of Clh v.count = has ∙ ap (λ (a : Algorithm). row_of a v.count) (own_algorithm Clh c z tag y v own) in
-        let here : row_of Clh v.count ≡ row_of Clh passes = sym there ∙ ap (λ (t : TableId). t.words) (own_table Clh c z tag y v own) ∙ row in
+        let here : row_of Clh v.count ≡ row_of Clh passes = sym there
+        ∙ ap (λ (t : TableId). t.words) (own_table Clh c z tag y v own) ∙ row in
         omega (arith, here)
 
     -- a token's nodes are those of its lock

@@ -40,22 +40,16 @@ module _ {V : Type 0} (fit : V → Type 0) (tag_of : V → Tag) (parked : V → 
     pub withdrawn : HasWithdrawn clh_discipline fit tag_of parked (view_of before).waiters (took_view (view_of before), (0, None) ∷ [])
         (held_view after, (0, None) ∷ [])
 
-  -- a load of `tail`; the answer is yes exactly where it was not the holder's own node
-  pub record HasComparedTail (before now : Held V) (answer : Bool) : Type 0 where
-    pub found : ℕ
-    pub told : answer ≡ others_wait (held_view before) found
-    pub step : Tested fit tag_of parked before.seat.seat.me found now.seat.seat.me
+  -- a load of `tail`, with a yes exactly where it was not the holder's own node; in a counted lock a load of `waiting`, with a yes exactly
+  -- where it was not 0
+  abbrev pub HasAskedBy : Waiters → Held V → Held V → Bool → Type 0
+  HasAskedBy Queue before now answer = (found : ℕ) × (answer ≡ others_wait (held_view before) found)
+      × Tested fit tag_of parked before.seat.seat.me found now.seat.seat.me
+  HasAskedBy Count before now answer = (found : ℕ) × (answer ≡ is_announced found)
+      × Counted clh_discipline fit tag_of parked before.seat.seat.me found now.seat.seat.me
 
-  -- a load of `waiting`; the answer is yes exactly where it was not 0
-  pub record HasCounted (before now : Held V) (answer : Bool) : Type 0 where
-    pub found : ℕ
-    pub told : answer ≡ is_announced found
-    pub step : Counted clh_discipline fit tag_of parked before.seat.seat.me found now.seat.seat.me
-
-  -- the one load by which a lock learns of waiters
-  abbrev pub HasAsked : Waiters → Held V → Held V → Bool → Type 0
-  HasAsked Queue before now answer = HasComparedTail before now answer
-  HasAsked Count before now answer = HasCounted before now answer
+  abbrev pub HasAsked : Held V → Held V → Bool → Type 0
+  HasAsked before now answer = HasAskedBy (held_view before).waiters before now answer
 
   -- the store of own flag; the holder's value is at home then, and the node that it watched is its own
   abbrev pub HasLeft : Held V → Badge View → Type 0

@@ -60,7 +60,8 @@ impl<V: Cargo> Basic<V> for Clh<V> {
             (padded_value self.now.words.table).shared.key (badge_place pass.badge) }
         ensures only_queues { IsNot result }
         ensures did { IfNot result (λ q. HasEntered V.fit V.tag V.parked pass.badge q.badge) }
-        ensures steps { IfNot result (λ q. (view_of q.badge).steps ≡ (view_of pass.badge).steps + 2 + counting (view_of pass.badge).waiters) }
+        ensures steps { IfNot result (λ q. (view_of q.badge).steps
+            ≡ (view_of pass.badge).steps + counting (view_of pass.badge).waiters + 2) }
         ensures queue { IfNot result (λ q. (badge_waiting q.badge).place ≡ badge_place pass.badge) }
         ensures entered { IfNot result (λ q. (view_of q.badge).entries ≡ (view_of pass.badge).entries + 1) }
         ensures held { IfGot result (λ h. (holder_of h).place ≡ badge_place pass.badge) }
@@ -82,8 +83,9 @@ impl<V: Cargo> Basic<V> for Clh<V> {
             (padded_value self.now.words.table).shared.key (badge_waiting queue.badge).place }
         ensures missed { IfNot result (λ q. HasMissed V.fit V.tag V.parked queue.badge q.badge) }
         ensures took { IfGot result (λ h. HasTaken V.fit V.tag V.parked queue.badge h) }
-        ensures missed_steps { IfNot result (λ q. (view_of q.badge).steps ≡ (view_of queue.badge).steps + 1) }
-        ensures steps { IfGot result (λ h. (held_view h).steps ≡ (view_of queue.badge).steps + 1 + counting (view_of queue.badge).waiters) }
+        ensures steps { IfNot result (λ q. (view_of q.badge).steps ≡ (view_of queue.badge).steps + 1) }
+        ensures steps_behind { IfGot result (λ h. (held_view h).steps
+            ≡ (view_of queue.badge).steps + 1 + counting (view_of queue.badge).waiters) }
         ensures queue { IfNot result (λ q. (badge_waiting q.badge).place ≡ (badge_waiting queue.badge).place) }
         ensures loaded { IfNot result (λ q. (badge_waiting q.badge).loads ≡ (badge_waiting queue.badge).loads + 1) }
         ensures unready { IfNot result (λ q. (badge_waiting q.badge).ready ≡ false) }
@@ -105,7 +107,7 @@ impl<V: Cargo> Basic<V> for Clh<V> {
     fn waiter(&self, held: &mut Held<V>) -> bool
         requires own { IsOwn V.tag clh_algorithm (padded_value self.now.words.table).shared.table_id
             (padded_value self.now.words.table).shared.key (holder_of held.old).place }
-        ensures asked { HasAsked V.fit V.tag V.parked (padded_value self.now.words.table).shared.key.waiters held.old held.new result }
+        ensures asked { HasAsked V.fit V.tag V.parked held.old held.new result }
         ensures steps { (held_view held.new).steps ≡ (held_view held.old).steps + 1 }
         ensures place { (holder_of held.new).place ≡ (holder_of held.old).place }
         ensures value { held.new.value ≡ held.old.value }
@@ -161,7 +163,8 @@ impl<V: Cargo> Basic<V> for Clh<V> {
 
     fn close(self, passes: Vec<Pass>) -> V
         requires all { AreAll (λ p. badge_place p.badge) (lock_name clh_algorithm (padded_value self.words.table).shared.key.waiters
-            (padded_value self.words.table).shared.table_id) (V.tag (padded_value self.words.table).shared.key.value.value) (padded_value self.words.table).shared.key.passes passes.items }
+            (padded_value self.words.table).shared.table_id) (V.tag (padded_value self.words.table).shared.key.value.value)
+            (padded_value self.words.table).shared.key.passes passes.items }
         ensures fit { V.fit result }
         ensures tagged { V.tag result ≡ V.tag (padded_value self.words.table).shared.key.value.value }
         ensures unparked { V.parked result ≡ false }

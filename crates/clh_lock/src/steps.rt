@@ -94,7 +94,8 @@ impl<V: Cargo> Words<V> {
     /// The value of a lock whose passes came back.
     pub(crate) fn close(self, passes: Vec<Pass>) -> V
         requires all { AreAll (λ p. badge_place p.badge) (lock_name clh_algorithm (padded_value self.table).shared.key.waiters
-            (padded_value self.table).shared.table_id) (V.tag (padded_value self.table).shared.key.value.value) (padded_value self.table).shared.key.passes passes.items }
+            (padded_value self.table).shared.table_id) (V.tag (padded_value self.table).shared.key.value.value)
+            (padded_value self.table).shared.key.passes passes.items }
         ensures fit { V.fit result }
         ensures tagged { V.tag result ≡ V.tag (padded_value self.table).shared.key.value.value }
         ensures unparked { V.parked result ≡ false }
@@ -159,6 +160,7 @@ impl<V: Cargo> Words<V> {
             (holder_of held.now).place }
         ensures table { held.now.seat.seat.table_id ≡ (padded_value self.now.table).shared.table_id }
         ensures own { result ≡ (held_view held.now).node }
+        ensures chosen { (held_view held.now).waiters ≡ (padded_value self.now.table).shared.key.waiters }
     {
         held.seat.mark
     }

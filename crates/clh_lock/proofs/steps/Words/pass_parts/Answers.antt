@@ -10,7 +10,8 @@ returns-clause-table g c = c.into_parts.ensures.table ∙ own_table _ _ _ _ _ (v
 
 pub returns-clause-own : goal.returns-clause-own
 returns-clause-own g c =
-    mark_is _ _ _ _ (view_of c.args.pass.badge) c.requires.of _ c.into_parts.ensures.mark ∙ sym (ap (λ m. m.0.node) c.into_parts.ensures.view)
+    mark_is _ _ _ _ (view_of c.args.pass.badge) c.requires.of _ c.into_parts.ensures.mark
+    ∙ sym (ap (λ m. m.0.node) c.into_parts.ensures.view)
 
 pub returns-clause-within : goal.returns-clause-within
 returns-clause-within g c =
