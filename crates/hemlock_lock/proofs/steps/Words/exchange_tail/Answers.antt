@@ -10,7 +10,7 @@ compare_exchange-requires g c =
     let home = c.requires.home in (
       c.requires.table ∙ sym (ap (λ t. t.shared.table_id) c.deref.ensures),
       omega (arith, words),
-      exchanges g.V.Cargo.fit g.V.Cargo.tag g.V.Cargo.parked _ _ _ _ _ home.0 _ _ c.requires.holds c.requires.plain
+      exchanges g.V.Cargo.fit g.V.Cargo.tag g.V.Cargo.parked _ _ _ _ _ _ home.0 _ _ c.requires.holds c.requires.plain
           c.requires.silent c.requires.name home.1 home.2,
     )
 
