@@ -122,6 +122,15 @@ module _ (n : ℕ) (words seats : List ℕ) (views : List View) (id : ℕ) (w : 
     owing = owing_set owes;
   }
 
+  -- the same, where its pass stands as it stood
+  pub calm_grants : (words' : List ℕ) (v : View) → get_elem? views id ≡ some v
+      → ((k : ℕ) → slice_index words' (line k) ≡ slice_index words (line k))
+      → w.number ≡ v.number → w.predecessor ≡ v.predecessor → w.phase ≡ v.phase → w.owes ≡ v.owes
+      → HasGrants n words' seats (set views id w)
+  calm_grants words' v at same number predecessor phase owes =
+      same_grants words' v at same number predecessor (λ e. sym phase ∙ e) (ap (is_busy false) phase) (λ l _. phase ∙ l)
+      (λ h some_name. owes ∙ core.owing id v at (sym phase ∙ h) (λ z. some_name (predecessor ∙ z)))
+
 module _ (n : ℕ) (tag : Tag) (words seats : List ℕ) (views : List View) (q : IsQueued hemlock_discipline n tag words seats views) where
   -- the name of a pass is at most n
   pub name_within : (j : ℕ) (v : View) → get_elem? views j ≡ some v → v.spent ≡ false → own_name v ≤ n

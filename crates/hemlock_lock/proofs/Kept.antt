@@ -25,7 +25,7 @@ use Rattle.hemlock_lock.specs.Kinds.{own_name, queued_view, entered_view, grante
 use Rattle.hemlock_lock.specs.Kinds.{granting_view, done_view, others_wait}
 use Rattle.hemlock_lock.specs.Kinds.{Swapped, Polled, Cleared, Tested, Exchanged, Granted, Looked}
 use Rattle.hemlock_lock.specs.Rule.{tail, grant, HasGrants, hemlock_discipline}
-use Rattle.hemlock_lock.proofs.Chains.{no_seats, is_new, is_old, leaver_stays, owing_set, nameless_set, same_grants}
+use Rattle.hemlock_lock.proofs.Chains.{no_seats, is_new, is_old, leaver_stays, owing_set, nameless_set, same_grants, calm_grants}
 use Rattle.hemlock_lock.proofs.Chains.{name_within, busy_ungranted, last_seat, none_queued}
 use Rattle.hemlock_lock.proofs.Queue.{disciplined}
 
@@ -63,6 +63,11 @@ module _ {V : Type 0} (fit : V → Type 0) (tag_of : V → Tag) (parked : V → 
 
   abbrev Q : List ℕ → List ℕ → List View → Type 0
   Q = IsQueued hemlock_discipline n tag
+
+  -- names and grants, where a step leaves all words, its seat's names, and where its pass stands
+  calm : (s : State (Option V) View) (r : Rule s) (id : ℕ) (v w : View) → get_elem? s.views id ≡ some v → w.number ≡ v.number
+      → w.predecessor ≡ v.predecessor → w.phase ≡ v.phase → w.owes ≡ v.owes → HasGrants n s.words r.seats (set s.views id w)
+  calm s r id v w at = calm_grants n s.words r.seats s.views id w r.queued.core s.words v at (λ _. refl)
 
   -- a seat that is new in the queue is behind all others
   entered_grants : (words seats : List ℕ) (views : List View) (id : ℕ) (v : View) (q : Q words seats views) → get_elem? views id ≡ some v
@@ -190,20 +195,21 @@ module _ {V : Type 0} (fit : V → Type 0) (tag_of : V → Tag) (parked : V → 
       let q = r.queued in
       let p = (q.each_seat id v at).placed (ap (is_busy false) queued) in
       let held : ¬ (Holding ≡ Queued) = λ x. absurd cc in
-      let k = takes_head fit tag_of parked hemlock_discipline disciplined ch n tag (grant v.predecessor) id me w s r (apart v.predecessor) at live
+      let k = takes_head fit tag_of parked hemlock_discipline disciplined ch n tag (grant v.predecessor) id me w s r
+      (apart v.predecessor) at live
       (like v w refl refl refl refl refl refl refl refl) refl queued
       (granted_first s.words r.seats s.views id v q at e p.0 p.1) refl (λ x. absurd (cc)) refl
-      (same_grants n s.words r.seats s.views id w q.core s.words v at (λ _. refl) refl refl (λ x. absurd (held x)) (sym (ap (is_busy false) queued))
-      (λ l _. absurd (queued_stays v queued l)) (λ _ _. refl)) in
+      (same_grants n s.words r.seats s.views id w q.core s.words v at (λ _. refl) refl refl (λ x. absurd (held x))
+      (sym (ap (is_busy false) queued)) (λ l _. absurd (queued_stays v queued l)) (λ _ _. refl)) in
       (w, k.0, k.1, k.2, (λ _. k.3, λ ne. absurd (ne e))))
       (λ ne.
       let v : View = me.0 in
       let w : View = missed_view v in
       let idle = wrong_phase (is_holder false) v Queued queued refl in
-      let k = loads fit tag_of parked hemlock_discipline disciplined ch n tag (grant v.predecessor) id me w s r (apart v.predecessor) at live
+      let k = loads fit tag_of parked hemlock_discipline disciplined ch n tag (grant v.predecessor) id me w s r
+      (apart v.predecessor) at live
       (like v w refl refl refl refl refl refl refl refl) refl (inl refl) refl refl
-      (λ h _. absurd (idle h)) (λ h _. absurd (idle h)) (same_grants n s.words r.seats s.views id w r.queued.core s.words v at (λ _. refl) refl refl (λ x. x) refl
-      (λ l _. l) (r.queued.core.owing id v at)) in
+      (λ h _. absurd (idle h)) (λ h _. absurd (idle h)) (calm s r id v w at refl refl refl refl) in
       (w, keeps, k.0, k.1, (λ e. absurd (ne e), λ _. k.2)))
 
   pub polls : (slots id word : ℕ) (me : Me (Option V) View) → me.0.phase ≡ Queued → me.0.spent ≡ false → word ≡ grant me.0.predecessor
@@ -259,7 +265,8 @@ module _ {V : Type 0} (fit : V → Type 0) (tag_of : V → Tag) (parked : V → 
       let v : View = me.0 in
       let w : View = cleared_view v in
       let st = r.queued.each_seat id v at in
-      let k = stays fit tag_of parked hemlock_discipline disciplined ch n tag (grant v.predecessor) 0 id me w s r (apart v.predecessor) at live
+      let k = stays fit tag_of parked hemlock_discipline disciplined ch n tag (grant v.predecessor) 0 id me w s r
+      (apart v.predecessor) at live
       (like v w refl refl refl refl refl refl refl refl) refl (inl refl) refl refl (r.told.each id v at).tested st.followed
       (cleared_grants s.words r.seats s.views id v r.queued at held (st.first (ap (is_holder false) held)) some_name) in
       (w, keeps, k.0, k.1, (slice_index s.words (grant v.predecessor), k.2))
@@ -291,7 +298,7 @@ module _ {V : Type 0} (fit : V → Type 0) (tag_of : V → Tag) (parked : V → 
       let k = loads fit tag_of parked hemlock_discipline disciplined ch n tag tail id me w s r (apart 0) at live
       (like v w refl refl refl refl refl refl refl refl) refl (inl refl) refl refl
       (λ h noted. (silent, inl (others_behind s.words r.seats s.views id v r.queued at (st.first h) (other noted)))) st.followed
-      (same_grants n s.words r.seats s.views id w r.queued.core s.words v at (λ _. refl) refl refl (λ x. x) refl (λ l _. l) (r.queued.core.owing id v at)) in
+      (calm s r id v w at refl refl refl refl) in
       (w, keeps, k.0, k.1, k.2)
 
   -- where `tail` names the head, it is alone
@@ -368,7 +375,7 @@ module _ {V : Type 0} (fit : V → Type 0) (tag_of : V → Tag) (parked : V → 
       let more = others_behind s.words r.seats s.views id v r.queued at first (λ e. ne (e ∙ sym is)) in
       let k = loads fit tag_of parked hemlock_discipline disciplined ch n tag tail id (v, c) w s r (apart 0) at live
       (like v w refl refl refl refl refl refl refl refl) refl (inl refl) refl refl (r.told.each id v at).tested (λ _ _. more)
-      (same_grants n s.words r.seats s.views id w r.queued.core s.words v at (λ _. refl) refl refl (λ y. y) refl (λ l _. l) (r.queued.core.owing id v at)) in
+      (calm s r id v w at refl refl refl refl) in
       (w, keeps, k.0, k.1, (λ e. absurd (ne (e ∙ sym is)), λ _. k.2)))
 
   -- where the head leaves to the next
@@ -418,7 +425,8 @@ module _ {V : Type 0} (fit : V → Type 0) (tag_of : V → Tag) (parked : V → 
       let st = r.queued.each_seat id v at in
       let holds = ap (is_holder false) held in
       let cut = head_cut r.seats id (st.first holds) in
-      let k = leaves fit tag_of parked hemlock_discipline disciplined ch n tag (grant (own_name v)) 1 id v w x c cut.0 s r (apart (own_name v)) at live
+      let k = leaves fit tag_of parked hemlock_discipline disciplined ch n tag (grant (own_name v)) 1 id v w x c cut.0 s r
+      (apart (own_name v)) at live
       (like v w refl refl refl refl refl refl refl refl) refl silent holds cut.1 refl refl carries rests
       (granting_grants s.words r.seats cut.0 s.views id v r.queued at live cut.1 (st.followed holds followed) clear) in
       (w, gives, k.0, k.1, (slice_index s.words (grant (own_name v)), k.2))
@@ -446,8 +454,8 @@ module _ {V : Type 0} (fit : V → Type 0) (tag_of : V → Tag) (parked : V → 
       (inr (refl, (r.told.each id v at).leaving (ap is_leaving leaving)))
       (sym (ap (is_busy false) leaving)) (sym (ap (is_holder false) leaving)) (λ h _. absurd (no_true (sym h)))
       (λ h _. absurd (no_true (sym h)))
-      (same_grants n s.words r.seats s.views id w r.queued.core s.words v at (λ _. refl) refl refl (λ x. absurd (idle x)) (sym (ap (is_busy false) leaving))
-      (λ _ x. absurd (gone x)) (λ h _. absurd (idle_not_held h))) in
+      (same_grants n s.words r.seats s.views id w r.queued.core s.words v at (λ _. refl) refl refl (λ x. absurd (idle x))
+      (sym (ap (is_busy false) leaving)) (λ _ x. absurd (gone x)) (λ h _. absurd (idle_not_held h))) in
       (w, keeps, k.0, k.1, (λ _. k.2, λ ne. absurd (ne e))))
       (λ ne.
       let v : View = me.0 in
@@ -455,8 +463,7 @@ module _ {V : Type 0} (fit : V → Type 0) (tag_of : V → Tag) (parked : V → 
       let idle = wrong_phase (is_holder false) v Leaving leaving refl in
       let k = loads fit tag_of parked hemlock_discipline disciplined ch n tag (grant (own_name v)) id me w s r (apart (own_name v)) at live
       (like v w refl refl refl refl refl refl refl refl) refl (inl refl) refl refl
-      (λ h _. absurd (idle h)) (λ h _. absurd (idle h)) (same_grants n s.words r.seats s.views id w r.queued.core s.words v at (λ _. refl) refl refl (λ x. x) refl
-      (λ l _. l) (r.queued.core.owing id v at)) in
+      (λ h _. absurd (idle h)) (λ h _. absurd (idle h)) (calm s r id v w at refl refl refl refl) in
       (w, keeps, k.0, k.1, (λ e. absurd (ne e), λ _. k.2)))
 
   pub looks : (slots id word : ℕ) (me : Me (Option V) View) → me.0.phase ≡ Leaving → me.0.spent ≡ false → word ≡ grant (own_name me.0)

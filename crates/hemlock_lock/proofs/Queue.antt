@@ -23,7 +23,7 @@ use Rattle.lock_tables.proofs.Lists.{number_is, at_below, at_end, there, wrote_e
 use Rattle.lock_tables.proofs.Queues.{WasAt, lives, one_seat_of, after_split, after_join, placed_before_split, placed_before_join}
 use Rattle.hemlock_lock.specs.Kinds.{own_name}
 use Rattle.hemlock_lock.specs.Rule.{tail, grant, named_by, ungranted, passes_to, queue_of, IsLeaving, hemlock_discipline}
-use Rattle.hemlock_lock.proofs.Chains.{WasNamed, no_seats, chained_stays, leaver_stays, same_grants, busy_ungranted, last_seat}
+use Rattle.hemlock_lock.proofs.Chains.{WasNamed, no_seats, chained_stays, leaver_stays, calm_grants, busy_ungranted, last_seat}
 
 -- the name that the view of an unspent seat has, where its pass has one seat
 named_by_is : (views : List View) (j : ℕ) (v : View) → get_elem? views j ≡ some v → v.spent ≡ false
@@ -220,13 +220,9 @@ disciplined = record {
         (λ (t : (j ≡ 0) × (first_view Hemlock ch n tag ≡ v)). absurd (some_name (ap (λ (x : View). x.predecessor) (sym t.1))))
         (at_end [] (first_view Hemlock ch n tag) v j at);
   };
-  notes = λ n words seats views x id v w at noted core.
-      let phase : w.phase ≡ v.phase = ap (λ (u : View). u.phase) noted in
-      let predecessor : w.predecessor ≡ v.predecessor = ap (λ (u : View). u.predecessor) noted in
-      same_grants n words seats views id w core (set words waiting x) v at
-      (λ k. wrote_else words waiting (line k) x (λ e. omega arith))
-      (ap (λ (u : View). u.number) noted) predecessor (λ e. sym phase ∙ e) (ap (is_busy false) phase) (λ l _. phase ∙ l)
-      (λ h some_name. ap (λ (u : View). u.owes) noted ∙ core.owing id v at (sym phase ∙ h) (λ z. some_name (predecessor ∙ z)));
+  notes = λ n words seats views x id v w at noted core. calm_grants n words seats views id w core (set words waiting x) v at
+      (λ k. wrote_else words waiting (line k) x (λ e. omega arith)) (ap (λ (u : View). u.number) noted)
+      (ap (λ (u : View). u.predecessor) noted) (ap (λ (u : View). u.phase) noted) (ap (λ (u : View). u.owes) noted);
   splits = λ n tag words seats views id v q at live more. record {
     named = q.core.named;
     chained = chained_stays q.core.named words words seats views (set views id (without_next v) ++ next_split v ∷ []) q.core.chained refl

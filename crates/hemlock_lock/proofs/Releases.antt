@@ -36,7 +36,8 @@ module _ {V : Type 0} (fit : V → Type 0) (tag_of : V → Tag) (parked : V → 
   granted_is held found own me me' me'' before name other step store =
       let after : me' ≡ with_value (followed_view (held_view held)) held.value = step.0
       ∙ ap (λ (m : Seated V). (followed_view m.0, m.1)) before in
-      let last : me'' ≡ (granting_view (followed_view (held_view held)), []) = store.1.0 ∙ ap (λ (m : Seated V). (granting_view m.0, rest m.1)) after in (
+      let last : me'' ≡ (granting_view (followed_view (held_view held)), []) =
+      store.1.0 ∙ ap (λ (m : Seated V). (granting_view m.0, rest m.1)) after in (
         record {
           found = found;
           other = λ e. other (e ∙ sym name);

@@ -22,7 +22,8 @@ use Rattle.hemlock_lock.proofs.Chains.{tail_within, queued_names}
 use Rattle.std.specs.Prelude.{List, slice_index}
 
 -- the mark of a token is its pass's number
-pub number_is : (ch : Waiters) (z : TableId) (tag : Tag) (y : TableId) (v : View) → IsOf (lock_name Hemlock ch z) tag (place_of y v) → mark_of v ≡ v.number
+pub number_is : (ch : Waiters) (z : TableId) (tag : Tag) (y : TableId) (v : View)
+    → IsOf (lock_name Hemlock ch z) tag (place_of y v) → mark_of v ≡ v.number
 number_is ch z tag y v own = own_mark Hemlock ch z tag y v own v refl
 
 module _ (ch : Waiters) (z : TableId) (tag : Tag) (passes : ℕ) (sized : IsSized Hemlock passes z) (y : TableId) (v : View)
@@ -61,20 +62,17 @@ module _ {V : Type 0} (fit : V → Type 0) (tag_of : V → Tag) (parked : V → 
   loaded_named event act word found now me me' h queued =
       queued_names me.0.count me.0.tag.tag h.state.words h.allowed.seats h.state.views h.allowed.queued h.seat me.0 h.knew queued
 
+pub announced_plain : (v : View) → IsPlain v → IsPlain (announced_view v)
+announced_plain v p = alike_plain v _ (alike _ _ refl refl refl refl refl refl refl refl refl refl refl p.predecessor_within) p
+
 pub queued_plain : (v : View) (found : ℕ) → IsPlain v → found ≤ v.count → IsPlain (queued_view v found)
-queued_plain v found p within =
-    alike_plain v (queued_view v found) (alike _ _ refl refl refl refl refl refl refl refl refl refl refl within) p
+queued_plain v found p within = alike_plain v _ (alike _ _ refl refl refl refl refl refl refl refl refl refl refl within) p
 
 pub followed_plain : (v : View) → IsPlain v → IsPlain (followed_view v)
-followed_plain v p = alike_plain v (followed_view v) (alike _ _ refl refl refl refl refl refl refl refl refl refl refl p.predecessor_within) p
+followed_plain v p = alike_plain v _ (alike _ _ refl refl refl refl refl refl refl refl refl refl refl p.predecessor_within) p
 
 pub waited_plain : (v : View) → IsPlain v → IsPlain (missed_view (granting_view (followed_view v)))
-waited_plain v p =
-    alike_plain v (missed_view (granting_view (followed_view v))) (alike _ _ refl refl refl refl refl refl refl refl refl refl refl p.predecessor_within) p
+waited_plain v p = alike_plain v _ (alike _ _ refl refl refl refl refl refl refl refl refl refl refl p.predecessor_within) p
 
 pub done_plain : (v : View) → IsPlain v → IsPlain (done_view (granting_view (followed_view v)))
-done_plain v p =
-    alike_plain v (done_view (granting_view (followed_view v))) (alike _ _ refl refl refl refl refl refl refl refl refl refl refl p.predecessor_within) p
-
-pub announced_plain : (v : View) → IsPlain v → IsPlain (announced_view v)
-announced_plain v p = alike_plain v (announced_view v) (alike _ _ refl refl refl refl refl refl refl refl refl refl refl p.predecessor_within) p
+done_plain v p = alike_plain v _ (alike _ _ refl refl refl refl refl refl refl refl refl refl refl p.predecessor_within) p

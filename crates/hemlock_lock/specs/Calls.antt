@@ -33,17 +33,17 @@ seated b = bare (view_of b)
 
 module _ {V : Type 0} (fit : V → Type 0) (tag_of : V → Tag) (parked : V → Bool) where
   -- what a call that enters did first
-  abbrev pub HasBegun : View → Type 0
-  HasBegun before = HasAnnounced hemlock_discipline fit tag_of parked before.waiters (bare before) (bare (announced_view before))
+  abbrev pub HasAnnouncedFirst : View → Type 0
+  HasAnnouncedFirst before = HasAnnounced hemlock_discipline fit tag_of parked before.waiters (bare before) (bare (announced_view before))
 
   -- what a call that took did last, of a seat that took with this view
-  abbrev pub HasEnded : View → Held V → Type 0
-  HasEnded taken after = HasWithdrawn hemlock_discipline fit tag_of parked taken.waiters (empty_handed taken)
+  abbrev pub HasWithdrawnLast : View → Held V → Type 0
+  HasWithdrawnLast taken after = HasWithdrawn hemlock_discipline fit tag_of parked taken.waiters (empty_handed taken)
       (empty_handed (held_view after))
 
   -- the pass was announced, where the lock counts; the swap of `tail` found another
   pub record HasQueued (before after : Badge View) : Type 0 where
-    pub announced : HasBegun (view_of before)
+    pub announced : HasAnnouncedFirst (view_of before)
     pub found : ℕ
     pub other : found ≢ 0
     pub step : Entered fit tag_of parked (bare (announced_view (view_of before))) found (seated after)
@@ -51,11 +51,11 @@ module _ {V : Type 0} (fit : V → Type 0) (tag_of : V → Tag) (parked : V → 
   -- the pass was announced, where the lock counts; the swap of `tail` found 0; the value that was at home is the holder's, which is no
   -- longer announced
   pub record HasTakenAtOnce (before : Badge View) (after : Held V) : Type 0 where
-    pub announced : HasBegun (view_of before)
+    pub announced : HasAnnouncedFirst (view_of before)
     pub swap : Stepped (IsLock hemlock_discipline fit tag_of parked) queue_of EntersAndTakes
         (takes 0 (Some after.value)) tail 0 (own_name (view_of before)) (bare (announced_view (view_of before)))
         (entered_view (announced_view (view_of before))) (with_value (entered_view (announced_view (view_of before))) after.value)
-    pub withdrawn : HasEnded (entered_view (announced_view (view_of before))) after
+    pub withdrawn : HasWithdrawnLast (entered_view (announced_view (view_of before))) after
 
   -- a load of the predecessor's grant that did not show 1
   pub record HasMissed (before after : Badge View) : Type 0 where
@@ -71,7 +71,7 @@ module _ {V : Type 0} (fit : V → Type 0) (tag_of : V → Tag) (parked : V → 
         (granted_view (view_of before)) (with_value (granted_view (view_of before)) after.value)
     pub clear : Cleared fit tag_of parked (with_value (granted_view (view_of before)) after.value)
         (with_value (cleared_view (granted_view (view_of before))) after.value)
-    pub withdrawn : HasEnded (cleared_view (granted_view (view_of before))) after
+    pub withdrawn : HasWithdrawnLast (cleared_view (granted_view (view_of before))) after
 
   -- by a load of `tail`, where the answer is yes exactly where it named another than the holder, or in a lock that counts by one of
   -- `waiting`, where the answer is yes exactly where somebody is announced

@@ -66,9 +66,10 @@ impl<V: Cargo> Basic<V> for Hemlock<V> {
         ensures preceded { IfNot result (λ q. (badge_waiting q.badge).preceded ≡ true) }
         ensures queue { IfNot result (λ q. (badge_waiting q.badge).place ≡ badge_place pass.badge) }
         ensures entered { IfNot result (λ q. (view_of q.badge).entries ≡ (view_of pass.badge).entries + 1) }
-        ensures steps { IfNot result (λ q. (view_of q.badge).steps ≡ (view_of pass.badge).steps + counting (view_of pass.badge).waiters + 1) }
-        ensures steps_behind { IfGot result (λ h. (held_view h).steps ≡ (view_of pass.badge).steps + counting (view_of pass.badge).waiters + 1
-            + counting (view_of pass.badge).waiters) }
+        ensures steps { IfNot result (λ q. (view_of q.badge).steps ≡ (view_of pass.badge).steps
+            + counting (view_of pass.badge).waiters + 1) }
+        ensures steps_behind { IfGot result (λ h. (held_view h).steps ≡ (view_of pass.badge).steps
+            + counting (view_of pass.badge).waiters + 1 + counting (view_of pass.badge).waiters) }
         ensures held { IfGot result (λ h. (holder_of h).place ≡ badge_place pass.badge) }
         ensures fit { IfGot result (λ h. V.fit h.value) }
         ensures tagged { IfGot result (λ h. V.tag h.value ≡ V.tag (padded_value self.now.words.table).shared.key.value.value) }
@@ -96,7 +97,8 @@ impl<V: Cargo> Basic<V> for Hemlock<V> {
         ensures loaded { IfNot result (λ q. (badge_waiting q.badge).loads ≡ (badge_waiting queue.badge).loads + 1) }
         ensures unready { IfNot result (λ q. (badge_waiting q.badge).ready ≡ false) }
         ensures steps { IfNot result (λ q. (view_of q.badge).steps ≡ (view_of queue.badge).steps + 1) }
-        ensures steps_behind { IfGot result (λ h. (held_view h).steps ≡ (view_of queue.badge).steps + 2 + counting (view_of queue.badge).waiters) }
+        ensures steps_behind { IfGot result (λ h. (held_view h).steps ≡ (view_of queue.badge).steps + 2
+            + counting (view_of queue.badge).waiters) }
         ensures held { IfGot result (λ h. (holder_of h).place ≡ (badge_waiting queue.badge).place) }
         ensures fit { IfGot result (λ h. V.fit h.value) }
         ensures tagged { IfGot result (λ h. V.tag h.value ≡ V.tag (padded_value self.now.words.table).shared.key.value.value) }
@@ -187,7 +189,8 @@ impl<V: Cargo> Basic<V> for Hemlock<V> {
 
     fn close(self, passes: Vec<Pass>) -> V
         requires all { AreAll (λ p. badge_place p.badge) (lock_name hemlock_algorithm (padded_value self.words.table).shared.key.waiters
-            (padded_value self.words.table).shared.table_id) (V.tag (padded_value self.words.table).shared.key.value.value) (padded_value self.words.table).shared.key.passes passes.items }
+            (padded_value self.words.table).shared.table_id)
+            (V.tag (padded_value self.words.table).shared.key.value.value) (padded_value self.words.table).shared.key.passes passes.items }
         ensures fit { V.fit result }
         ensures tagged { V.tag result ≡ V.tag (padded_value self.words.table).shared.key.value.value }
         ensures unparked { V.parked result ≡ false }

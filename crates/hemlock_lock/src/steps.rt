@@ -83,7 +83,8 @@ impl<V: Cargo> Words<V> {
     /// The value of a lock whose passes came back.
     pub(crate) fn close(self, passes: Vec<Pass>) -> V
         requires all { AreAll (λ p. badge_place p.badge) (lock_name hemlock_algorithm (padded_value self.table).shared.key.waiters
-            (padded_value self.table).shared.table_id) (V.tag (padded_value self.table).shared.key.value.value) (padded_value self.table).shared.key.passes passes.items }
+            (padded_value self.table).shared.table_id)
+            (V.tag (padded_value self.table).shared.key.value.value) (padded_value self.table).shared.key.passes passes.items }
         ensures fit { V.fit result }
         ensures tagged { V.tag result ≡ V.tag (padded_value self.table).shared.key.value.value }
         ensures unparked { V.parked result ≡ false }
