@@ -40,7 +40,8 @@ is_home None list callers e all =
     absurd (let less = below_all list [] no_caller (subst (λ (l : List ℕ). All (λ n. n < no_caller) l) (sym e) all) in omega (arith, less))
 is_home (Some p) list callers e all = (refl, e)
 
-known_below : (turns : List Turn) (n : ℕ) → n < 2 ^ 32 → All (λ (t : Turn). t.caller < n) turns → All (λ k. k < no_caller) (callers_in turns)
+known_below : (turns : List Turn) (n : ℕ) → n < 2 ^ 32 → All (λ (t : Turn). t.caller < n) turns → All (λ k. k < no_caller)
+    (callers_in turns)
 known_below [] n few all = All-nil (λ k. k < no_caller)
 known_below (t ∷ turns) n few all =
     let head = All-head (λ (u : Turn). u.caller < n) t turns all in
@@ -78,7 +79,8 @@ one_more caller turns t own =
 module _ (t : Tag) (level made : ℕ) (share : ShareState) (r : Root FreshBook)
     (opened : HasOpened fresh_book_calls fresh_book_tag t level share r) where
   home : IsSome r.payload.fresh.payload × (r.payload.fresh.list ≡ callers_in r.trail.closed)
-  home = is_home r.payload.fresh.payload r.payload.fresh.list (callers_in r.trail.closed) opened.calls_are (callers_below r.trail opened.trail)
+  home = is_home r.payload.fresh.payload r.payload.fresh.list (callers_in r.trail.closed) opened.calls_are (callers_below r.trail
+      opened.trail)
 
   all_are : all_turns r.trail ≡ r.trail.closed ++ opened.is_open.turn ∷ []
   all_are = ap (λ (o : Option Turn). r.trail.closed ++ option_list o) opened.is_open.now
