@@ -49,8 +49,8 @@ shares_new course sections shares seens is k s e =
 
 module _ {P : Type 0} (rest : P → Rest) (has : Context → Type 0) (level : ℕ) (tag : Tag) where
   -- with blank marks for each share
-  pub are_lists : (count : ℕ) (sections : List (List ℕ)) (lists : Lists P) → AreAll (λ p. (rest p).context) has level tag count lists.passes.items
-      → count ≡ length sections → IsFreshDealt (course_of tag) sections lists.shares.items lists.seens.items
+  pub are_lists : (count : ℕ) (sections : List (List ℕ)) (lists : Lists P) → AreAll (λ p. (rest p).context) has level tag count
+      lists.passes.items → count ≡ length sections → IsFreshDealt (course_of tag) sections lists.shares.items lists.seens.items
       → length lists.marks.items ≡ length lists.shares.items
       → ((k : ℕ) (s : ShareState) (m : Marks) → slice_get lists.shares.items k ≡ Some s → slice_get lists.marks.items k ≡ Some m
       → IsBlank s.quota m)
@@ -60,6 +60,7 @@ module _ {P : Type 0} (rest : P → Rest) (has : Context → Type 0) (level : �
       let shares = lists.shares.items in
       let seens = lists.seens.items in
       let many = many_shares course sections shares seens is in record {
+        recorded = is.dealt.recorded;
         passes = passes.each;
         shares = λ k s e. (shares_in course sections shares seens is k s e, shares_new course sections shares seens is k s e);
         seens = λ k s e. (is.seens_are.each k s e, all_at (λ (t : SeenState). t.list ≡ []) seens k s is.blank e);
@@ -113,6 +114,7 @@ module _ {P : Type 0} (rest : P → Rest) (has : Context → Type 0) (level : �
     -- what stands before the last caller's
     pub fewer : AreLists rest has level tag (length after.passes.items) after
     fewer = record {
+      recorded = are.recorded;
       passes = in_front (λ k q. IsNumber has level tag k (rest q).context) lists.passes.items after.passes.items p passes are.passes;
       shares = in_front share_at lists.shares.items after.shares.items a.share shares are.shares;
       seens = in_front seen_at lists.seens.items after.seens.items a.seen seens are.seens;
@@ -130,13 +132,16 @@ module _ {P : Type 0} (rest : P → Rest) (has : Context → Type 0) (level : �
     -- and its account
     pub last_account : IsAccount (course_of tag) (length after.passes.items) a × (a.share.made ≡ 0)
     last_account =
-        let share = subst (λ k. share_at k a.share) as_shares (at_end share_at lists.shares.items after.shares.items a.share shares are.shares) in
+        let share = subst (λ k. share_at k a.share) as_shares (at_end share_at lists.shares.items after.shares.items a.share shares
+        are.shares) in
         let seen = subst (λ k. seen_at k a.seen) as_seens (at_end seen_at lists.seens.items after.seens.items a.seen seens are.seens) in
-        let blank = subst (λ k. marks_at k a.marks) as_marks (at_end marks_at lists.marks.items after.marks.items a.marks marks are.marks) in
+        let blank = subst (λ k. marks_at k a.marks) as_marks (at_end marks_at lists.marks.items after.marks.items a.marks marks are.marks)
+        in
         let made = share.1 in
         let quota = share.0.quota in
         let room = blank.room in (
           record {
+            recorded = are.recorded;
             share_is = share.0;
             seen_is = seen.0;
             marks_are = blank.none ∙ sym (no_places (length after.passes.items))

@@ -27,7 +27,7 @@ use Rattle.kv_history.specs.Log.{Log, IsNext, calls}
 use Rattle.threaded_runner.specs.Jobs.{IsCommandAt}
 use Rattle.fresh_runner.specs.Books.{book_in, fresh_book_calls, fresh_book_tag}
 use Rattle.fresh_runner.specs.declared.book.FreshBook.{FreshBook}
-use Rattle.fresh_runner.proofs.Tags.{book_is}
+use Rattle.fresh_runner.proofs.Tags.{book_is, recorded_is}
 
 below_all : (xs ys : List ℕ) (x : ℕ) → All (λ n. n < no_caller) (xs ++ x ∷ ys) → x < no_caller
 below_all [] ys x all = All-head (λ n. n < no_caller) x ys all
@@ -40,7 +40,8 @@ is_home None list callers e all =
     absurd (let less = below_all list [] no_caller (subst (λ (l : List ℕ). All (λ n. n < no_caller) l) (sym e) all) in omega (arith, less))
 is_home (Some p) list callers e all = (refl, e)
 
-known_below : (turns : List Turn) (n : ℕ) → n < 2 ^ 32 → All (λ (t : Turn). t.caller < n) turns → All (λ k. k < no_caller) (callers_in turns)
+known_below : (turns : List Turn) (n : ℕ) → n < 2 ^ 32 → All (λ (t : Turn). t.caller < n) turns → All (λ k. k < no_caller)
+    (callers_in turns)
 known_below [] n few all = All-nil (λ k. k < no_caller)
 known_below (t ∷ turns) n few all =
     let head = All-head (λ (u : Turn). u.caller < n) t turns all in
@@ -78,7 +79,8 @@ one_more caller turns t own =
 module _ (t : Tag) (level made : ℕ) (share : ShareState) (r : Root FreshBook)
     (opened : HasOpened fresh_book_calls fresh_book_tag t level share r) where
   home : IsSome r.payload.fresh.payload × (r.payload.fresh.list ≡ callers_in r.trail.closed)
-  home = is_home r.payload.fresh.payload r.payload.fresh.list (callers_in r.trail.closed) opened.calls_are (callers_below r.trail opened.trail)
+  home = is_home r.payload.fresh.payload r.payload.fresh.list (callers_in r.trail.closed) opened.calls_are (callers_below r.trail
+      opened.trail)
 
   all_are : all_turns r.trail ≡ r.trail.closed ++ opened.is_open.turn ∷ []
   all_are = ap (λ (o : Option Turn). r.trail.closed ++ option_list o) opened.is_open.now
@@ -91,13 +93,13 @@ module _ (t : Tag) (level made : ℕ) (share : ShareState) (r : Root FreshBook)
   pub list_is : fresh_book_calls r.payload ≡ r.payload.fresh.list
   list_is = opened.calls_are ∙ sym home.1
 
-  -- and fewer than a number of 32 bits can count, with the one that is added
-  pub few_calls : length r.payload.fresh.list + 1 < 2 ^ 32
-  few_calls =
+  -- and fewer than a number of 32 bits can count, with the one that is added, where the trail keeps its turns in memory
+  pub few_calls : (course_of t).recorded ≡ true → length r.payload.fresh.list + 1 < 2 ^ 32
+  few_calls recorded =
       let list = ap length home.1 ∙ length-map r.trail.closed (λ (u : Turn). u.caller) in
       let all = ap length all_are ∙ length-append r.trail.closed (opened.is_open.turn ∷ []) in
       let room = opened.trail.room in
-      let fits = opened.trail.fits in omega (arith, list, all, room, fits)
+      let fits = opened.trail.recordable (recorded_is t r opened.tagged recorded) in omega (arith, list, all, room, fits)
 
   module _ (more : share.made ≡ made + 1) where
     -- the caller has made as many calls as turns before

@@ -1,6 +1,6 @@
 -- What is known of the turns once all shares came back.
-use Rattle.std.proofs.Common.{◌≡◌, ℕ, zero, suc, ◌<◌, false, true, not, Bool, List, [], ◌∷◌, ◌++◌, length, map, get_or, refl, ap, sym, ◌∙◌, subst, arith, Option, Some, None}
-use Rattle.std.proofs.Common.{length-append}
+use Rattle.std.proofs.Common.{◌≡◌, ℕ, zero, suc, ◌<◌, false, true, not, Bool, List, [], ◌∷◌, ◌++◌, length, map, get_or, refl, ap, sym, ◌∙◌}
+use Rattle.std.proofs.Common.{subst, arith, Option, Some, None, length-append}
 use Rattle.std.specs.Prelude.{All, option_map, slice_get, slice_index, ◌||◌}
 use Rattle.std.specs.List.{list_any}
 use Rattle.std.proofs.lemmas.List.{append-nil}
@@ -79,8 +79,9 @@ all_closed s closed = ap (λ (o : Option Turn). s.closed ++ option_list o) close
 -- what callers leave who have made all their turns, none of which found no memory
 pub finished : (root : Root Book) (shares : List ShareState) → IsFit book_calls root
     → root.trail.quotas ≡ map (λ (one : List ℕ). length (commands_of one)) root.payload.journal.sections → All (IsShareOf root.trail) shares
-    → AreDone root.trail.name root.trail.quotas shares → length shares ≡ length root.payload.journal.sections → EachOwnFirst root.payload.journal
-    → NoneVoid root.payload.journal.entries → root.trail.recorded ≡ true → IsFinished root.trail root.payload.journal
+    → AreDone root.trail.name root.trail.quotas shares → length shares ≡ length root.payload.journal.sections
+    → EachOwnFirst root.payload.journal → NoneVoid root.payload.journal.entries
+    → root.trail.recorded ≡ true → IsFinished root.trail root.payload.journal
 finished root shares fit quotas counted done many first whole recorded =
     let made = subst (EachMadeAll root.payload.journal.sections) (all_closed root.trail fit.settled.closed)
     (turns_made root.trail shares root.payload.journal.sections counted done many quotas) in

@@ -24,4 +24,5 @@ returns-in-Ok-clause-dealt c =
     let seens = subst (λ n. AreAll c.in-Ok.fresh.name n c.in-Ok.seens.items) (sym as_sections) c.in-Ok.ensures.seens in
     fresh_dealt root r sections c.in_ok-root.shares.items c.in-Ok.seens.items trail tag c.in_ok-root.ensures.dealt
     (ap (λ (f : FreshState Book). f.tokens) fresh ∙ many)
-    (subst (λ n. AreAll n (length sections) c.in-Ok.seens.items) (ap (λ (f : FreshState Book). f.name) (sym fresh)) seens) c.in-Ok.ensures.blank
+    (subst (λ n. AreAll n (length sections) c.in-Ok.seens.items) (ap (λ (f : FreshState Book). f.name) (sym fresh)) seens)
+    c.in-Ok.ensures.blank
