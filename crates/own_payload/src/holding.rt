@@ -57,7 +57,7 @@ pub fn hold_all<T: Drop, C: Composed<Noted<T>>, F: Fn(&mut T, u32), R: Wait>(
         mut pass,
         mut share,
     } = job;
-    for _ in share.made()..share.quota() {
+    for _ in share.turns_made()..share.turns_allowed() {
         pass = hold(rt, lock, pass, &mut share, work);
     }
     Job { pass, share }

@@ -1,5 +1,5 @@
 //! What a lock is made around.
-ghost use Rattle.std.specs.Prelude.{◌≡◌, ◌^◌, ◌<◌, length, sum, IfOk, IfSome};
+ghost use Rattle.std.specs.Prelude.{◌≡◌, ◌^◌, ◌<◌, true, length, sum, IfOk, IfSome};
 ghost use Rattle.lock_rules.specs.Tag.{leaf};
 ghost use Rattle.keep_local.specs.Shapes.{IsWellFormed, callers_of};
 ghost use Rattle.keep_local.specs.States.{new_shares};
@@ -26,6 +26,7 @@ pub fn new_root<T: Drop>(
     requires fits { sum quotas.now < 2 ^ 32 }
     ensures fit { IfSome result (λ m. IsFit (λ n. n.calls.callers) m.0) }
     ensures value { IfSome result (λ m. m.0.payload.value ≡ value) }
+    ensures recorded { IfSome result (λ m. m.0.trail.recorded ≡ true) }
     ensures shape { IfSome result (λ m. m.0.trail.shape ≡ shape.now) }
     ensures quotas { IfSome result (λ m. m.0.trail.quotas ≡ quotas.now) }
     ensures shares { IfSome result (λ m. m.1.items ≡ new_shares (course_of (root_tag (λ _. leaf 0) m.0)).name quotas.now) }

@@ -11,4 +11,4 @@ pub hold-pass-requires-clause-share : goal.hold-pass-requires-clause-share
 hold-pass-requires-clause-share g c =
     may_turn _ _ c.loop.counter c.args.job.share c.loop.share c.requires.may.job.share_is
     (ap (λ (x : Context). x.number) c.loop.invariant.pass ∙ c.requires.may.job.pass_is.number_is) c.loop.invariant.share
-    (let below = c.loop-test.true in let end = c.quota-end.ensures in omega (arith, below, end))
+    (let below = c.loop-test.true in let end = c.turns_allowed-end.ensures in omega (arith, below, end))
