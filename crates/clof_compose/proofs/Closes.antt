@@ -34,8 +34,8 @@ module _ {P : Type 0} where
       let found = map_some (λ t. tested t level said) r.trail.current closes.turn (sym (ap (λ (s : TrailState). s.current) is.trail)
       ∙ closes.now) in
       let higher = closes.above in
-      let ends : Ends r.trail.shape r.trail.closed (record closes.turn { tests = n.tests; left = closes.left }) = subst (λ (s : TrailState). Ends
-      s.shape s.closed (record closes.turn { tests = n.tests; left = closes.left })) is.trail closes.ends in record {
+      let ends : Ends r.trail.shape r.trail.closed (record closes.turn { tests = n.tests; left = closes.left }) = subst (λ
+      (s : TrailState). Ends s.shape s.closed (record closes.turn { tests = n.tests; left = closes.left })) is.trail closes.ends in record {
         turn = found.0;
         now = found.1;
         same = λ j h. let other : j ≢ level = omega (arith, h) in
@@ -43,7 +43,8 @@ module _ {P : Type 0} where
             ∙ with_test_other found.0.tests level j said other;
         left = closes.left;
         above = omega (arith, higher);
-        ends = subst (λ (t : Turn). Ends r.trail.shape r.trail.closed (record t { tests = n.tests; left = closes.left })) (sym found.2) ends;
+        ends = subst (λ (t : Turn). Ends r.trail.shape r.trail.closed (record t { tests = n.tests; left = closes.left }))
+            (sym found.2) ends;
         own = closes.own ∙ ap (λ (s : TrailState). s.receipts) is.trail;
         told = closes.told ∙ ap (λ (s : TrailState). all_tests s.closed ++ n.tests ∷ []) is.trail;
       }

@@ -48,8 +48,8 @@ module _ {P Pass Held : Type 0} (rest : Pass → Rest) (stand : Held → Stand (
       high).context.tag (level + 1) node)
   ready_above full = some_with (MayRelease calls tag (kept_stand stand high).context.tag (level + 1) node) (kept_stand stand high)
       (kept_stand stand high₁) r₁ (others r₁)
-      (may_release_above calls tag (kept_stand stand high).context.tag level keep node yes r r₁ rel payload noted lawful was (level + 1) refl
-      (λ e below. let f : keep ≤ kept = full e in let k = kept_is in absurd (omega (arith, f, below, k))))
+      (may_release_above calls tag (kept_stand stand high).context.tag level keep node yes r r₁ rel payload noted lawful was
+      (level + 1) refl (λ e below. let f : keep ≤ kept = full e in let k = kept_is in absurd (omega (arith, f, below, k))))
 
   turn_is : r₁.trail.current ≡ Some (tested rel.turn level yes)
   turn_is = ap (λ (s : TrailState). s.current) (noted_is calls tag (kept_stand stand high).context.tag level keep node yes r r₁ rel

@@ -131,5 +131,5 @@ fresh_passes {L} place level made count name tag passes lows same are e long = r
 
 pub all_fresh : {L : Type 0} (level : ℕ) (lows : List L) → AreFresh (map (fresh_pass level) lows)
 all_fresh {L} level [] = All-nil (λ (p : TopPass L). p.report.tests ≡ 0)
-all_fresh {L} level (x ∷ xs) = All-cons (λ (p : TopPass L). p.report.tests ≡ 0) (fresh_pass level x) (map (fresh_pass level) xs) refl (all_fresh
-    level xs)
+all_fresh {L} level (x ∷ xs) = All-cons (λ (p : TopPass L). p.report.tests ≡ 0) (fresh_pass level x) (map (fresh_pass level) xs) refl
+    (all_fresh level xs)

@@ -24,6 +24,7 @@ account_after course caller old new list is prefix called share seen marks capac
     let quota = ap (λ (s : ShareState). s.quota) share in
     let one = ap length marks ∙ length-append old.marks.turns.items (length list ∷ []) in
     let room = is.room in record {
+      recorded = is.recorded;
       share_is = record {
         own = ap (λ (s : ShareState). s.name) share ∙ share_is.own;
         caller_is = ap (λ (s : ShareState). s.caller) share ∙ share_is.caller_is;

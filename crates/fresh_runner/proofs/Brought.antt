@@ -60,6 +60,7 @@ module _ {P : Type 0} (rest : P → Rest) (has : Context → Type 0) (level : �
       let shares = lists.shares.items in
       let seens = lists.seens.items in
       let many = many_shares course sections shares seens is in record {
+        recorded = is.dealt.recorded;
         passes = passes.each;
         shares = λ k s e. (shares_in course sections shares seens is k s e, shares_new course sections shares seens is k s e);
         seens = λ k s e. (is.seens_are.each k s e, all_at (λ (t : SeenState). t.list ≡ []) seens k s is.blank e);
@@ -113,6 +114,7 @@ module _ {P : Type 0} (rest : P → Rest) (has : Context → Type 0) (level : �
     -- what stands before the last caller's
     pub fewer : AreLists rest has level tag (length after.passes.items) after
     fewer = record {
+      recorded = are.recorded;
       passes = in_front (λ k q. IsNumber has level tag k (rest q).context) lists.passes.items after.passes.items p passes are.passes;
       shares = in_front share_at lists.shares.items after.shares.items a.share shares are.shares;
       seens = in_front seen_at lists.seens.items after.seens.items a.seen seens are.seens;
@@ -137,6 +139,7 @@ module _ {P : Type 0} (rest : P → Rest) (has : Context → Type 0) (level : �
         let quota = share.0.quota in
         let room = blank.room in (
           record {
+            recorded = are.recorded;
             share_is = share.0;
             seen_is = seen.0;
             marks_are = blank.none ∙ sym (no_places (length after.passes.items))

@@ -27,7 +27,7 @@ use Rattle.kv_history.specs.Log.{Log, IsNext, calls}
 use Rattle.threaded_runner.specs.Jobs.{IsCommandAt}
 use Rattle.fresh_runner.specs.Books.{book_in, fresh_book_calls, fresh_book_tag}
 use Rattle.fresh_runner.specs.declared.book.FreshBook.{FreshBook}
-use Rattle.fresh_runner.proofs.Tags.{book_is}
+use Rattle.fresh_runner.proofs.Tags.{book_is, recorded_is}
 
 below_all : (xs ys : List ℕ) (x : ℕ) → All (λ n. n < no_caller) (xs ++ x ∷ ys) → x < no_caller
 below_all [] ys x all = All-head (λ n. n < no_caller) x ys all
@@ -91,13 +91,13 @@ module _ (t : Tag) (level made : ℕ) (share : ShareState) (r : Root FreshBook)
   pub list_is : fresh_book_calls r.payload ≡ r.payload.fresh.list
   list_is = opened.calls_are ∙ sym home.1
 
-  -- and fewer than a number of 32 bits can count, with the one that is added
-  pub few_calls : length r.payload.fresh.list + 1 < 2 ^ 32
-  few_calls =
+  -- and fewer than a number of 32 bits can count, with the one that is added, where the trail keeps its turns in memory
+  pub few_calls : (course_of t).recorded ≡ true → length r.payload.fresh.list + 1 < 2 ^ 32
+  few_calls recorded =
       let list = ap length home.1 ∙ length-map r.trail.closed (λ (u : Turn). u.caller) in
       let all = ap length all_are ∙ length-append r.trail.closed (opened.is_open.turn ∷ []) in
       let room = opened.trail.room in
-      let fits = opened.trail.fits in omega (arith, list, all, room, fits)
+      let fits = opened.trail.recordable (recorded_is t r opened.tagged recorded) in omega (arith, list, all, room, fits)
 
   module _ (more : share.made ≡ made + 1) where
     -- the caller has made as many calls as turns before

@@ -1,5 +1,5 @@
 -- What the tag of a lock tells of the Fresh at its root.
-use Rattle.std.proofs.Common.{◌≡◌, ℕ, ap, sym, ◌∙◌}
+use Rattle.std.proofs.Common.{◌≡◌, ℕ, true, ap, sym, ◌∙◌}
 use Rattle.atomic_table.specs.Seated.{TableId}
 use Rattle.lock_rules.specs.Tag.{Tag}
 use Rattle.lock_rules.proofs.Trees.{list_in-tree_of}
@@ -29,3 +29,7 @@ module _ (t : Tag) (r : Root FreshBook) (tagged : root_tag fresh_book_tag r ≡ 
 
   pub book_is : book_in (course_of t).payload ≡ r.payload.fresh.tag
   book_is = ap book_in payload_is
+
+  -- the trail of the root keeps its turns in memory where the tag says so
+  pub recorded_is : (course_of t).recorded ≡ true → r.trail.recorded ≡ true
+  recorded_is is = sym (ap (λ (c : Course). c.recorded) course) ∙ is

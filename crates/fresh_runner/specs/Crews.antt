@@ -29,9 +29,10 @@ pub record AreEmptied {P : Type 0} (count : ℕ) (lists : Lists P) : Type 0 wher
   pub marks_room : count ≤ vec_capacity lists.marks
 
 -- Of each of so many callers its pass, its share, its token and its marks. None has made a turn or seen a call, and there is room for the
--- marks of all its turns
+-- marks of all its turns. The trail keeps its turns in memory
 pub record AreLists {P : Type 0} (rest : P → Rest) (has : Context → Type 0) (level : ℕ) (tag : Tag) (count : ℕ) (lists : Lists P) : Type 0
   where
+    pub recorded : (course_of tag).recorded ≡ true
     pub passes : (k : ℕ) (p : P) → slice_get lists.passes.items k ≡ Some p → IsNumber has level tag k (rest p).context
     pub shares : (k : ℕ) (s : ShareState) → slice_get lists.shares.items k ≡ Some s → IsShareIn (course_of tag) k s × (s.made ≡ 0)
     pub seens : (k : ℕ) (s : SeenState) → slice_get lists.seens.items k ≡ Some s

@@ -1,5 +1,5 @@
 -- What a caller has to do, and what it keeps of its turns.
-use Rattle.std.specs.Prelude.{◌≡◌, ◌≤◌, ℕ, false, [], length, vec_capacity}
+use Rattle.std.specs.Prelude.{◌≡◌, ◌≤◌, ℕ, false, true, [], length, vec_capacity}
 use Rattle.lock_rules.specs.Tag.{Tag}
 use Rattle.clof_compose.specs.Contexts.{Context}
 use Rattle.clof_compose.specs.Courses.{Course, course_of}
@@ -15,9 +15,10 @@ use Rattle.fresh_runner.specs.declared.account.Account.{Account}
 use Rattle.fresh_runner.specs.declared.account.Marks.{Marks}
 use Rattle.fresh_runner.specs.declared.job.FreshJob.{FreshJob}
 
--- The caller's share of the trail and its token of the Fresh at the root. Its marks are the places at which it stands in what its token
--- last saw, one for each turn that it has made, and there is room for all its turns
+-- The caller's share of the trail, which keeps its turns in memory, and its token of the Fresh at the root. Its marks are the places at
+-- which it stands in what its token last saw, one for each turn that it has made, and there is room for all its turns
 pub record IsAccount (course : Course) (caller : ℕ) (a : Account) : Type 0 where
+  pub recorded : course.recorded ≡ true
   pub share_is : IsShareIn course caller a.share
   pub seen_is : IsOf (fresh_in course.payload) caller a.seen
   pub marks_are : a.marks.turns.items ≡ places_of caller a.seen.list

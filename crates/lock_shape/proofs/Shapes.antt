@@ -1,6 +1,6 @@
 -- The contexts of a level and their parents, found by a walk over the callers.
-use Rattle.std.proofs.Common.{◌≡◌, ◌≢◌, ℕ, zero, suc, ◌+◌, ◌-◌, ◌<◌, ◌≤◌, ◌⊎◌, inl, inr, ⊎_elim, List, [], ◌∷◌, length, set, refl, ap, sym, ◌∙◌}
-use Rattle.std.proofs.Common.{Bool, cond, eqb, eq-eqb, subst, arith, Some}
+use Rattle.std.proofs.Common.{◌≡◌, ◌≢◌, ℕ, zero, suc, ◌+◌, ◌-◌, ◌<◌, ◌≤◌, ◌⊎◌, inl, inr, ⊎_elim, List, [], ◌∷◌, length, set, refl, ap, sym}
+use Rattle.std.proofs.Common.{◌∙◌, Bool, cond, eqb, eq-eqb, subst, arith, Some}
 use Rattle.std.proofs.lemmas.Bool.{ne_eqb}
 use Rattle.std.specs.Prelude.{slice_get, slice_index, ◌↔◌}
 use mathlib.Core.Logic.{dite}

@@ -26,4 +26,5 @@ returns-clause-locks g c = front_locks _ _ _ _ c.args.nodes.now.items c.pop.new.
 
 pub returns-clause-full : goal.returns-clause-full
 returns-clause-full g c = λ n node e.
-    c.requires.full n node (ap (λ l. slice_get l n) c.in-Some.ensures.items ∙ get_longer c.pop.new.self.items (c.in-Some.node ∷ []) n node e)
+    c.requires.full n node (ap (λ l. slice_get l n) c.in-Some.ensures.items ∙ get_longer c.pop.new.self.items (c.in-Some.node ∷ []) n node
+    e)

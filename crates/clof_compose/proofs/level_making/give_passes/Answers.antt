@@ -15,8 +15,8 @@ unreachable-requires g c =
     let step : c.loop-number.number ≡ c.loop-number.number - 1 + 1 = omega (arith, some) in
     let filled = subst (λ k. AreFilled g.B.Basic.name g.B.Basic.tag g.B.Basic.count g.B.Pass.Placed.place c.args.parents.now k
     c.loop-number.nodes.items) step c.loop-number.invariant.filled in
-    let some_pass = not_empty c.args.parents.now (c.loop-number.number - 1) c.loop-number.nodes.items _ at c.index_mut.result.now here filled
-    in
+    let some_pass = not_empty c.args.parents.now (c.loop-number.number - 1) c.loop-number.nodes.items _ at c.index_mut.result.now here
+    filled in
     let ok = c.index_mut.result.now.list.ok.0 in
     let absent = c.in_default.ensures.variant.1 (omega (arith, some_pass, ok)) in cc
 

@@ -45,7 +45,8 @@ returns-in-Ok-clause-sound g c =
     ∙ c.requires.all.all in
     let room = c.in-Ok.ensures.list in
     let all = c.requires.all.all in
-    subst (λ l. IsLevel g.B.Basic.name g.B.Basic.tag g.B.Basic.count g.B.Pass.Placed.place (g.H.Composed.has c.args.high) (g.H.Composed.sound
+    subst (λ l. IsLevel g.B.Basic.name g.B.Basic.tag g.B.Basic.count g.B.Pass.Placed.place (g.H.Composed.has c.args.high)
+    (g.H.Composed.sound
     c.args.high) (g.H.Composed.level c.args.high) (g.H.Composed.count c.args.high) (g.H.Composed.tag c.args.high) c.args.level c.args.keep l
     c.give_passes-nodes.result.0.items c.in-Ok.list.items (vec_capacity c.in-Ok.list)) (sym c.in-Ok-Ok-Ok.ensures''.items) (record {
       high_is = c.requires.sound;
@@ -63,7 +64,8 @@ returns-in-Ok-clause-sound g c =
 
 pub returns-in-Ok-clause-passes : goal.returns-in-Ok-clause-passes
 returns-in-Ok-clause-passes g c =
-    let within : (k n : ℕ) → slice_get c.args.parents.now k ≡ Some n → n < length c.in-Ok.nodes.items = λ k n e. subst (λ m. n < m) (sym (c.in-Ok.ensures.many ∙ c.requires.all.all)) (parent_within (course_of (g.H.Composed.tag
+    let within : (k n : ℕ) → slice_get c.args.parents.now k ≡ Some n → n < length c.in-Ok.nodes.items = λ k n e. subst (λ m. n < m) (sym
+    (c.in-Ok.ensures.many ∙ c.requires.all.all)) (parent_within (course_of (g.H.Composed.tag
     c.args.high)).shape c.args.level c.args.keep c.args.parents.now c.requires.shape (g.H.Composed.count c.args.high) c.requires.nodes
     c.requires.contexts k n e) in
     let all = given_all g.B.Basic.name g.B.Basic.tag g.B.Pass.Placed.place _ _ (g.H.Composed.tag c.args.high) c.args.level

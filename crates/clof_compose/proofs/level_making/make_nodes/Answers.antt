@@ -18,8 +18,8 @@ loop-pass-init g c =
       made = subst (λ l. AreMade g.B.Basic.made c.args.recipe l) (sym c.requires.empty) (All-nil (λ lock. g.B.Basic.made lock
           c.args.recipe));
       filled = λ n node e. absurd (let h = sym (ap (λ l. slice_get l n) c.requires.empty) ∙ e in cc);
-      behind = from_all (λ p. (g.H.Pass.Resting.rest p).context) (g.H.Composed.has c.args.high.now) (g.H.Composed.level c.args.high.now) (g.H.Composed.tag
-          c.args.high.now) _ _ _ _ c.requires.all none turned;
+      behind = from_all (λ p. (g.H.Pass.Resting.rest p).context) (g.H.Composed.has c.args.high.now) (g.H.Composed.level c.args.high.now)
+          (g.H.Composed.tag c.args.high.now) _ _ _ _ c.requires.all none turned;
       fresh = subst (λ l. All (λ p. (g.H.Pass.Resting.rest p).report.tests ≡ 0) l) (sym turned) c.requires.fresh;
       counted = omega (arith, none, long);
       room = c.reverse.ensures.capacity;
@@ -36,15 +36,15 @@ make_node-requires-clause-some g c =
 
 pub make_node-requires-clause-number : goal.make_node-requires-clause-number
 make_node-requires-clause-number g c =
-    let next = first_of (λ p. (g.H.Pass.Resting.rest p).context) (g.H.Composed.has c.args.high.now) (g.H.Composed.level c.args.high.now) (g.H.Composed.tag
-    c.args.high.now) _ c.loop-pass.passes.items c.pop.new.self.items c.in-Some.pass c.in-Some.ensures.items
+    let next = first_of (λ p. (g.H.Pass.Resting.rest p).context) (g.H.Composed.has c.args.high.now) (g.H.Composed.level c.args.high.now)
+    (g.H.Composed.tag c.args.high.now) _ c.loop-pass.passes.items c.pop.new.self.items c.in-Some.pass c.in-Some.ensures.items
     c.loop-pass.invariant.behind in
     next.0.number_is ∙ sym (c.len-number.ensures ∙ c.loop-pass.nodes.ok.0)
 
 pub make_node-requires-clause-above : goal.make_node-requires-clause-above
 make_node-requires-clause-above g c =
-    let next = first_of (λ p. (g.H.Pass.Resting.rest p).context) (g.H.Composed.has c.args.high.now) (g.H.Composed.level c.args.high.now) (g.H.Composed.tag
-    c.args.high.now) _ c.loop-pass.passes.items c.pop.new.self.items c.in-Some.pass c.in-Some.ensures.items
+    let next = first_of (λ p. (g.H.Pass.Resting.rest p).context) (g.H.Composed.has c.args.high.now) (g.H.Composed.level c.args.high.now)
+    (g.H.Composed.tag c.args.high.now) _ c.loop-pass.passes.items c.pop.new.self.items c.in-Some.pass c.in-Some.ensures.items
     c.loop-pass.invariant.behind in
     subst (λ n. 0 < n) (sym next.0.level_is) c.requires.above
 
@@ -56,8 +56,8 @@ make_node-requires-clause-fresh g c =
 
 pub loop-pass-preserved : goal.loop-pass-preserved
 loop-pass-preserved g c =
-    let next = first_of (λ p. (g.H.Pass.Resting.rest p).context) (g.H.Composed.has c.args.high.now) (g.H.Composed.level c.args.high.now) (g.H.Composed.tag
-    c.args.high.now) _ c.loop-pass.passes.items c.pop.new.self.items c.in-Some.pass c.in-Some.ensures.items
+    let next = first_of (λ p. (g.H.Pass.Resting.rest p).context) (g.H.Composed.has c.args.high.now) (g.H.Composed.level c.args.high.now)
+    (g.H.Composed.tag c.args.high.now) _ c.loop-pass.passes.items c.pop.new.self.items c.in-Some.pass c.in-Some.ensures.items
     c.loop-pass.invariant.behind in
     let number = c.len-number.ensures ∙ c.loop-pass.nodes.ok.0 in
     let fewer = length_more c.pop.new.self.items c.loop-pass.passes.items c.in-Some.pass c.in-Some.ensures.items in
@@ -83,10 +83,10 @@ loop-pass-preserved g c =
                 c.in-Ok.node.list.items) count_is c.in-Ok.ensures.lows;
             room = omega (arith, long, ok.0, ok.1);
           });
-      behind = subst (λ n. AreFrom (λ p. (g.H.Pass.Resting.rest p).context) (g.H.Composed.has c.args.high.now) (g.H.Composed.level c.args.high.now) (g.H.Composed.tag
-          c.args.high.now) n (reverse c.pop.new.self.items)) (sym more) next.1;
-      fresh = All-tail (λ p. (g.H.Pass.Resting.rest p).report.tests ≡ 0) c.in-Some.pass (reverse c.pop.new.self.items) (subst (λ l. All (λ p.
-          (g.H.Pass.Resting.rest p).report.tests ≡ 0) l) turned c.loop-pass.invariant.fresh);
+      behind = subst (λ n. AreFrom (λ p. (g.H.Pass.Resting.rest p).context) (g.H.Composed.has c.args.high.now) (g.H.Composed.level
+          c.args.high.now) (g.H.Composed.tag c.args.high.now) n (reverse c.pop.new.self.items)) (sym more) next.1;
+      fresh = All-tail (λ p. (g.H.Pass.Resting.rest p).report.tests ≡ 0) c.in-Some.pass (reverse c.pop.new.self.items) (subst (λ l. All
+          (λ p. (g.H.Pass.Resting.rest p).report.tests ≡ 0) l) turned c.loop-pass.invariant.fresh);
       counted = omega (arith, fewer, more, counted);
       room = c.in-Some.ensures.capacity ∙ c.loop-pass.invariant.room;
       nodes_room = c.push_reserved.ensures.capacity ∙ c.loop-pass.invariant.nodes_room;

@@ -64,8 +64,8 @@ returns-clause-stands g c =
     c.note_waiter.new.root c.kept_root.ensures.value c.kept_root.ensures.others c.kept_root.ensures.stays c.requires.above
     c.requires.node c.requires.kept c.requires.root c.note_waiter.ensures.payload c.note_waiter.ensures.noted
     c.note_waiter.ensures.lawful c.note_waiter.ensures.lawful_before
-    c.kept_root-2.result.now c.kept_root-2.ensures.value c.in-Some.ensures.yes c.in-Some.ensures.below c.kept_root-2.ensures.others c.kept_root-2.ensures.stays c.close_turn.new.root
-    c.close_turn.ensures.payload c.close_turn.ensures.closed c.close_turn.ensures.lawful
+    c.kept_root-2.result.now c.kept_root-2.ensures.value c.in-Some.ensures.yes c.in-Some.ensures.below c.kept_root-2.ensures.others
+    c.kept_root-2.ensures.stays c.close_turn.new.root c.close_turn.ensures.payload c.close_turn.ensures.closed c.close_turn.ensures.lawful
 
 pub returns-clause-kept : goal.returns-clause-kept
 returns-clause-kept g c =

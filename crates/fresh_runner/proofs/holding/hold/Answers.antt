@@ -37,7 +37,7 @@ give-refused-requires g c =
       caller = account.seen_is.caller_is ∙ sym caller;
       next = takes_next tag level c.args.account.now.share.made share r opened (ap (λ (s : ShareState). s.made) made)
           (view c.args.command) at;
-      few = few_calls tag level c.args.account.now.share.made share r opened;
+      few = few_calls tag level c.args.account.now.share.made share r opened account.recorded;
       room = omega (arith, many, below, room);
     }
 

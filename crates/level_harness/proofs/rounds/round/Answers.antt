@@ -10,12 +10,16 @@ use Rattle.level_harness.proofs.rounds.round.Goals as goal
 pub step-requires-clause-share : goal.step-requires-clause-share
 step-requires-clause-share g c =
     let is = c.loop-walker.invariant c.loop-walker.walker-index _ (slice_get-get_or c.loop-walker.walkers c.loop-walker.walker-index
-    c.walker-item.result (let long = c.loop-walker.auto.walkers in let within = c.loop-walker-test.true in omega (arith, long, within))) in own_share _ _ _ is.share_is
+    c.walker-item.result
+    (let long = c.loop-walker.auto.walkers in let within = c.loop-walker-test.true in omega (arith, long, within))) in
+    own_share _ _ _ is.share_is
 
 pub step-requires-clause-stands : goal.step-requires-clause-stands
 step-requires-clause-stands g c =
     let is = c.loop-walker.invariant c.loop-walker.walker-index _ (slice_get-get_or c.loop-walker.walkers c.loop-walker.walker-index
-    c.walker-item.result (let long = c.loop-walker.auto.walkers in let within = c.loop-walker-test.true in omega (arith, long, within))) in is.stands_is
+    c.walker-item.result
+    (let long = c.loop-walker.auto.walkers in let within = c.loop-walker-test.true in omega (arith, long, within))) in
+    is.stands_is
 
 pub loop-walker-preserved : goal.loop-walker-preserved
 loop-walker-preserved g c =

@@ -26,7 +26,8 @@ loop-walker-preserved g c =
     c.loop-walker.walkers.items c.pop.new.self.items c.in-Some.walker c.in-Some.ensures.items inv.each in
     let stands = subst (λ s. Stands g.C.Pass.Resting.rest g.C.Queue.Climbing.climb g.C.Queue.Climbing.climbs g.C.Held.Standing.stand
     g.C.Held.Standing.stands g.C.Leave.Descending.descent g.C.Leave.Descending.descends (g.C.Composed.has c.args._lock.now)
-    (g.C.Composed.level c.args._lock.now) (g.C.Composed.tag c.args._lock.now) s c.in-Some.walker.share) c.in-Idle.is is.stands_is in record {
+    (g.C.Composed.level c.args._lock.now) (g.C.Composed.tag c.args._lock.now) s c.in-Some.walker.share) c.in-Idle.is is.stands_is in
+    record {
       each = in_front (λ n w. IsWalker g.C.Pass.Resting.rest g.C.Queue.Climbing.climb g.C.Queue.Climbing.climbs
           g.C.Held.Standing.stand g.C.Held.Standing.stands g.C.Leave.Descending.descent g.C.Leave.Descending.descends
           (g.C.Composed.has c.args._lock.now) (g.C.Composed.level c.args._lock.now) (g.C.Composed.tag c.args._lock.now) n w)

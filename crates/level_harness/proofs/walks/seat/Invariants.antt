@@ -13,8 +13,9 @@ invariant-loop-pass g l = record {
       → IsNumber (g.C.Composed.has l._lock) (g.C.Composed.level l._lock) (g.C.Composed.tag l._lock) k (g.C.Pass.Resting.rest p).context;
   shares : (k : ℕ) (s : _) → slice_get l.shares.items k ≡ Some s → IsShareIn (course_of (g.C.Composed.tag l._lock)) k s;
   many : length l.shares.items ≡ length l.passes.items;
-  behind : (k : ℕ) (w : _) → slice_get (reverse l.walkers.items) k ≡ Some w → IsWalker g.C.Pass.Resting.rest g.C.Queue.Climbing.climb g.C.Queue.Climbing.climbs
-      g.C.Held.Standing.stand g.C.Held.Standing.stands g.C.Leave.Descending.descent g.C.Leave.Descending.descends
+  behind : (k : ℕ) (w : _) → slice_get (reverse l.walkers.items) k ≡ Some w → IsWalker g.C.Pass.Resting.rest
+      g.C.Queue.Climbing.climb g.C.Queue.Climbing.climbs g.C.Held.Standing.stand g.C.Held.Standing.stands
+      g.C.Leave.Descending.descent g.C.Leave.Descending.descends
       (g.C.Composed.has l._lock) (g.C.Composed.level l._lock) (g.C.Composed.tag l._lock) (length l.passes.items + k) w;
   counted : length l.passes.items + length l.walkers.items ≡ length l.fn.passes.items;
   room : vec_capacity l.walkers ≡ vec_capacity l.fn.walkers;

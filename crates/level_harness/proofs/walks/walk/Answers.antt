@@ -2,6 +2,7 @@ use Rattle.std.proofs.Common.{length, ap, sym, ◌∙◌, subst}
 use Rattle.std.specs.Prelude.{slice_get}
 use Rattle.clof_compose.specs.Passes.{AreAll}
 use Rattle.level_harness.proofs.Items.{written_all}
+use Rattle.level_harness.proofs.Making.{recorded_named}
 use Rattle.clof_compose.proofs.Shares.{as_many_shares, new_share_in}
 use Rattle.level_harness.proofs.walks.walk.Goals as goal
 
@@ -18,14 +19,14 @@ make_steps-stood-requires-clause-each g c = λ k w e.
 
 pub idle_passes-passes-requires-clause-each : goal.idle_passes-passes-requires-clause-each
 idle_passes-passes-requires-clause-each g c =
-    let same = written_all c.seat-walkers.result.0.items c.make_steps-stood.new.walkers c.seat-walkers.result.0.len (c.make_steps-stood.auto.walkers
-    ∙ ap length c.deref_mut.ensures.value) c.seat-walkers.result.0.ok.0 in
+    let same = written_all c.seat-walkers.result.0.items c.make_steps-stood.new.walkers c.seat-walkers.result.0.len
+    (c.make_steps-stood.auto.walkers ∙ ap length c.deref_mut.ensures.value) c.seat-walkers.result.0.ok.0 in
     λ k w e. c.make_steps-stood.ensures.each k w (ap (λ l. slice_get l k) (sym same) ∙ e)
 
 pub idle_passes-passes-requires-clause-done : goal.idle_passes-passes-requires-clause-done
 idle_passes-passes-requires-clause-done g c =
-    let same = written_all c.seat-walkers.result.0.items c.make_steps-stood.new.walkers c.seat-walkers.result.0.len (c.make_steps-stood.auto.walkers
-    ∙ ap length c.deref_mut.ensures.value) c.seat-walkers.result.0.ok.0 in
+    let same = written_all c.seat-walkers.result.0.items c.make_steps-stood.new.walkers c.seat-walkers.result.0.len
+    (c.make_steps-stood.auto.walkers ∙ ap length c.deref_mut.ensures.value) c.seat-walkers.result.0.ok.0 in
     λ k w e. c.make_steps-stood.ensures.done k w (ap (λ l. slice_get l k) (sym same) ∙ e)
 
 pub close-root-requires-clause-all : goal.close-root-requires-clause-all
@@ -38,4 +39,4 @@ close-root-requires-clause-all g c =
     (g.C.Composed.tag c.args.lock) n c.idle_passes-passes.result.items) all c.idle_passes-passes.ensures
 
 pub turns-requires : goal.turns-requires
-turns-requires g c = ?
+turns-requires g c = recorded_named c.close-root.result _ c.close-root.ensures.tagged c.requires.room.recorded

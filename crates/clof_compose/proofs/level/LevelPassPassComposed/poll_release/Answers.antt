@@ -12,8 +12,8 @@ use Rattle.clof_compose.proofs.level.LevelPassPassComposed.poll_release.Goals as
 pub lock_of-lock-requires : goal.lock_of-lock-requires
 lock_of-lock-requires g c =
     let within = node_within c.requires.sound c.requires.own in
-    subst (λ l. c.args.leave.id.node < length l) (sym c.deref.ensures.value) (subst (λ n. n < length c.args.self.now.nodes.items) (leave_node
-    g.B.Leave.Departing.waiting g.H.Leave.Descending.descent _ _ _ c.args.leave.stage) within)
+    subst (λ l. c.args.leave.id.node < length l) (sym c.deref.ensures.value) (subst (λ n. n < length c.args.self.now.nodes.items)
+    (leave_node g.B.Leave.Departing.waiting g.H.Leave.Descending.descent _ _ _ c.args.leave.stage) within)
 
 pub poll_release-requires-in-High-clause-own : goal.poll_release-requires-in-High-clause-own
 poll_release-requires-in-High-clause-own g c =

@@ -57,5 +57,5 @@ release-low-requires-clause-tagged g c =
 
 pub returns-clause-tests : goal.returns-clause-tests
 returns-clause-tests g c =
-    closes_at _ _ c.let_go_and_wait-report.result _ _ (ap (λ v. (kept_stand g.H.Held.Standing.stand v.high).root) c.waiter-low.ensures.value)
-    (level_same c.requires.sound c.requires.own) c.let_go_and_wait-report.ensures.tests
+    closes_at _ _ c.let_go_and_wait-report.result _ _ (ap (λ v. (kept_stand g.H.Held.Standing.stand v.high).root)
+    c.waiter-low.ensures.value) (level_same c.requires.sound c.requires.own) c.let_go_and_wait-report.ensures.tests

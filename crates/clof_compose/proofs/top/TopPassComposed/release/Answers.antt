@@ -3,7 +3,8 @@ use Rattle.clof_compose.proofs.Tops.{top_may_leave, top_fits}
 use Rattle.clof_compose.proofs.top.TopPassComposed.release.Goals as goal
 
 pub close_turn-report-requires-clause-may : goal.close_turn-report-requires-clause-may
-close_turn-report-requires-clause-may g c = top_may_leave g.P.Payload.calls g.P.Payload.tag _ _ _ _ c.requires.root c.requires.sound.level_is
+close_turn-report-requires-clause-may g c =
+    top_may_leave g.P.Payload.calls g.P.Payload.tag _ _ _ _ c.requires.root c.requires.sound.level_is
 
 pub release-low-requires-clause-fit : goal.release-low-requires-clause-fit
 release-low-requires-clause-fit g c =
