@@ -1,7 +1,7 @@
 //! Four threads, two in each package of a machine, work on one value under a composed lock of two levels, and its counts are printed.
 #![tactic(auto)]
 
-ghost use Rattle.std.specs.Prelude.{◌<◌, IfSome};
+ghost use Rattle.std.specs.Prelude.{◌≡◌, ◌<◌, true, IfSome};
 ghost use Rattle.own_payload.specs.Jobs.{EachMadeAll};
 
 use anyhow::Context;
@@ -33,6 +33,7 @@ impl Visits {
 
 /// What a lock leaves that four threads have held a thousand times each, or `None` for want of memory.
 fn count<R: Threads + Wait + Sync>(rt: &R, alloc: Global) -> Option<Root<Noted<Visits>>>
+    ensures recorded { IfSome result (λ r. r.trail.recorded ≡ true) }
     ensures made { IfSome result (λ r. EachMadeAll r.trail) }
 {
     // the machine, and a plan: a Ticket lock in each package below an MCS lock, and up to 9 turns in a row in one package

@@ -16,5 +16,5 @@ pub use calls::Calls;
 pub use holding::{hold, hold_all};
 pub use jobs::{Job, Lists, deal, gather};
 pub use noted::Noted;
-pub use roots::new_root;
+pub use roots::{new_root, new_unrecorded_root};
 pub use runs::run;

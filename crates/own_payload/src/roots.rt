@@ -1,8 +1,8 @@
 //! What a lock is made around.
-ghost use Rattle.std.specs.Prelude.{◌≡◌, ◌^◌, ◌<◌, length, sum, IfOk, IfSome};
+ghost use Rattle.std.specs.Prelude.{◌≡◌, ◌^◌, ◌<◌, true, false, length, sum, IfOk, IfSome};
 ghost use Rattle.lock_rules.specs.Tag.{leaf};
 ghost use Rattle.keep_local.specs.Shapes.{IsWellFormed, callers_of};
-ghost use Rattle.keep_local.specs.States.{new_shares};
+ghost use Rattle.keep_local.specs.States.{free_quotas, new_shares};
 ghost use Rattle.clof_compose.specs.Courses.{course_of};
 ghost use Rattle.clof_compose.specs.Roots.{IsFit, root_tag};
 
@@ -26,6 +26,7 @@ pub fn new_root<T: Drop>(
     requires fits { sum quotas.now < 2 ^ 32 }
     ensures fit { IfSome result (λ m. IsFit (λ n. n.calls.callers) m.0) }
     ensures value { IfSome result (λ m. m.0.payload.value ≡ value) }
+    ensures recorded { IfSome result (λ m. m.0.trail.recorded ≡ true) }
     ensures shape { IfSome result (λ m. m.0.trail.shape ≡ shape.now) }
     ensures quotas { IfSome result (λ m. m.0.trail.quotas ≡ quotas.now) }
     ensures shares { IfSome result (λ m. m.1.items ≡ new_shares (course_of (root_tag (λ _. leaf 0) m.0)).name quotas.now) }
@@ -34,6 +35,32 @@ pub fn new_root<T: Drop>(
         return None;
     };
     let Ok((trail, shares)) = Trail::reserve(alloc, own, quotas) else {
+        return None;
+    };
+    Some((Root::new(trail, Noted::new(value)), shares))
+}
+
+/// The same with a trail that keeps no turns in memory, for callers who hold again and again: each may hold as often as its equal part of
+/// 2^64 - 1 turns says. The answer is `None` for want of memory.
+pub fn new_unrecorded_root<T: Drop>(
+    alloc: Global,
+    shape: &Shape,
+    value: T,
+) -> Option<(Root<Noted<T>>, Vec<Share>)>
+    requires shaped { IsWellFormed shape.now }
+    requires few { callers_of shape.now < 2 ^ 32 }
+    ensures fit { IfSome result (λ m. IsFit (λ n. n.calls.callers) m.0) }
+    ensures value { IfSome result (λ m. m.0.payload.value ≡ value) }
+    ensures recorded { IfSome result (λ m. m.0.trail.recorded ≡ false) }
+    ensures shape { IfSome result (λ m. m.0.trail.shape ≡ shape.now) }
+    ensures quotas { IfSome result (λ m. m.0.trail.quotas ≡ free_quotas (callers_of shape.now)) }
+    ensures shares { IfSome result (λ m. m.1.items ≡ new_shares (course_of (root_tag (λ _. leaf 0) m.0)).name
+        (free_quotas (callers_of shape.now))) }
+{
+    let Ok(own) = copied(alloc, shape) else {
+        return None;
+    };
+    let Ok((trail, shares)) = Trail::unrecorded(alloc, own) else {
         return None;
     };
     Some((Root::new(trail, Noted::new(value)), shares))

@@ -1,5 +1,5 @@
 -- A lock that has all of its levels, and what a run leaves.
-use Rattle.std.proofs.Common.{◌≡◌, ℕ, ◌+◌, ◌<◌, ◌^◌, List, length, ap, refl, sym, ◌∙◌, subst, Option, Some, None}
+use Rattle.std.proofs.Common.{◌≡◌, ℕ, ◌+◌, ◌<◌, ◌^◌, Bool, List, length, ap, refl, sym, ◌∙◌, subst, Option, Some, None}
 use Rattle.std.specs.Prelude.{IfSome}
 use Rattle.lock_rules.specs.Tag.{Tag, leaf}
 use Rattle.keep_local.specs.declared.shape.Shape.{Shape}
@@ -39,7 +39,10 @@ module _ {P : Type 0} {rest : P → Rest} {has : Context → Type 0} {sound : Ty
         }
 
 module _ {T : Type 0} (root : Root (Noted T)) (t : Tag) (same : root_tag (λ _. leaf 0) root ≡ t) where
-  -- the shape and the quotas of a root are those that its tag names
+  -- whether a root's trail is recorded, its shape and its quotas are what its tag names
+  pub recorded_named : root.trail.recorded ≡ (course_of t).recorded
+  recorded_named = sym (ap (λ (c : Course). c.recorded) (course_is (λ n. n.calls.callers) (λ _. leaf 0) t root same))
+
   pub shape_named : root.trail.shape ≡ (course_of t).shape
   shape_named = sym (ap (λ (c : Course). c.shape) (course_is (λ n. n.calls.callers) (λ _. leaf 0) t root same))
 
@@ -53,7 +56,11 @@ if_some P Q (Some a) weaker is = weaker a is
 
 module _ {T : Type 0} (root : Root (Noted T)) (left : Option (Root (Noted T)))
     (tagged : IfSome left (λ r. root_tag (λ _. leaf 0) r ≡ root_tag (λ _. leaf 0) root)) where
-  -- what a run leaves has the shape and the quotas of the root that its lock was made around
+  -- what a run leaves is recorded where the root that its lock was made around was, and has its shape and its quotas
+  pub of_recorded : (whether : Bool) → root.trail.recorded ≡ whether → IfSome left (λ r. r.trail.recorded ≡ whether)
+  of_recorded whether is = if_some (λ r. root_tag (λ _. leaf 0) r ≡ root_tag (λ _. leaf 0) root) (λ r. r.trail.recorded ≡ whether) left
+      (λ r same. recorded_named r _ same ∙ sym (recorded_named root _ refl) ∙ is) tagged
+
   pub of_shape : (shape : Shape) → root.trail.shape ≡ shape → IfSome left (λ r. r.trail.shape ≡ shape)
   of_shape shape is = if_some (λ r. root_tag (λ _. leaf 0) r ≡ root_tag (λ _. leaf 0) root) (λ r. r.trail.shape ≡ shape) left
       (λ r same. shape_named r _ same ∙ sym (shape_named root _ refl) ∙ is) tagged

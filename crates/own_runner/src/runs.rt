@@ -1,5 +1,5 @@
 //! A run under a plan.
-ghost use Rattle.std.specs.Prelude.{◌≡◌, ◌+◌, ◌<◌, ◌^◌, length, sum, IfSome};
+ghost use Rattle.std.specs.Prelude.{◌≡◌, ◌+◌, ◌<◌, ◌^◌, true, length, sum, IfSome};
 ghost use Rattle.keep_local.specs.Shapes.{IsWellFormed, callers_of, top_of};
 ghost use Rattle.clof_compose.specs.Roots.{IsFit};
 ghost use Rattle.own_payload.specs.Jobs.{EachMadeAll};
@@ -35,6 +35,7 @@ pub fn run<T: Send + Sync + Drop, F: Fn(&mut T, u32) + Sync, R: Threads + Wait +
     requires fits { sum quotas.now < 2 ^ 32 }
     requires callable { F.IsAlwaysCallable work.now }
     ensures fit { IfSome result (IsFit (λ n. n.calls.callers)) }
+    ensures recorded { IfSome result (λ r. r.trail.recorded ≡ true) }
     ensures shape { IfSome result (λ r. r.trail.shape ≡ shape.now) }
     ensures quotas { IfSome result (λ r. r.trail.quotas ≡ quotas.now) }
     ensures made { IfSome result (λ r. EachMadeAll r.trail) }

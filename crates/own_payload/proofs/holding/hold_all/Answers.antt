@@ -3,12 +3,12 @@ use Rattle.clof_compose.specs.Contexts.{Context}
 use Rattle.clof_compose.proofs.Shares.{may_turn}
 use Rattle.own_payload.proofs.holding.hold_all.Goals as goal
 
-pub hold-pass-requires-clause-own : goal.hold-pass-requires-clause-own
-hold-pass-requires-clause-own g c =
+pub hold-rested-requires-clause-own : goal.hold-rested-requires-clause-own
+hold-rested-requires-clause-own g c =
     subst (g.C.Composed.has c.args.lock.now) (sym c.loop.invariant.pass) c.requires.may.job.pass_is.own
 
-pub hold-pass-requires-clause-share : goal.hold-pass-requires-clause-share
-hold-pass-requires-clause-share g c =
+pub hold-rested-requires-clause-share : goal.hold-rested-requires-clause-share
+hold-rested-requires-clause-share g c =
     may_turn _ _ c.loop.counter c.args.job.share c.loop.share c.requires.may.job.share_is
     (ap (λ (x : Context). x.number) c.loop.invariant.pass ∙ c.requires.may.job.pass_is.number_is) c.loop.invariant.share
-    (let below = c.loop-test.true in let end = c.quota-end.ensures in omega (arith, below, end))
+    (let below = c.loop-test.true in let end = c.turns_allowed-end.ensures in omega (arith, below, end))
