@@ -1,5 +1,5 @@
 -- The turns that a trail keeps in memory and counts, as its calls change them.
-use Rattle.std.proofs.Common.{◌≡◌, ℕ, suc, ◌+◌, ◌-◌, ◌^◌, ◌<◌, ◌≤◌, Bool, true, false, cond, List, [], ◌∷◌, ◌++◌, length, set, slice_index}
+use Rattle.std.proofs.Common.{◌≡◌, ℕ, suc, ◌+◌, ◌-◌, ◌^◌, ◌<◌, Bool, true, false, cond, List, [], ◌∷◌, ◌++◌, length, set, slice_index}
 use Rattle.std.proofs.Common.{refl, ap, sym, ◌∙◌, arith, length-append, Option, Some, None}
 use Rattle.std.specs.Prelude.{slice_get, min}
 use Rattle.std.proofs.lemmas.List.{append-nil, map-append}
@@ -7,7 +7,7 @@ use mathlib.Core.Logic.{dite}
 use native.Mathlib.Decide.{dec_le, ℕ_discrete}
 use Rattle.keep_local.specs.declared.turn.Turn.{Turn}
 use Rattle.keep_local.specs.declared.trail.Log.{Log}
-use Rattle.keep_local.specs.Turns.{run, turns_of, last_turn}
+use Rattle.keep_local.specs.Turns.{run, last_turn}
 use Rattle.keep_local.specs.Views.{times}
 use Rattle.keep_local.specs.States.{ShareState, IsCounted, IsShareOf, all_turns, callers_in, option_list}
 use Rattle.keep_local.specs.Trails.{log_state, IsKept}

@@ -1,22 +1,22 @@
 -- What each call of a trail did, from what its parts say.
-use Rattle.std.proofs.Common.{◌≡◌, ℕ, ◌+◌, ◌-◌, ◌^◌, ◌<◌, ◌≤◌, Bool, true, false, cond, List, [], ◌∷◌, ◌++◌, length, set, slice_index, refl, ap}
-use Rattle.std.proofs.Common.{sym, ◌∙◌, subst, arith, length-append, Option, Some, None, Vec, Global, ⊎_elim}
-use Rattle.std.specs.Prelude.{IfSome, IsSome, is_some, min, option_map, sum, replicate, vec_capacity, ◌⊎◌}
+use Rattle.std.proofs.Common.{◌≡◌, ℕ, ◌+◌, ◌-◌, ◌^◌, ◌<◌, ◌≤◌, Bool, true, false, cond, List, [], ◌∷◌, ◌++◌, length, set, slice_index}
+use Rattle.std.proofs.Common.{refl, ap, sym, ◌∙◌, subst, arith, length-append, Option, Some, None, Vec, Global, ⊎_elim}
+use Rattle.std.specs.Prelude.{IfSome, min, option_map, sum, replicate, vec_capacity, ◌⊎◌}
 use Rattle.std.proofs.lemmas.List.{length-replicate, get_or-replicate, append-nil}
 use Rattle.std.proofs.lemmas.List.Elements.{All-nil}
 use Rattle.keep_local.specs.declared.turn.Turn.{Turn}
 use Rattle.keep_local.specs.declared.trail.Log.{Log}
-use Rattle.keep_local.specs.declared.shape.Shape.{Shape}
 use Rattle.keep_local.specs.Shapes.{IsWellFormed, top_of, callers_of}
 use Rattle.keep_local.specs.Turns.{run, last_turn, Begins}
-use Rattle.keep_local.specs.States.{TrailState, NotesState, ShareState, TieState, IsCounted, IsShareOf, IsTrail, MayLeave, option_list, callers_in}
-use Rattle.keep_local.specs.States.{all_turns, new_notes, new_trail, opened, recorded_turns, tested, left_at}
+use Rattle.keep_local.specs.States.{TrailState, NotesState, ShareState, TieState, IsCounted, IsShareOf, IsTrail, MayLeave, option_list}
+use Rattle.keep_local.specs.States.{callers_in, all_turns, new_notes, new_trail, opened, tested, left_at}
 use Rattle.keep_local.specs.Trails.{log_state, IsKept}
 use Rattle.keep_local.proofs.Counts.{times_same}
 use Rattle.keep_local.proofs.Trails.{trail_opened, trail_noted, trail_left}
 use Rattle.keep_local.proofs.Runs.{run_none, run_above, run-le-length}
 use Rattle.keep_local.proofs.Lawful.{run_within}
-use Rattle.keep_local.proofs.Logs.{share_is, length-callers, callers_push, all_closed, last_push, kept_push, kept_set, runs_raised, AreRaised}
+use Rattle.keep_local.proofs.Logs.{share_is, length-callers, callers_push, all_closed, last_push, kept_push, kept_set, runs_raised}
+use Rattle.keep_local.proofs.Logs.{AreRaised}
 
 -- a log that is kept, with this state
 pub record HasState (l : Log) (s : TrailState) : Type 0 where
@@ -202,8 +202,8 @@ turn_left l s t u level turns runs given has now may u_is given_is items capacit
     }
 
 -- what a level to leave at says of it
-pub left_within : (l : Log) (s : TrailState) (t : Turn) (level : ℕ) → HasState l s → l.current ≡ Some t → IfSome s.current (MayLeave s level)
-    → level < 33
+pub left_within : (l : Log) (s : TrailState) (t : Turn) (level : ℕ) → HasState l s → l.current ≡ Some t
+    → IfSome s.current (MayLeave s level) → level < 33
 left_within l s t level has now may =
     let current : s.current ≡ Some t = ap (λ (x : TrailState). x.current) (sym has.state) ∙ now in
     let may' : MayLeave s level t = subst (λ (o : Option Turn). IfSome o (MayLeave s level)) current may in

@@ -27,7 +27,8 @@ module _ {X : Type 0} (f : X → ℕ) where
   part_le xs i x e = let s = get_or-le-sum_by f xs i x (there xs i x e) in let r = ap f (read xs i x e) in omega (arith, s, r)
 
   -- nor are two seats, where one of them can be emptied
-  pub parts_le : (xs : List X) (i j : ℕ) (x y empty : X) → f empty ≡ 0 → j ≢ i → get_elem? xs i ≡ some x → get_elem? xs j ≡ some y → f x + f y ≤ sum_by f xs
+  pub parts_le : (xs : List X) (i j : ℕ) (x y empty : X) → f empty ≡ 0 → j ≢ i → get_elem? xs i ≡ some x → get_elem? xs j ≡ some y
+      → f x + f y ≤ sum_by f xs
   parts_le xs i j x y empty zero_empty other e e' =
       let s = sum_set xs i x empty e in
       let p = part_le (set xs i empty) j y (set_else xs i j empty other ∙ e') in

@@ -1,6 +1,7 @@
 //! The record of all holds of a lock.
 ghost use Rattle.std.specs.Prelude.{◌≡◌, ℕ, ◌+◌, ◌-◌, ◌^◌, ◌<◌, ◌≤◌, ◌↔◌, ◌⊎◌, [], ◌∷◌, ◌++◌, length, sum, slice_index};
-ghost use Rattle.std.specs.Prelude.{slice_set, IfOk, IfSome, IsSome, IsTrue, None, Some, cond, max, min, option_map, replicate, true, vec_capacity, ◌≢◌};
+ghost use Rattle.std.specs.Prelude.{slice_set, IfOk, IfSome, IsSome, IsTrue, None, Some, cond, max, min, option_map, replicate, true};
+ghost use Rattle.std.specs.Prelude.{vec_capacity, ◌≢◌};
 ghost use Rattle.keep_local.specs.ReceiptRule.{AreFirst};
 ghost use Rattle.keep_local.specs.Shapes.{IsWellFormed, top_of, callers_of};
 ghost use Rattle.keep_local.specs.Turns.{run, last_turn, Begins};

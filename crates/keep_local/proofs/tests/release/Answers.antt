@@ -9,7 +9,8 @@ use Rattle.keep_local.proofs.tests.release.Goals.{else-queued-via-then-queued+el
 pub leave-requires-clause-may : goal.leave-requires-clause-may
 leave-requires-clause-may c =
     let below : c.loop-level.level < top_of c.loop-level.trail.shape = search rules in
-    let run_same = c.run.ensures.run (inr (subst (λ s. c.loop-level.level < top_of s.shape) (sym c.note.ensures.noted) below)) ∙ ap (λ s. run c.loop-level.level s.closed) c.note.ensures.noted in
+    let shapes_below = subst (λ s. c.loop-level.level < top_of s.shape) (sym c.note.ensures.noted) below in
+    let run_same = c.run.ensures.run (inr shapes_below) ∙ ap (λ s. run c.loop-level.level s.closed) c.note.ensures.noted in
     let keep_same = ap (λ ks. slice_index ks c.loop-level.level) (c.as_slice-then-queued.ensures
     ∙ ap (λ s. s.keeps) (c.shape-then-queued.ensures.shape ∙ ap (λ s. s.shape) c.note.ensures.noted)) in
     let less : c.run.result < slice_index c.as_slice-then-queued.result.now c.loop-level.level = search rules in
@@ -26,7 +27,8 @@ loop-level-preserved c = record {
       (elim c.else-queued.branch [
         | else-queued-via-then-queued+else-run-as_slice w ↦
             let below : c.loop-level.level < top_of c.loop-level.trail.shape = search rules in
-            let run_same = w.run.ensures.run (inr (subst (λ s. c.loop-level.level < top_of s.shape) (sym c.note.ensures.noted) below)) ∙ ap (λ s. run c.loop-level.level s.closed) c.note.ensures.noted in
+            let shapes_below = subst (λ s. c.loop-level.level < top_of s.shape) (sym c.note.ensures.noted) below in
+            let run_same = w.run.ensures.run (inr shapes_below) ∙ ap (λ s. run c.loop-level.level s.closed) c.note.ensures.noted in
             let keep_same = ap (λ ks. slice_index ks c.loop-level.level) (w.as_slice-then-queued.ensures
             ∙ ap (λ s. s.keeps) (w.shape-then-queued.ensures.shape ∙ ap (λ s. s.shape) c.note.ensures.noted)) in
             let reached = w.if-run-as_slice.false in

@@ -1,4 +1,4 @@
-use Rattle.std.proofs.Common.{◌+◌, ◌<◌, length, refl, arith}
+use Rattle.std.proofs.Common.{refl, arith}
 use Rattle.keep_local.proofs.Steps.{as_held, left_within, turn_left}
 use Rattle.keep_local.proofs.trail.Trail.leave.Goals as goal
 

@@ -1,4 +1,4 @@
-use Rattle.std.proofs.Common.{◌≡◌, ◌^◌, ◌<◌, ◌≤◌, List, ℕ, length, ap, sym, subst, refl, ◌∙◌, vec_capacity}
+use Rattle.std.proofs.Common.{◌^◌, ◌<◌, ◌≤◌, List, ℕ, length, ap, sym, subst, refl, ◌∙◌, vec_capacity}
 use Rattle.std.specs.Prelude.{slice_index, sum}
 use Rattle.keep_local.specs.Trails.{IsKept}
 use Rattle.keep_local.proofs.Steps.{log_new}

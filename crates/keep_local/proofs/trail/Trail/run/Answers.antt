@@ -1,4 +1,4 @@
-use Rattle.std.proofs.Common.{◌≡◌, ◌-◌, ◌^◌, ap, sym, ◌∙◌}
+use Rattle.std.proofs.Common.{◌-◌, ◌^◌, ap, ◌∙◌}
 use Rattle.std.specs.Prelude.{min, slice_index}
 use Rattle.keep_local.specs.Turns.{run}
 use Rattle.keep_local.proofs.Steps.{lawful_of, no_run, run_counted}
