@@ -10,6 +10,7 @@ ghost use Rattle.lock_rules.specs.Passes.{IsOf, AreAll};
 ghost use Rattle.lock_rules.specs.Tokens.{view_of, badge_place, badge_waiting};
 ghost use Rattle.lock_tables.specs.Happened.{counting};
 ghost use Rattle.lock_tables.specs.Seats.{IsOwn};
+ghost use Rattle.clh_lock.specs.Choice.{clh_waiters};
 ghost use Rattle.clh_lock.specs.Calls.{HasEntered, HasMissed, HasTaken, HasAsked, HasLeft};
 
 use crate::laws::ClhWords;
@@ -22,6 +23,15 @@ use std::alloc::Global;
 #[derive(Drop)]
 pub struct Clh<V: Cargo> {
     words: Words<V>,
+}
+
+impl<V: Cargo> Clh<V> {
+    /// How it learns of waiters.
+    pub fn waiters(&self) -> Waiters
+        ensures { result ≡ clh_waiters self.now }
+    {
+        self.words.waiters
+    }
 }
 
 impl<V: Cargo> Basic<V> for Clh<V> {
@@ -42,7 +52,7 @@ impl<V: Cargo> Basic<V> for Clh<V> {
 
     ghost count = { λ l. (padded_value l.words.table).shared.key.passes };
 
-    ghost made = { λ l c. (padded_value l.words.table).shared.key.waiters ≡ c };
+    ghost made = { λ l c. clh_waiters l ≡ c };
 
     fn make(
         alloc: Global,

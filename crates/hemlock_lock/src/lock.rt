@@ -10,6 +10,7 @@ ghost use Rattle.lock_rules.specs.Passes.{IsOf, AreAll};
 ghost use Rattle.lock_rules.specs.Tokens.{view_of, badge_place, badge_waiting};
 ghost use Rattle.lock_tables.specs.Happened.{counting};
 ghost use Rattle.lock_tables.specs.Seats.{IsOwn};
+ghost use Rattle.hemlock_lock.specs.Choice.{hemlock_waiters};
 ghost use Rattle.hemlock_lock.specs.Calls.{HasQueued, HasTakenAtOnce, HasMissed, HasTaken, HasAsked, HasReleased, HasBegunToLeave};
 ghost use Rattle.hemlock_lock.specs.Calls.{HasDone, HasWaited};
 
@@ -24,6 +25,15 @@ use std::alloc::Global;
 #[derive(Drop)]
 pub struct Hemlock<V: Cargo> {
     words: Words<V>,
+}
+
+impl<V: Cargo> Hemlock<V> {
+    /// How it learns of waiters.
+    pub fn waiters(&self) -> Waiters
+        ensures { result ≡ hemlock_waiters self.now }
+    {
+        self.words.waiters
+    }
 }
 
 impl<V: Cargo> Basic<V> for Hemlock<V> {
@@ -44,7 +54,7 @@ impl<V: Cargo> Basic<V> for Hemlock<V> {
 
     ghost count = { λ l. (padded_value l.words.table).shared.key.passes };
 
-    ghost made = { λ l waiters. (padded_value l.words.table).shared.key.waiters ≡ waiters };
+    ghost made = { λ l waiters. hemlock_waiters l ≡ waiters };
 
     fn make(
         alloc: Global,

@@ -9,6 +9,7 @@ use anyhow::{Context, bail};
 use clh_lock::Clh;
 use hemlock_lock::Hemlock;
 use lock_harness::{BoundedCount, count_by};
+use lock_rules::Waiters;
 use mcs_lock::Mcs;
 use std::env;
 use std::sync::atomic::{AtomicU64, Ordering};

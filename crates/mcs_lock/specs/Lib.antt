@@ -4,3 +4,4 @@ pub mod Kinds
 pub mod Own
 pub mod Leaves
 pub mod Calls
+pub mod Choice

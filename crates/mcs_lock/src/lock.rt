@@ -8,6 +8,7 @@ ghost use Rattle.lock_rules.specs.Holders.{held_view, holder_of};
 ghost use Rattle.lock_rules.specs.Steps.{IfNot, IfGot};
 ghost use Rattle.lock_rules.specs.Tokens.{view_of, badge_place, badge_waiting};
 ghost use Rattle.lock_tables.specs.Happened.{counting};
+ghost use Rattle.mcs_lock.specs.Choice.{mcs_waiters};
 ghost use Rattle.mcs_lock.specs.Calls.{HasEntered, HasEnteredAndTaken, HasMissed, HasTaken, HasAsked};
 ghost use Rattle.mcs_lock.specs.Calls.{at_home, HasLeft, HasPassed, IsFollowed, HasWaited};
 ghost use Rattle.mcs_lock.specs.Own.{IsMine, AreMine};
@@ -24,6 +25,15 @@ use std::alloc::Global;
 #[derive(Drop)]
 pub struct Mcs<V: Cargo> {
     words: Words<V>,
+}
+
+impl<V: Cargo> Mcs<V> {
+    /// How it learns of waiters.
+    pub fn waiters(&self) -> Waiters
+        ensures { result ≡ mcs_waiters self.now }
+    {
+        self.words.waiters
+    }
 }
 
 impl<V: Cargo> Basic<V> for Mcs<V> {
@@ -44,7 +54,7 @@ impl<V: Cargo> Basic<V> for Mcs<V> {
 
     ghost count = { λ l. (padded_value l.words.table).shared.key.passes };
 
-    ghost made = { λ l waiters. (padded_value l.words.table).shared.key.waiters ≡ waiters };
+    ghost made = { λ l waiters. mcs_waiters l ≡ waiters };
 
     fn make(
         alloc: Global,

@@ -2,7 +2,7 @@
 use clh_lock::Clh;
 use lock_harness::Told::{Got, No, Not, Yes};
 use lock_harness::{Call, HOLDS, Parcel, START, carry_out, first, hold_by, second};
-use lock_rules::Basic;
+use lock_rules::{Basic, Waiters};
 
 #[test]
 fn two_passes_take_turns_and_one_comes_again(rt: HostRuntime) {
@@ -21,7 +21,7 @@ fn two_passes_take_turns_and_one_comes_again(rt: HostRuntime) {
         first(Call::Waiter),
         first(Call::BeginRelease),
     ];
-    let Some(outcome) = carry_out::<Clh<Parcel>>(rt.alloc(), (), &moves) else {
+    let Some(outcome) = carry_out::<Clh<Parcel>>(rt.alloc(), Waiters::Queue, &moves) else {
         panic!(rt; "the script was not carried out")
     };
     let told = [
@@ -45,7 +45,7 @@ fn a_parked_value_is_handed_over(rt: HostRuntime) {
         second(Call::Waiter),
         second(Call::BeginRelease),
     ];
-    let Some(outcome) = carry_out::<Clh<Parcel>>(rt.alloc(), (), &moves) else {
+    let Some(outcome) = carry_out::<Clh<Parcel>>(rt.alloc(), Waiters::Queue, &moves) else {
         panic!(rt; "the script was not carried out")
     };
     let told = [Not, Got, Not, Yes, Got, Got, Got, Yes, No, Got];
@@ -56,7 +56,7 @@ fn a_parked_value_is_handed_over(rt: HostRuntime) {
 #[test]
 fn four_threads_hold_in_turn(rt: HostRuntime) {
     for parks in [false, true] {
-        let Some(parcel) = hold_by::<Clh<Parcel>, _>(&rt, rt.alloc(), (), 4, HOLDS, parks) else {
+        let Some(parcel) = hold_by::<Clh<Parcel>, _>(&rt, rt.alloc(), Waiters::Queue, 4, HOLDS, parks) else {
             panic!(rt; "there was no memory")
         };
         assert!(rt; parcel.count == 4 * u64::from(HOLDS));
@@ -67,7 +67,7 @@ fn four_threads_hold_in_turn(rt: HostRuntime) {
 #[test]
 fn passes_are_made_or_the_value_comes_back(rt: HostRuntime) {
     for passes in [1, 4096] {
-        match Clh::make(rt.alloc(), (), passes, Parcel::new(START)) {
+        match Clh::make(rt.alloc(), Waiters::Queue, passes, Parcel::new(START)) {
             Ok((lock, list)) => {
                 assert!(rt; list.len() == passes as usize);
                 assert!(rt; lock.close(list).count == START);

@@ -2,7 +2,7 @@
 use hemlock_lock::Hemlock;
 use lock_harness::Told::{Got, No, Not, Yes};
 use lock_harness::{Call, HOLDS, Parcel, START, carry_out, first, hold_by, second};
-use lock_rules::Basic;
+use lock_rules::{Basic, Waiters};
 
 #[test]
 fn two_passes_take_turns(rt: HostRuntime) {
@@ -18,7 +18,7 @@ fn two_passes_take_turns(rt: HostRuntime) {
         second(Call::Waiter),
         second(Call::BeginRelease),
     ];
-    let Some(outcome) = carry_out::<Hemlock<Parcel>>(rt.alloc(), (), &moves) else {
+    let Some(outcome) = carry_out::<Hemlock<Parcel>>(rt.alloc(), Waiters::Queue, &moves) else {
         panic!(rt; "the script was not carried out")
     };
     let told = [Got, Not, Not, Yes, Not, Not, Got, Got, No, Got];
@@ -38,7 +38,7 @@ fn a_parked_value_is_handed_over(rt: HostRuntime) {
         second(Call::BeginRelease),
         first(Call::PollRelease),
     ];
-    let Some(outcome) = carry_out::<Hemlock<Parcel>>(rt.alloc(), (), &moves) else {
+    let Some(outcome) = carry_out::<Hemlock<Parcel>>(rt.alloc(), Waiters::Queue, &moves) else {
         panic!(rt; "the script was not carried out")
     };
     let told = [Got, Not, Yes, Not, Got, No, Got, Got];
@@ -49,7 +49,7 @@ fn a_parked_value_is_handed_over(rt: HostRuntime) {
 #[test]
 fn four_threads_hold_in_turn(rt: HostRuntime) {
     for parks in [false, true] {
-        let Some(parcel) = hold_by::<Hemlock<Parcel>, _>(&rt, rt.alloc(), (), 4, HOLDS, parks)
+        let Some(parcel) = hold_by::<Hemlock<Parcel>, _>(&rt, rt.alloc(), Waiters::Queue, 4, HOLDS, parks)
         else {
             panic!(rt; "there was no memory")
         };
@@ -61,7 +61,7 @@ fn four_threads_hold_in_turn(rt: HostRuntime) {
 #[test]
 fn passes_are_made_or_the_value_comes_back(rt: HostRuntime) {
     for passes in [1, 4096] {
-        match Hemlock::make(rt.alloc(), (), passes, Parcel::new(START)) {
+        match Hemlock::make(rt.alloc(), Waiters::Queue, passes, Parcel::new(START)) {
             Ok((lock, list)) => {
                 assert!(rt; list.len() == passes as usize);
                 assert!(rt; lock.close(list).count == START);

@@ -1,7 +1,7 @@
 //! Tests of `mcs_lock`.
 use lock_harness::Told::{Got, No, Not, Yes};
 use lock_harness::{Call, HOLDS, Parcel, START, carry_out, first, hold_by, second};
-use lock_rules::Basic;
+use lock_rules::{Basic, Waiters};
 use mcs_lock::Mcs;
 
 #[test]
@@ -16,7 +16,7 @@ fn two_passes_take_turns(rt: HostRuntime) {
         second(Call::Waiter),
         second(Call::BeginRelease),
     ];
-    let Some(outcome) = carry_out::<Mcs<Parcel>>(rt.alloc(), (), &moves) else {
+    let Some(outcome) = carry_out::<Mcs<Parcel>>(rt.alloc(), Waiters::Queue, &moves) else {
         panic!(rt; "the script was not carried out")
     };
     let told = [Got, Not, Not, Yes, Got, Got, No, Got];
@@ -37,7 +37,7 @@ fn a_parked_value_is_handed_over(rt: HostRuntime) {
         second(Call::Waiter),
         second(Call::BeginRelease),
     ];
-    let Some(outcome) = carry_out::<Mcs<Parcel>>(rt.alloc(), (), &moves) else {
+    let Some(outcome) = carry_out::<Mcs<Parcel>>(rt.alloc(), Waiters::Queue, &moves) else {
         panic!(rt; "the script was not carried out")
     };
     let told = [Got, Not, Yes, Got, Got, Got, Yes, No, Got];
@@ -57,7 +57,7 @@ fn a_pass_holds_again(rt: HostRuntime) {
         second(Call::Poll),
         second(Call::BeginRelease),
     ];
-    let Some(outcome) = carry_out::<Mcs<Parcel>>(rt.alloc(), (), &moves) else {
+    let Some(outcome) = carry_out::<Mcs<Parcel>>(rt.alloc(), Waiters::Queue, &moves) else {
         panic!(rt; "the script was not carried out")
     };
     let told = [Got, Not, Got, Not, Got, Got, Got, Got];
@@ -67,7 +67,7 @@ fn a_pass_holds_again(rt: HostRuntime) {
 #[test]
 fn four_threads_hold_in_turn(rt: HostRuntime) {
     for parks in [false, true] {
-        let Some(parcel) = hold_by::<Mcs<Parcel>, _>(&rt, rt.alloc(), (), 4, HOLDS, parks) else {
+        let Some(parcel) = hold_by::<Mcs<Parcel>, _>(&rt, rt.alloc(), Waiters::Queue, 4, HOLDS, parks) else {
             panic!(rt; "there was no memory")
         };
         assert!(rt; parcel.count == 4 * u64::from(HOLDS));
@@ -78,7 +78,7 @@ fn four_threads_hold_in_turn(rt: HostRuntime) {
 #[test]
 fn passes_are_made_or_the_value_comes_back(rt: HostRuntime) {
     for passes in [1, 4096] {
-        match Mcs::make(rt.alloc(), (), passes, Parcel::new(START)) {
+        match Mcs::make(rt.alloc(), Waiters::Queue, passes, Parcel::new(START)) {
             Ok((lock, list)) => {
                 assert!(rt; list.len() == passes as usize);
                 assert!(rt; lock.close(list).count == START);
