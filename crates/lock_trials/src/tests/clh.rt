@@ -21,14 +21,16 @@ fn two_passes_take_turns_and_one_comes_again(rt: HostRuntime) {
         first(Call::Waiter),
         first(Call::BeginRelease),
     ];
-    let Some(outcome) = carry_out::<Clh<Parcel>>(rt.alloc(), Waiters::Queue, &moves) else {
-        panic!(rt; "the script was not carried out")
-    };
     let told = [
         Not, Got, Not, Not, Yes, Got, Got, No, Got, Not, Got, No, Got,
     ];
-    assert!(rt; outcome.told.as_slice() == told.as_slice());
-    assert!(rt; outcome.count == START);
+    for waiters in [Waiters::Queue, Waiters::Count] {
+        let Some(outcome) = carry_out::<Clh<Parcel>>(rt.alloc(), waiters, &moves) else {
+            panic!(rt; "the script was not carried out")
+        };
+        assert!(rt; outcome.told.as_slice() == told.as_slice());
+        assert!(rt; outcome.count == START);
+    }
 }
 
 #[test]
@@ -45,18 +47,26 @@ fn a_parked_value_is_handed_over(rt: HostRuntime) {
         second(Call::Waiter),
         second(Call::BeginRelease),
     ];
-    let Some(outcome) = carry_out::<Clh<Parcel>>(rt.alloc(), Waiters::Queue, &moves) else {
-        panic!(rt; "the script was not carried out")
-    };
     let told = [Not, Got, Not, Yes, Got, Got, Got, Yes, No, Got];
-    assert!(rt; outcome.told.as_slice() == told.as_slice());
-    assert!(rt; outcome.count == START);
+    for waiters in [Waiters::Queue, Waiters::Count] {
+        let Some(outcome) = carry_out::<Clh<Parcel>>(rt.alloc(), waiters, &moves) else {
+            panic!(rt; "the script was not carried out")
+        };
+        assert!(rt; outcome.told.as_slice() == told.as_slice());
+        assert!(rt; outcome.count == START);
+    }
 }
 
 #[test]
 fn four_threads_hold_in_turn(rt: HostRuntime) {
-    for parks in [false, true] {
-        let Some(parcel) = hold_by::<Clh<Parcel>, _>(&rt, rt.alloc(), Waiters::Queue, 4, HOLDS, parks) else {
+    for (waiters, parks) in [
+        (Waiters::Queue, false),
+        (Waiters::Queue, true),
+        (Waiters::Count, false),
+        (Waiters::Count, true),
+    ] {
+        let Some(parcel) = hold_by::<Clh<Parcel>, _>(&rt, rt.alloc(), waiters, 4, HOLDS, parks)
+        else {
             panic!(rt; "there was no memory")
         };
         assert!(rt; parcel.count == 4 * u64::from(HOLDS));

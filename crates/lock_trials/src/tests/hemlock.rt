@@ -18,12 +18,14 @@ fn two_passes_take_turns(rt: HostRuntime) {
         second(Call::Waiter),
         second(Call::BeginRelease),
     ];
-    let Some(outcome) = carry_out::<Hemlock<Parcel>>(rt.alloc(), Waiters::Queue, &moves) else {
-        panic!(rt; "the script was not carried out")
-    };
     let told = [Got, Not, Not, Yes, Not, Not, Got, Got, No, Got];
-    assert!(rt; outcome.told.as_slice() == told.as_slice());
-    assert!(rt; outcome.count == START);
+    for waiters in [Waiters::Queue, Waiters::Count] {
+        let Some(outcome) = carry_out::<Hemlock<Parcel>>(rt.alloc(), waiters, &moves) else {
+            panic!(rt; "the script was not carried out")
+        };
+        assert!(rt; outcome.told.as_slice() == told.as_slice());
+        assert!(rt; outcome.count == START);
+    }
 }
 
 #[test]
@@ -38,18 +40,25 @@ fn a_parked_value_is_handed_over(rt: HostRuntime) {
         second(Call::BeginRelease),
         first(Call::PollRelease),
     ];
-    let Some(outcome) = carry_out::<Hemlock<Parcel>>(rt.alloc(), Waiters::Queue, &moves) else {
-        panic!(rt; "the script was not carried out")
-    };
     let told = [Got, Not, Yes, Not, Got, No, Got, Got];
-    assert!(rt; outcome.told.as_slice() == told.as_slice());
-    assert!(rt; outcome.count == START + 2);
+    for waiters in [Waiters::Queue, Waiters::Count] {
+        let Some(outcome) = carry_out::<Hemlock<Parcel>>(rt.alloc(), waiters, &moves) else {
+            panic!(rt; "the script was not carried out")
+        };
+        assert!(rt; outcome.told.as_slice() == told.as_slice());
+        assert!(rt; outcome.count == START + 2);
+    }
 }
 
 #[test]
 fn four_threads_hold_in_turn(rt: HostRuntime) {
-    for parks in [false, true] {
-        let Some(parcel) = hold_by::<Hemlock<Parcel>, _>(&rt, rt.alloc(), Waiters::Queue, 4, HOLDS, parks)
+    for (waiters, parks) in [
+        (Waiters::Queue, false),
+        (Waiters::Queue, true),
+        (Waiters::Count, false),
+        (Waiters::Count, true),
+    ] {
+        let Some(parcel) = hold_by::<Hemlock<Parcel>, _>(&rt, rt.alloc(), waiters, 4, HOLDS, parks)
         else {
             panic!(rt; "there was no memory")
         };

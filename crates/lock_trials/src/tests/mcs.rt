@@ -16,12 +16,14 @@ fn two_passes_take_turns(rt: HostRuntime) {
         second(Call::Waiter),
         second(Call::BeginRelease),
     ];
-    let Some(outcome) = carry_out::<Mcs<Parcel>>(rt.alloc(), Waiters::Queue, &moves) else {
-        panic!(rt; "the script was not carried out")
-    };
     let told = [Got, Not, Not, Yes, Got, Got, No, Got];
-    assert!(rt; outcome.told.as_slice() == told.as_slice());
-    assert!(rt; outcome.count == START);
+    for waiters in [Waiters::Queue, Waiters::Count] {
+        let Some(outcome) = carry_out::<Mcs<Parcel>>(rt.alloc(), waiters, &moves) else {
+            panic!(rt; "the script was not carried out")
+        };
+        assert!(rt; outcome.told.as_slice() == told.as_slice());
+        assert!(rt; outcome.count == START);
+    }
 }
 
 #[test]
@@ -37,12 +39,14 @@ fn a_parked_value_is_handed_over(rt: HostRuntime) {
         second(Call::Waiter),
         second(Call::BeginRelease),
     ];
-    let Some(outcome) = carry_out::<Mcs<Parcel>>(rt.alloc(), Waiters::Queue, &moves) else {
-        panic!(rt; "the script was not carried out")
-    };
     let told = [Got, Not, Yes, Got, Got, Got, Yes, No, Got];
-    assert!(rt; outcome.told.as_slice() == told.as_slice());
-    assert!(rt; outcome.count == START);
+    for waiters in [Waiters::Queue, Waiters::Count] {
+        let Some(outcome) = carry_out::<Mcs<Parcel>>(rt.alloc(), waiters, &moves) else {
+            panic!(rt; "the script was not carried out")
+        };
+        assert!(rt; outcome.told.as_slice() == told.as_slice());
+        assert!(rt; outcome.count == START);
+    }
 }
 
 #[test]
@@ -57,17 +61,25 @@ fn a_pass_holds_again(rt: HostRuntime) {
         second(Call::Poll),
         second(Call::BeginRelease),
     ];
-    let Some(outcome) = carry_out::<Mcs<Parcel>>(rt.alloc(), Waiters::Queue, &moves) else {
-        panic!(rt; "the script was not carried out")
-    };
     let told = [Got, Not, Got, Not, Got, Got, Got, Got];
-    assert!(rt; outcome.told.as_slice() == told.as_slice());
+    for waiters in [Waiters::Queue, Waiters::Count] {
+        let Some(outcome) = carry_out::<Mcs<Parcel>>(rt.alloc(), waiters, &moves) else {
+            panic!(rt; "the script was not carried out")
+        };
+        assert!(rt; outcome.told.as_slice() == told.as_slice());
+    }
 }
 
 #[test]
 fn four_threads_hold_in_turn(rt: HostRuntime) {
-    for parks in [false, true] {
-        let Some(parcel) = hold_by::<Mcs<Parcel>, _>(&rt, rt.alloc(), Waiters::Queue, 4, HOLDS, parks) else {
+    for (waiters, parks) in [
+        (Waiters::Queue, false),
+        (Waiters::Queue, true),
+        (Waiters::Count, false),
+        (Waiters::Count, true),
+    ] {
+        let Some(parcel) = hold_by::<Mcs<Parcel>, _>(&rt, rt.alloc(), waiters, 4, HOLDS, parks)
+        else {
             panic!(rt; "there was no memory")
         };
         assert!(rt; parcel.count == 4 * u64::from(HOLDS));

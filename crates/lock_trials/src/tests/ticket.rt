@@ -19,12 +19,14 @@ fn two_passes_take_turns(rt: HostRuntime) {
         second(Call::Waiter),
         second(Call::BeginRelease),
     ];
-    let Some(outcome) = carry_out::<Ticket<Parcel>>(rt.alloc(), Waiters::Queue, &moves) else {
-        panic!(rt; "the script was not carried out")
-    };
     let told = [Not, Got, Not, Not, Yes, Got, Got, No, Got];
-    assert!(rt; outcome.told.as_slice() == told.as_slice());
-    assert!(rt; outcome.count == START);
+    for waiters in [Waiters::Queue, Waiters::Count] {
+        let Some(outcome) = carry_out::<Ticket<Parcel>>(rt.alloc(), waiters, &moves) else {
+            panic!(rt; "the script was not carried out")
+        };
+        assert!(rt; outcome.told.as_slice() == told.as_slice());
+        assert!(rt; outcome.count == START);
+    }
 }
 
 #[test]
@@ -41,12 +43,14 @@ fn a_parked_value_is_handed_over(rt: HostRuntime) {
         second(Call::Waiter),
         second(Call::BeginRelease),
     ];
-    let Some(outcome) = carry_out::<Ticket<Parcel>>(rt.alloc(), Waiters::Queue, &moves) else {
-        panic!(rt; "the script was not carried out")
-    };
     let told = [Not, Got, Not, Yes, Got, Got, Got, Yes, No, Got];
-    assert!(rt; outcome.told.as_slice() == told.as_slice());
-    assert!(rt; outcome.count == START);
+    for waiters in [Waiters::Queue, Waiters::Count] {
+        let Some(outcome) = carry_out::<Ticket<Parcel>>(rt.alloc(), waiters, &moves) else {
+            panic!(rt; "the script was not carried out")
+        };
+        assert!(rt; outcome.told.as_slice() == told.as_slice());
+        assert!(rt; outcome.count == START);
+    }
 }
 
 #[test]
@@ -61,20 +65,28 @@ fn a_holder_parks_where_another_waits(rt: HostRuntime) {
         second(Call::Use),
         second(Call::BeginRelease),
     ];
-    let Some(outcome) = carry_out::<Ticket<Parcel>>(rt.alloc(), Waiters::Queue, &moves) else {
-        panic!(rt; "the script was not carried out")
-    };
     let told = [Not, Got, Not, Yes, Got, Got, No, Got];
-    assert!(rt; outcome.told.as_slice() == told.as_slice());
-    assert!(rt; outcome.count == START + 2);
+    for waiters in [Waiters::Queue, Waiters::Count] {
+        let Some(outcome) = carry_out::<Ticket<Parcel>>(rt.alloc(), waiters, &moves) else {
+            panic!(rt; "the script was not carried out")
+        };
+        assert!(rt; outcome.told.as_slice() == told.as_slice());
+        assert!(rt; outcome.count == START + 2);
+    }
 }
 
 // `acquire` and `release` wait as long as it takes
 #[test]
 fn a_hold_may_take_millions_of_polls(rt: HostRuntime) {
     let polls = 1_000_001;
-    let Some(parcel) = hold_by::<Slow<Ticket<Parcel>>, _>(&rt, rt.alloc(), (Waiters::Queue, polls), 1, 1, false)
-    else {
+    let Some(parcel) = hold_by::<Slow<Ticket<Parcel>>, _>(
+        &rt,
+        rt.alloc(),
+        (Waiters::Queue, polls),
+        1,
+        1,
+        false,
+    ) else {
         panic!(rt; "there was no memory")
     };
     assert!(rt; parcel.count == 1);
@@ -82,8 +94,14 @@ fn a_hold_may_take_millions_of_polls(rt: HostRuntime) {
 
 #[test]
 fn four_threads_hold_in_turn(rt: HostRuntime) {
-    for parks in [false, true] {
-        let Some(parcel) = hold_by::<Ticket<Parcel>, _>(&rt, rt.alloc(), Waiters::Queue, 4, HOLDS, parks) else {
+    for (waiters, parks) in [
+        (Waiters::Queue, false),
+        (Waiters::Queue, true),
+        (Waiters::Count, false),
+        (Waiters::Count, true),
+    ] {
+        let Some(parcel) = hold_by::<Ticket<Parcel>, _>(&rt, rt.alloc(), waiters, 4, HOLDS, parks)
+        else {
             panic!(rt; "there was no memory")
         };
         assert!(rt; parcel.count == 4 * u64::from(HOLDS));
@@ -110,8 +128,14 @@ fn passes_are_made_or_the_value_comes_back(rt: HostRuntime) {
 #[test]
 fn every_hold_is_made(rt: HostRuntime) {
     for threads in [1, 2, 5] {
-        let Some(parcel) = hold_by::<Ticket<Parcel>, _>(&rt, rt.alloc(), Waiters::Queue, threads, HOLDS, false)
-        else {
+        let Some(parcel) = hold_by::<Ticket<Parcel>, _>(
+            &rt,
+            rt.alloc(),
+            Waiters::Queue,
+            threads,
+            HOLDS,
+            false,
+        ) else {
             panic!(rt; "there was no memory")
         };
         assert!(rt; parcel.count == u64::from(threads) * u64::from(HOLDS));
@@ -121,7 +145,13 @@ fn every_hold_is_made(rt: HostRuntime) {
 #[test]
 fn every_count_is_made(rt: HostRuntime) {
     for threads in [1, 2, 4] {
-        let count = count_by::<Ticket<BoundedCount>, _>(&rt, rt.alloc(), Waiters::Queue, threads, HOLDS);
+        let count = count_by::<Ticket<BoundedCount>, _>(
+            &rt,
+            rt.alloc(),
+            Waiters::Queue,
+            threads,
+            HOLDS,
+        );
         assert!(rt; count == Some(u64::from(threads) * u64::from(HOLDS)));
     }
 }
