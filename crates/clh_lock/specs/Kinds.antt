@@ -1,4 +1,5 @@
--- The kinds of atomic step of a CLH lock: the word, what the step does to the view of its seat, and its event in the queue.
+-- The kinds of atomic step of a CLH lock, but for those on `waiting`: the word, what the step does to the view of its seat, and its event
+-- in the queue.
 use Rattle.std.specs.Prelude.{◌≡◌, ◌≢◌, ℕ, ◌+◌, ◌≤◌, Bool, true, false, ◌==◌, not, List, Option}
 use Rattle.atomic_table.specs.Table.{Act, keeps, gives}
 use Rattle.lock_rules.specs.Tag.{Tag}

@@ -24,7 +24,7 @@ use lock_tables::{
 };
 use std::alloc::{AllocError, Global};
 
-/// The word `tail` and the flags, each on a line of its own, and the slot.
+/// The words `waiting` and `tail` and the flags, each on a line of its own, the slot, and how the lock learns of waiters.
 #[derive(Drop)]
 pub(crate) struct Words<V: Cargo> {
     table: CachePadded<LockTable<V, ClhWords>>,
