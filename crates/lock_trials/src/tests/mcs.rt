@@ -84,6 +84,7 @@ fn four_threads_hold_in_turn(rt: HostRuntime) {
         };
         assert!(rt; parcel.count == 4 * u64::from(HOLDS));
         assert!(rt; parcel.parkings == parcel.unparkings);
+        assert!(rt; !parks || parcel.met);
     }
 }
 
