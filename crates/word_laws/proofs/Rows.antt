@@ -1,0 +1,102 @@
+-- What a use of an argument with one word does to the words that each argument has.
+use Rattle.std.proofs.Common.{◌≡◌, ◌⊎◌, Bool, cond, true, false, List, [], ◌∷◌, ◌++◌, Option, Some, None, refl, sym, ap, ◌∙◌, inl, inr}
+use Rattle.std.specs.Prelude.{◌&&◌, ◌||◌, unwrap_or}
+use Rattle.std.specs.Str.{bytes_eq}
+use Rattle.std.proofs.lemmas.Bool.{both_ways, false_from_ne_true, and_parts}
+use Rattle.std.proofs.lemmas.Slice.Eq.{bytes_eq-Decides}
+use Rattle.clap.specs.Walk.{Row, Rule, Text, action_of, all_of, used, used_as, with_values, without, is_append}
+use Rattle.clap.specs.declared.builder.action.ArgAction.{ArgAction}
+use Rattle.clap.specs.declared.builder.action.ArgAction.TheVariants as action
+use Rattle.clap.specs.declared.builder.value_parser.Reading.{Reading}
+use Rattle.clap.specs.declared.parser.matches.ValueSource.{ValueSource}
+use Rattle.command_words.specs.Commands.{taken_by}
+use Rattle.word_laws.specs.Positionals.{is_set, takes_all, keeps_words}
+
+pub same_text : (text : Text) → bytes_eq text text ≡ true
+same_text text = (bytes_eq-Decides text text).1 refl
+
+-- two texts that one text is told from and the same as
+apart : (id own other : Text) → bytes_eq id own ≡ true → bytes_eq own other ≡ false → bytes_eq id other ≡ false
+apart id own other same differ = ap (λ text. bytes_eq text other) ((bytes_eq-Decides id own).0 same) ∙ differ
+
+module _ (id : Text) (how : Reading) (source : ValueSource) (values : List Text) where
+  -- the argument has the words behind those that it had
+  values_more : (rows : List Row) → all_of id (with_values id how source values rows) ≡ Some (unwrap_or (all_of id rows) [] ++ values)
+  values_more [] = rw (same_text id) refl
+  values_more (row ∷ rows) = go (bytes_eq row.id id) refl (values_more rows)
+    where
+      go : (b : Bool) → bytes_eq row.id id ≡ b
+          → all_of id (with_values id how source values rows) ≡ Some (unwrap_or (all_of id rows) [] ++ values)
+          → all_of id (with_values id how source values (row ∷ rows)) ≡ Some (unwrap_or (all_of id (row ∷ rows)) [] ++ values)
+      go true is rest = simp is refl
+      go false is rest = simp is rest
+
+  -- another argument has what it had
+  pub values_other : (other : Text) → bytes_eq id other ≡ false → (rows : List Row)
+      → all_of other (with_values id how source values rows) ≡ all_of other rows
+  values_other other differ [] = rw differ refl
+  values_other other differ (row ∷ rows) = go (bytes_eq row.id id) refl (bytes_eq row.id other) refl (values_other other differ rows)
+    where
+      go : (b : Bool) → bytes_eq row.id id ≡ b → (d : Bool) → bytes_eq row.id other ≡ d
+          → all_of other (with_values id how source values rows) ≡ all_of other rows
+          → all_of other (with_values id how source values (row ∷ rows)) ≡ all_of other (row ∷ rows)
+      go true is d at rest = simp (is, apart row.id id other is differ) refl
+      go false is true at rest = simp (is, at) refl
+      go false is false at rest = simp (is, at) rest
+
+without_none : (id : Text) (rows : List Row) → all_of id rows ≡ None → without id rows ≡ rows
+without_none id [] none = refl
+without_none id (row ∷ rows) none = go (bytes_eq row.id id) refl (without_none id rows)
+  where
+    go : (b : Bool) → bytes_eq row.id id ≡ b → (all_of id rows ≡ None → without id rows ≡ rows) → without id (row ∷ rows) ≡ row ∷ rows
+    go true is rest = let wrong = simp is at none in absurd cc
+    go false is rest = simp is (ap (λ others. row ∷ others) (rest (simp is at none)))
+
+without_other : (id other : Text) → bytes_eq id other ≡ false → (rows : List Row) → all_of other (without id rows) ≡ all_of other rows
+without_other id other differ [] = refl
+without_other id other differ (row ∷ rows) = go (bytes_eq row.id id) refl (bytes_eq row.id other) refl (without_other id other differ rows)
+  where
+    go : (b : Bool) → bytes_eq row.id id ≡ b → (d : Bool) → bytes_eq row.id other ≡ d
+        → all_of other (without id rows) ≡ all_of other rows → all_of other (without id (row ∷ rows)) ≡ all_of other (row ∷ rows)
+    go true is d at rest = simp (is, apart row.id id other is differ) refl
+    go false is true at rest = simp (is, at) refl
+    go false is false at rest = simp (is, at) rest
+
+-- ---- uses
+
+-- the argument sets its word, or appends it
+pub kinds_of : (rule : Rule) → keeps_words rule ≡ true
+    → ((takes_all rule ≡ false) × (action_of rule ≡ action.Set)) ⊎ ((takes_all rule ≡ true) × (action_of rule ≡ action.Append))
+kinds_of rule keeps = by (action_of rule) refl (and_parts (is_set (action_of rule) || takes_all rule) _ keeps).0
+  where
+    by : (a : ArgAction) → action_of rule ≡ a → (is_set a || is_append a) ≡ true
+        → ((takes_all rule ≡ false) × (action_of rule ≡ action.Set)) ⊎ ((takes_all rule ≡ true) × (action_of rule ≡ action.Append))
+    by action.Set is e = inl (ap is_append is, is)
+    by action.Append is e = inr (ap is_append is, is)
+    by action.SetTrue is e = absurd cc
+    by action.SetFalse is e = absurd cc
+    by action.Count is e = absurd cc
+    by action.Help is e = absurd cc
+    by action.HelpShort is e = absurd cc
+    by action.HelpLong is e = absurd cc
+    by action.Version is e = absurd cc
+
+-- an argument that takes one word has it
+pub used_once : (rule : Rule) (word : Text) (rows : List Row) → action_of rule ≡ action.Set → all_of rule.id rows ≡ None
+    → all_of rule.id (used rule (word ∷ []) rows) ≡ Some (word ∷ [])
+used_once rule word rows is none =
+    rw (is, without_none rule.id rows none) (values_more rule.id _ _ (word ∷ []) rows ∙ ap (λ o. Some (unwrap_or o [] ++ word ∷ [])) none)
+
+-- one that takes any number has the word behind the others
+pub used_more : (rule : Rule) (word : Text) (rows : List Row) → action_of rule ≡ action.Append
+    → taken_by rule.id (used rule (word ∷ []) rows) ≡ taken_by rule.id rows ++ word ∷ []
+used_more rule word rows is = rw is (ap (λ o. unwrap_or o []) (values_more rule.id _ _ (word ∷ []) rows))
+
+-- and no other argument has another word than before
+pub used_other : (rule : Rule) (word other : Text) (rows : List Row) → keeps_words rule ≡ true → bytes_eq rule.id other ≡ false
+    → all_of other (used rule (word ∷ []) rows) ≡ all_of other rows
+used_other rule word other rows keeps differ = elim (kinds_of rule keeps) [
+  | inl once ↦
+      rw once.1 (values_other rule.id _ _ (word ∷ []) other differ (without rule.id rows) ∙ without_other rule.id other differ rows)
+  | inr more ↦ rw more.1 (values_other rule.id _ _ (word ∷ []) other differ rows)
+]

@@ -1,0 +1,4 @@
+use Rattle.word_laws.proofs.laws.plain_words_stand_in_order.Goals as goal
+
+pub returns : goal.returns
+returns c = ?

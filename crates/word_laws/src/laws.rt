@@ -1,0 +1,24 @@
+// Laws of words: each is the contract of a function that does nothing.
+ghost use Rattle.word_laws.specs.Laws.{CommandsAreSingle, PlainWordsStandInOrder, ValuesStandBehindEquals};
+ghost use Rattle.word_laws.specs.Laws.{WordsBehindDashesGoInTurn, WordsBehindDashesStandInOrder};
+
+/// The laws below hold of the program's commands.
+pub fn commands_are_single()
+    ensures { CommandsAreSingle }
+{}
+
+/// Words that don't begin with `-` are the positionals of the command, in order, and none is left over.
+pub fn plain_words_stand_in_order()
+    ensures { PlainWordsStandInOrder }
+{}
+
+/// A value behind `=` gives the same as one that is the next word: `--sep=T` the same as `--sep T`, where T doesn't begin with `-`.
+pub fn values_stand_behind_equals()
+    ensures { ValuesStandBehindEquals }
+{}
+
+/// Behind the first `--` every word is a positional, whatever it begins with.
+pub fn words_behind_dashes_are_positionals()
+    ensures turn { WordsBehindDashesGoInTurn }
+    ensures order { WordsBehindDashesStandInOrder }
+{}
