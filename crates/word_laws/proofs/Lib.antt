@@ -2,3 +2,4 @@ pub mod Rows
 pub mod Turns
 pub mod Steps
 pub mod Tables
+pub mod Accepted

@@ -77,7 +77,7 @@ plain_met c idle position word h still plain = rw (plain_not_dashes word plain, 
 plain_met c positional position word h still plain = rw (plain_not_dashes word plain, plain_long word plain, plain_short word plain) refl
 plain_met c (option id) position word h still plain = absurd still
 
-met_value : (c : List Rule) (w : Walk) (word : Text) (words : List Text) → Goes w (word ∷ words)
+pub met_value : (c : List Rule) (w : Walk) (word : Text) (words : List Text) → Goes w (word ∷ words)
     → word_met c [] w.is_trailing w.waiting w.position word w.held ≡ (w.held, value)
 met_value c w word words (inl behind) = rw behind refl
 met_value c w word words (inr plain) = by w.is_trailing
@@ -86,7 +86,7 @@ met_value c w word words (inr plain) = by w.is_trailing
     by true = refl
     by false = plain_met c w.waiting w.position word w.held plain.0 plain.1.0
 
-goes_step : (c : List Rule) (w : Walk) (word : Text) → w.stopped ≡ None
+pub goes_step : (c : List Rule) (w : Walk) (word : Text) → w.stopped ≡ None
     → word_met c [] w.is_trailing w.waiting w.position word w.held ≡ (w.held, value)
     → walked c [] w word ≡ to_positional c (arg_by_index c w.position) word w w.held
 unfolding walked
@@ -94,7 +94,7 @@ goes_step c w word still met = rw (still, met) refl
 
 -- ---- arguments that are found
 
-some_is : {X : Type 0} (x y : X) → Some x ≡ Some y → x ≡ y
+pub some_is : {X : Type 0} (x y : X) → Some x ≡ Some y → x ≡ y
 some_is x y e = cc
 
 -- what is found is one of the arguments
@@ -123,11 +123,11 @@ found_again p (first ∷ c) rule own found =
           rw other (found_again p c rule both.1 (rw behind at found))
     ]
 
-and_no : (b : Bool) → (b && false) ≡ false
+pub and_no : (b : Bool) → (b && false) ≡ false
 and_no true = refl
 and_no false = refl
 
-or_no : (b : Bool) → (b || false) ≡ b
+pub or_no : (b : Bool) → (b || false) ≡ b
 or_no true = refl
 or_no false = refl
 
@@ -161,16 +161,16 @@ module _ (c : List Rule) (ones : list_all takes_one c ≡ true) (own : have_own_
     single : (takes_several rule ≡ false) × (rule.trailing_var_arg ≡ false)
     single = takes_single (λ a. option_map_or (λ k. k == w.position) a.index false) rule found
 
-    gone_rows : rows_at c (gone c rule word w) ≡ used rule (word ∷ []) (rows_at c w)
+    pub gone_rows : rows_at c (gone c rule word w) ≡ used rule (word ∷ []) (rows_at c w)
     gone_rows =
         ap (λ h. (settled c h).rows) (settled_first rule word w.held single.0)
         ∙ ap (λ o. used_by_id o (word ∷ []) (rows_at c w))
         (found_again (λ a. option_map_or (λ k. k == w.position) a.index false) c rule own found)
 
-    gone_place : next_position rule w.position ≡ cond (takes_all rule) w.position (min (w.position + 1) usize_max)
+    pub gone_place : next_position rule w.position ≡ cond (takes_all rule) w.position (min (w.position + 1) usize_max)
     gone_place = rw single.0 refl
 
-    gone_goes : (words : List Text) → Goes w (word ∷ words) → Goes (gone c rule word w) words
+    pub gone_goes : (words : List Text) → Goes w (word ∷ words) → Goes (gone c rule word w) words
     gone_goes words (inl behind) = inl (rw behind refl)
     gone_goes words (inr plain) = inr (by (is_multiple rule), plain.1.1)
       where
@@ -178,31 +178,31 @@ module _ (c : List Rule) (ones : list_all takes_one c ≡ true) (own : have_own_
         by true = tt
         by false = tt
 
-  goes_rest : (w : Walk) (word : Text) (words : List Text) → Goes w (word ∷ words) → Goes w words
+  pub goes_rest : (w : Walk) (word : Text) (words : List Text) → Goes w (word ∷ words) → Goes w words
   goes_rest w word words (inl behind) = inl behind
   goes_rest w word words (inr plain) = inr (plain.0, plain.1.1)
 
-  given_nothing : (words : List Text) (rows : List Row) → given [] words rows ≡ rows
+  pub given_nothing : (words : List Text) (rows : List Row) → given [] words rows ≡ rows
   given_nothing [] rows = refl
   given_nothing (word ∷ words) rows = refl
 
   -- a word that no positional takes changes nothing
-  stray : (w : Walk) (word : Text) (words : List Text) → arg_by_index c w.position ≡ None → w.stopped ≡ None
+  pub stray : (w : Walk) (word : Text) (words : List Text) → arg_by_index c w.position ≡ None → w.stopped ≡ None
       → Goes w (word ∷ words) → walked c [] w word ≡ w
   stray w word words none still goes =
       goes_step c w word still (met_value c w word words goes) ∙ ap (λ o. to_positional c o word w w.held) none
 
-  taken : (rule : Rule) (w : Walk) (word : Text) (words : List Text) → arg_by_index c w.position ≡ Some rule → w.stopped ≡ None
+  pub taken : (rule : Rule) (w : Walk) (word : Text) (words : List Text) → arg_by_index c w.position ≡ Some rule → w.stopped ≡ None
       → Goes w (word ∷ words) → walked c [] w word ≡ gone c rule word w
   taken rule w word words found still goes =
       goes_step c w word still (met_value c w word words goes) ∙ ap (λ o. to_positional c o word w w.held) found
 
-  follow_all : (rule : Rule) (rules : List Rule) (w : Walk) (word : Text) → takes_all rule ≡ true → Follow c w.position (rule ∷ rules)
+  pub follow_all : (rule : Rule) (rules : List Rule) (w : Walk) (word : Text) → takes_all rule ≡ true → Follow c w.position (rule ∷ rules)
       → Follow c (gone c rule word w).position (rule ∷ rules)
   follow_all rule rules w word all follow =
       subst (λ place. Follow c place (rule ∷ rules)) (sym (gone_place rule word w follow.0 ∙ rw all refl)) follow
 
-  follow_once : (rule : Rule) (rules : List Rule) (w : Walk) (word : Text) → takes_all rule ≡ false → Follow c w.position (rule ∷ rules)
+  pub follow_once : (rule : Rule) (rules : List Rule) (w : Walk) (word : Text) → takes_all rule ≡ false → Follow c w.position (rule ∷ rules)
       → Follow c (gone c rule word w).position rules
   follow_once rule rules w word once follow =
       let small : min (w.position + 1) usize_max ≡ w.position + 1 = omega (arith, follow.1) in
