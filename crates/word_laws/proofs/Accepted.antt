@@ -70,7 +70,7 @@ module _ (s : Shape) where
   unfolding walk_fault
   step_passes w word words still e = or_none (turn_fault s [] w word) _ e
 
-  turn_value : (w : Walk) (word : Text) (words : List Text) → w.stopped ≡ None → Goes w (word ∷ words) → turn_fault s [] w word ≡ []
+  pub turn_value : (w : Walk) (word : Text) (words : List Text) → w.stopped ≡ None → Goes w (word ∷ words) → turn_fault s [] w word ≡ []
       → step_fault s w.position w.held value ≡ []
   turn_value w word words still goes e =
       (or_none (word_fault s [] w.is_trailing w.waiting word w.held) _ (rw (still, met_value s.rules w word words goes) at e)).1

@@ -3,3 +3,4 @@ pub mod Turns
 pub mod Steps
 pub mod Tables
 pub mod Accepted
+pub mod InOrder

@@ -71,7 +71,7 @@ WaitsNot positional = Unit {0}
 abbrev pub Goes : Walk → List Text → Type 0
 Goes w words = (w.is_trailing ≡ true) ⊎ (WaitsNot w.waiting × AllByRecursion IsPlain words)
 
-plain_met : (c : List Rule) (waiting : Waiting) (position : ℕ) (word : Text) (h : Held) → WaitsNot waiting → IsPlain word
+pub plain_met : (c : List Rule) (waiting : Waiting) (position : ℕ) (word : Text) (h : Held) → WaitsNot waiting → IsPlain word
     → word_met c [] false waiting position word h ≡ (h, value)
 plain_met c idle position word h still plain = rw (plain_not_dashes word plain, plain_long word plain, plain_short word plain) refl
 plain_met c positional position word h still plain = rw (plain_not_dashes word plain, plain_long word plain, plain_short word plain) refl

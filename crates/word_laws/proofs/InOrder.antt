@@ -1,0 +1,192 @@
+-- Plain words, and words behind `--`, are the positionals of an accepted command.
+use Rattle.std.proofs.Common.{◌≡◌, ◌⊎◌, ℕ, ◌+◌, ◌-◌, ◌<◌, ◌≤◌, Bool, cond, true, false, List, [], ◌∷◌, ◌++◌, Option, Some, None}
+use Rattle.std.proofs.Common.{refl, sym, ap, subst, ◌∙◌, inl, inr, arith, drop, true≢false, map}
+use Rattle.std.specs.Prelude.{◌≢◌, ◌&&◌, not, is_some, fold}
+use Rattle.std.specs.List.{AllByRecursion, filter, list_all}
+use Rattle.std.specs.Str.{bytes_eq}
+use Rattle.std.proofs.lemmas.Bool.{and_parts, both_ways, cases_Bool, false_from_ne_true}
+use Rattle.std.proofs.lemmas.List.Sums.{fold-append}
+use Rattle.clap.specs.Faults.{built_fault, fault_of, level_fault, step_fault, turn_fault, walk_fault}
+use Rattle.clap.specs.Kinds.{Kinds}
+use Rattle.clap.specs.Simple.{App, Shape, argument_words, built, label_of, matches_of, names_of}
+use Rattle.clap.specs.Walk.{
+  Held,
+  Names,
+  Row,
+  Rule,
+  Step,
+  Text,
+  Waiting,
+  Walk,
+  idle,
+  option,
+  positional,
+  trailing,
+  value,
+  all_of,
+  arg_by_index,
+  finished,
+  nothing_held,
+  rows_after,
+  settled,
+  to_positional,
+  walk,
+  walk_from,
+  walked,
+  word_met,
+}
+use Rattle.command_words.specs.Commands.{if_taken, matched}
+use Rattle.word_laws.specs.Laws.{IsSingle, LackDashes, reached}
+use Rattle.word_laws.specs.Positionals.{
+  are_counted,
+  dashes,
+  from_place,
+  given,
+  have_own_ids,
+  is_single,
+  keeps_words,
+  positionals,
+  rules_of,
+  takes_one,
+  with_defaults,
+  IsPlain,
+  StandInOrder,
+}
+use Rattle.word_laws.proofs.Turns.{EndWith, Fit, HaveNone, empty_is, end_with, in_order, not_true, own_filtered}
+use Rattle.word_laws.proofs.Steps.{Follow, Goes, WaitsNot, goes_step, gone_goes, met_value, plain_met, plain_not_dashes, rows_at, stray, taken, walk_given}
+use Rattle.word_laws.proofs.Accepted.{Stands, follow_from, or_none, stands, step_passes, turn_value, walk_fits, walked_is}
+
+-- ---- what the test of a command says
+
+pub record Parts (command : App) : Type 0 where
+  pub alone : (built command).subs ≡ []
+  pub named : command.top.no_binary_name ≡ false
+  pub ones : list_all takes_one (rules_of command) ≡ true
+  pub own : have_own_ids (rules_of command) ≡ true
+  pub keeps : list_all keeps_words (positionals (rules_of command)) ≡ true
+  pub counted : are_counted 1 (positionals (rules_of command)) ≡ true
+
+pub parts_of : (command : App) → IsSingle command → Parts command
+parts_of command single =
+    let a = and_parts _ _ single in
+    let b = and_parts _ _ a.1 in
+    let d = and_parts _ _ b.1 in
+    let e = and_parts _ _ d.1 in
+    let f = and_parts _ _ e.1 in
+    record {
+      alone = empty_is _ a.0;
+      named = not_true _ b.0;
+      ones = d.0;
+      own = e.0;
+      keeps = f.0;
+      counted = f.1;
+    }
+
+-- ---- acceptance
+
+taken_is : (kinds : Kinds) (found rows : List Row) → if_taken kinds found ≡ Some rows → (kinds ≡ []) × (found ≡ rows)
+taken_is [] found rows e = (refl, cc)
+taken_is (kind ∷ kinds) found rows e = absurd cc
+
+pub start : Walk
+start = walk_from nothing_held
+
+module _ (command : App) (p : Parts command) where
+  pub no_names : names_of (built command) ≡ []
+  no_names = ap (map label_of) p.alone
+
+  pub words_behind : (name : Text) (words : List Text) → argument_words command (name ∷ words) ≡ words
+  words_behind name words = rw p.named refl
+
+  pub matches_are : (name : Text) (words : List Text)
+      → matches_of command (name ∷ words)
+      ≡ with_defaults (rules_of command) (rows_at (rules_of command) (fold (walked (rules_of command) []) (walk_from nothing_held) words))
+  matches_are name words =
+      ap (λ (names : Names). rows_after (rules_of command) names (argument_words command (name ∷ words))) no_names
+      ∙ ap (λ (ws : List Text). rows_after (rules_of command) [] ws) (words_behind name words)
+
+  pub walk_passes : (name : Text) (words : List Text) → fault_of command (name ∷ words) ≡ []
+      → walk_fault (built command).top [] (walk_from nothing_held) words ≡ []
+  walk_passes name words e =
+      subst (λ (ws : List Text). walk_fault (built command).top [] (walk_from nothing_held) ws ≡ []) (words_behind name words)
+      (subst (λ (names : Names). walk_fault (built command).top names (walk_from nothing_held) (argument_words command (name ∷ words)) ≡ [])
+      no_names (or_none _ _ e).0)
+
+  -- the words of a command that is accepted pass, and these are its matches
+  pub accepted : (name : Text) (words : List Text) (rows : List Row) → matched command (name ∷ words) ≡ Some rows
+      → (walk_fault (built command).top [] (walk_from nothing_held) words ≡ [])
+      × (with_defaults (rules_of command) (rows_at (rules_of command) (fold (walked (rules_of command) []) (walk_from nothing_held) words)) ≡ rows)
+  unfolding matched
+  accepted name words rows e =
+      let both = taken_is (fault_of command (name ∷ words)) _ rows e in
+      (walk_passes name words both.0, sym (matches_are name words) ∙ both.1)
+
+  -- ---- plain words
+
+  nothing_yet : (rules : List Rule) → HaveNone [] rules
+  nothing_yet [] = tt
+  nothing_yet (rule ∷ rules) = (refl, nothing_yet rules)
+
+  first_place : Follow (rules_of command) 1 (positionals (rules_of command))
+  first_place = follow_from (rules_of command) p.counted 0 (positionals (rules_of command)) refl
+
+  -- words that fit and give these rows stand in order
+  stand : (words : List Text) (rows made : List Row) → Fit (positionals (rules_of command)) words
+      → made ≡ given (positionals (rules_of command)) words [] → with_defaults (rules_of command) made ≡ rows
+      → StandInOrder rows (positionals (rules_of command)) words
+  stand words rows made fit is made_rows =
+      let c = rules_of command in
+      let ends = end_with (λ rule. is_some rule.index) c made p.own p.keeps in
+      in_order rows (positionals c) words [] p.keeps (own_filtered (λ rule. is_some rule.index) c p.own) (nothing_yet (positionals c)) fit
+      (subst (λ (final : List Row). EndWith final (given (positionals c) words []) (positionals c)) made_rows
+      (subst (λ (rs : List Row). EndWith (with_defaults c made) rs (positionals c)) is ends))
+
+  pub plain_in_order : (name : Text) (words : List Text) (rows : List Row) → AllByRecursion IsPlain words
+      → matched command (name ∷ words) ≡ Some rows → StandInOrder rows (positionals (rules_of command)) words
+  plain_in_order name words rows plain e =
+      let c = rules_of command in
+      let both = accepted name words rows e in
+      let goes : Goes (walk_from nothing_held) words = inr (tt, plain) in
+      stand words rows _ (walk_fits (built command).top p.ones p.own (positionals c) words (walk_from nothing_held) first_place refl goes both.0)
+      (walk_given c p.ones p.own (positionals c) words (walk_from nothing_held) first_place refl goes) both.1
+
+-- ---- `--`
+
+-- the walk behind a `--`
+abbrev pub behind_dashes : Walk → Walk
+behind_dashes w = record w { is_trailing = true }
+
+dashes_met : (c : List Rule) (waiting : Waiting) (place : ℕ) (h : Held) → word_met c [] false waiting place dashes h ≡ (h, trailing place)
+dashes_met c idle place h = refl
+dashes_met c positional place h = refl
+dashes_met c (option id) place h = refl
+
+pub dashes_step : (c : List Rule) (w : Walk) → w.stopped ≡ None → w.is_trailing ≡ false → walked c [] w dashes ≡ behind_dashes w
+dashes_step c w still before =
+    walked_is c w dashes still
+    ∙ rw (before, dashes_met c w.waiting w.position w.held) refl
+
+module _ (command : App) (p : Parts command) where
+  c : List Rule
+  c = rules_of command
+
+  start_stands : Stands (walk_from nothing_held)
+  start_stands = record { still = refl; before = refl; place = omega arith }
+
+  -- the words behind the first `--` go to positionals in turn
+  pub dashes_in_turn : (name : Text) (before behind : List Text) (rows : List Row) → LackDashes before
+      → matched command (name ∷ (before ++ dashes ∷ behind)) ≡ Some rows
+      → rows ≡ with_defaults (rules_of command) (given (from_place (rules_of command) (reached command before).position) behind
+      (settled (rules_of command) (reached command before).held).rows)
+  unfolding c
+  dashes_in_turn name before behind rows lack e =
+      let both = accepted command p name (before ++ dashes ∷ behind) rows e in
+      let w = reached command before in
+      let s = stands c p.ones p.own before (walk_from nothing_held) lack start_stands in
+      let place : 1 + (w.position - 1) ≡ w.position = omega (arith, s.place) in
+      let follow = subst (λ n. Follow c n (from_place c w.position)) place (follow_from c p.counted (w.position - 1) (from_place c w.position) refl) in
+      let all = fold-append (walked c []) (walk_from nothing_held) before (dashes ∷ behind) in
+      let step = ap (λ (v : Walk). fold (walked c []) v behind) (dashes_step c w s.still s.before) in
+      sym both.1
+      ∙ ap (λ (v : Walk). with_defaults c (rows_at c v)) (all ∙ step)
+      ∙ ap (with_defaults c) (walk_given c p.ones p.own (from_place c w.position) behind (behind_dashes w) follow s.still (inl refl))
