@@ -53,7 +53,7 @@ use Rattle.word_laws.specs.Positionals.{
   StandInOrder,
 }
 use Rattle.word_laws.proofs.Turns.{EndWith, Fit, HaveNone, empty_is, end_with, in_order, not_true, own_filtered}
-use Rattle.word_laws.proofs.Steps.{Follow, Goes, WaitsNot, goes_step, gone_goes, met_value, plain_met, plain_not_dashes, rows_at, stray, taken, walk_given}
+use Rattle.word_laws.proofs.Steps.{Follow, Goes, WaitsNot, goes_step, gone_goes, met_value, plain_met, plain_not_dashes, rows_at, single, stray, taken, walk_given}
 use Rattle.word_laws.proofs.Accepted.{Stands, follow_from, or_none, stands, step_passes, turn_value, walk_fits, walked_is}
 
 -- ---- what the test of a command says
@@ -190,3 +190,96 @@ module _ (command : App) (p : Parts command) where
       sym both.1
       ∙ ap (λ (v : Walk). with_defaults c (rows_at c v)) (all ∙ step)
       ∙ ap (with_defaults c) (walk_given c p.ones p.own (from_place c w.position) behind (behind_dashes w) follow s.still (inl refl))
+
+-- ---- plain words before a `--`
+
+module _ (c : List Rule) where
+  behind_gone : (o : Option Rule) (word : Text) (w : Walk) (h : Held)
+      → behind_dashes (to_positional c o word w h) ≡ to_positional c o word (behind_dashes w) h
+  behind_gone None word w h = refl
+  behind_gone (Some rule) word w h = refl
+
+  gone_still : (o : Option Rule) (word : Text) (w : Walk) (h : Held) → w.stopped ≡ None → (to_positional c o word w h).stopped ≡ None
+  gone_still None word w h still = still
+  gone_still (Some rule) word w h still = refl
+
+-- a word goes to a positional before a `--` as it does behind
+module _ (command : App) (p : Parts command) where
+  rules : List Rule
+  rules = rules_of command
+
+  -- where a walk goes with plain words, before a `--`
+  abbrev Plainly : Walk → List Text → Type 0
+  Plainly w words = (w.stopped ≡ None) × (w.is_trailing ≡ false) × WaitsNot w.waiting × AllByRecursion IsPlain words
+
+  step_of : (w : Walk) (word : Text) (words : List Text) → Plainly w (word ∷ words)
+      → walked (rules_of command) [] w word ≡ to_positional (rules_of command) (arg_by_index (rules_of command) w.position) word w w.held
+  step_of w word words h =
+      goes_step (rules_of command) w word h.0 (met_value (rules_of command) w word words (inr (h.2, h.3)))
+
+  step_behind : (w : Walk) (word : Text) (words : List Text) → Plainly w (word ∷ words)
+      → walked (rules_of command) [] (behind_dashes w) word ≡ behind_dashes (walked (rules_of command) [] w word)
+  step_behind w word words h =
+      goes_step (rules_of command) (behind_dashes w) word h.0 (met_value (rules_of command) (behind_dashes w) word words (inl refl))
+      ∙ sym (behind_gone (rules_of command) (arg_by_index (rules_of command) w.position) word w w.held)
+      ∙ ap behind_dashes (sym (step_of w word words h))
+
+  plainly_rest : (w : Walk) (word : Text) (words : List Text) → Plainly w (word ∷ words)
+      → Plainly (walked (rules_of command) [] w word) words
+  plainly_rest w word words h =
+      subst (λ (v : Walk). Plainly v words) (sym (step_of w word words h)) (by (arg_by_index (rules_of command) w.position) refl)
+    where
+      by : (o : Option Rule) → arg_by_index (rules_of command) w.position ≡ o
+          → Plainly (to_positional (rules_of command) o word w w.held) words
+      by None is = (h.0, h.1, h.2, h.3.1)
+      by (Some rule) is =
+          let one = single (rules_of command) p.ones p.own rule word w is in
+          let rest = gone_goes (rules_of command) p.ones p.own rule word w is words (inr (h.2, h.3)) in
+          (refl, rw (h.1, one.1) refl, waits rest, h.3.1)
+        where
+          waits : Goes (to_positional (rules_of command) (Some rule) word w w.held) words
+              → WaitsNot (to_positional (rules_of command) (Some rule) word w w.held).waiting
+          waits (inl behind) = absurd (both_ways _ (rw (h.1, (single (rules_of command) p.ones p.own rule word w is).1) refl) behind)
+          waits (inr plain) = plain.0
+
+  -- the `--` may stand before them
+  dashes_first : (before : List Text) (w : Walk) → Plainly w before
+      → walked (rules_of command) [] (fold (walked (rules_of command) []) w before) dashes
+      ≡ fold (walked (rules_of command) []) (behind_dashes w) before
+  dashes_first [] w h = dashes_step (rules_of command) w h.0 h.1
+  dashes_first (word ∷ before) w h =
+      dashes_first before (walked (rules_of command) [] w word) (plainly_rest w word before h)
+      ∙ ap (λ (v : Walk). fold (walked (rules_of command) []) v before) (sym (step_behind w word before h))
+
+  fault_first : (before behind : List Text) (w : Walk) → Plainly w before
+      → walk_fault (built command).top [] w (before ++ dashes ∷ behind) ≡ []
+      → walk_fault (built command).top [] (behind_dashes w) (before ++ behind) ≡ []
+  unfolding walk_fault
+  fault_first [] behind w h e =
+      subst (λ (v : Walk). walk_fault (built command).top [] v behind ≡ []) (dashes_step (rules_of command) w h.0 h.1)
+      (step_passes (built command).top w dashes behind h.0 e).1
+  fault_first (word ∷ before) behind w h e =
+      let s = (built command).top in
+      let both = step_passes s w word (before ++ dashes ∷ behind) h.0 e in
+      let rest = fault_first before behind (walked (rules_of command) [] w word) (plainly_rest w word before h) both.1 in
+      let here : turn_fault s [] (behind_dashes w) word ≡ [] =
+      rw h.0 (turn_value s w word before h.0 (inr (h.2, h.3)) both.0) in
+      rw here (subst (λ (v : Walk). walk_fault s [] v (before ++ behind) ≡ []) (sym (step_behind w word before h)) rest)
+
+  -- plain words, and those behind the `--`, stand in order
+  pub dashes_in_order : (name : Text) (before behind : List Text) (rows : List Row) → AllByRecursion IsPlain before
+      → matched command (name ∷ (before ++ dashes ∷ behind)) ≡ Some rows
+      → StandInOrder rows (positionals (rules_of command)) (before ++ behind)
+  dashes_in_order name before behind rows plain e =
+      let both = accepted command p name (before ++ dashes ∷ behind) rows e in
+      let first = behind_dashes (walk_from nothing_held) in
+      let h : Plainly (walk_from nothing_held) before = (refl, refl, tt, plain) in
+      let walk_is = fold-append (walked (rules_of command) []) (walk_from nothing_held) before (dashes ∷ behind)
+      ∙ ap (λ (v : Walk). fold (walked (rules_of command) []) v behind) (dashes_first before (walk_from nothing_held) h)
+      ∙ sym (fold-append (walked (rules_of command) []) first before behind) in
+      let goes : Goes first (before ++ behind) = inl refl in
+      let place = first_place command p in
+      let fits = walk_fits (built command).top p.ones p.own (positionals (rules_of command)) (before ++ behind) first place refl goes
+      (fault_first before behind (walk_from nothing_held) h both.0) in
+      let given_is = walk_given (rules_of command) p.ones p.own (positionals (rules_of command)) (before ++ behind) first place refl goes in
+      stand command p (before ++ behind) rows _ fits (ap (rows_at (rules_of command)) walk_is ∙ given_is) both.1

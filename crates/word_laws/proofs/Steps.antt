@@ -158,7 +158,7 @@ module _ (c : List Rule) (ones : list_all takes_one c ≡ true) (own : have_own_
   settled_first rule word h single = rw (single, and_no (is_pending rule h.pending)) refl
 
   module _ (rule : Rule) (word : Text) (w : Walk) (found : arg_by_index c w.position ≡ Some rule) where
-    single : (takes_several rule ≡ false) × (rule.trailing_var_arg ≡ false)
+    pub single : (takes_several rule ≡ false) × (rule.trailing_var_arg ≡ false)
     single = takes_single (λ a. option_map_or (λ k. k == w.position) a.index false) rule found
 
     pub gone_rows : rows_at c (gone c rule word w) ≡ used rule (word ∷ []) (rows_at c w)
