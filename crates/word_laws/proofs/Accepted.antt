@@ -56,7 +56,7 @@ pub or_none : (one other : Kinds) → or_else one other ≡ [] → (one ≡ []) 
 or_none [] other e = (refl, e)
 or_none (kind ∷ kinds) other e = absurd cc
 
-stray_is_fault : (s : Shape) → stray_fault s ≡ [] → ⊥
+pub stray_is_fault : (s : Shape) → stray_fault s ≡ [] → ⊥
 stray_is_fault s e = by s.is_leaf refl
   where
     by : (b : Bool) → s.is_leaf ≡ b → ⊥

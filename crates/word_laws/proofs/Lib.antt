@@ -4,3 +4,4 @@ pub mod Steps
 pub mod Tables
 pub mod Accepted
 pub mod InOrder
+pub mod Settling
