@@ -5,3 +5,4 @@ pub mod Tables
 pub mod Accepted
 pub mod InOrder
 pub mod Settling
+pub mod Equals
