@@ -131,7 +131,7 @@ module _ (s : Shape) (ones : list_all takes_one s.rules ≡ true) (own : have_ow
   use_of h = use_fault s.args_override_self rule (value ∷ []) (settled s.rules h).rows
 
   -- the walk behind `--name=value`
-  abbrev behind_one : Walk → Walk
+  abbrev pub behind_one : Walk → Walk
   behind_one w = record w { held = reacted s.rules rule (value ∷ []) w.held; waiting = idle }
 
   one_walk : (w : Walk) → Stands w → walked s.rules [] w (attached long value) ≡ behind_one w
@@ -160,10 +160,10 @@ module _ (s : Shape) (ones : list_all takes_one s.rules ≡ true) (own : have_ow
       ) refl
 
   -- the walk behind `--name`, and behind the value
-  abbrev pending_none : Walk → Walk
+  abbrev pub pending_none : Walk → Walk
   pending_none w = record w { held = record (settled s.rules w.held) { pending = Some (rule.id, []) }; waiting = option rule.id }
 
-  abbrev pending_one : Walk → Walk
+  abbrev pub pending_one : Walk → Walk
   pending_one w = record w { held = record (settled s.rules w.held) { pending = Some (rule.id, value ∷ []) }; waiting = idle }
 
   two_walk : (w : Walk) → Stands w → walked s.rules [] w (long_word long) ≡ pending_none w
@@ -220,3 +220,238 @@ module _ (s : Shape) (ones : list_all takes_one s.rules ≡ true) (own : have_ow
 
   owes : (w : Walk) → owed s ones own (pending_one w).held ≡ use_of w.held
   owes w = rw by_id refl
+
+-- ---- a whole command
+
+module _ (s : Shape) (ones : list_all takes_one s.rules ≡ true) (own : have_own_ids s.rules ≡ true) where
+  faults_cut : (before behind : List Text) (w : Walk)
+      → (walk_fault s [] w (before ++ behind) ≡ [])
+      ↔ ((walk_fault s [] w before ≡ []) × (walk_fault s [] (fold (walked s.rules []) w before) behind ≡ []))
+  unfolding walk_fault
+  faults_cut [] behind w = (λ e. (refl, e), λ both. both.1)
+  faults_cut (word ∷ before) behind w =
+      let rest = faults_cut before behind (walked s.rules [] w word) in
+      (
+        λ e.
+            let parts = or_none (turn_fault s [] w word) _ e in
+            let cut = rest.0 parts.1 in
+            (none_or (turn_fault s [] w word) _ parts.0 cut.0, cut.1),
+        λ both.
+            let parts = or_none (turn_fault s [] w word) _ both.0 in
+            none_or (turn_fault s [] w word) _ parts.0 (rest.1 (parts.1, both.1)),
+      )
+
+  -- the faults behind the walk, by the matches
+  abbrev tail_fault : List Row → Kinds
+  tail_fault rows = or_else (defaults_fault rows s.rules) (check_fault s (fold with_default rows s.rules) false)
+
+  level_is : (words : List Text)
+      → (level_fault s [] nothing_held words false [] ≡ [])
+      ↔ (Passes s ones own (walk_from nothing_held) words
+      × (tail_fault (rows_at s.rules (fold (walked s.rules []) (walk_from nothing_held) words)) ≡ []))
+  level_is words =
+      let end = (fold (walked s.rules []) (walk_from nothing_held) words).held in
+      (
+        λ e.
+            let first = or_none (walk_fault s [] (walk_from nothing_held) words) _ e in
+            let second = or_none (owed s ones own end) _ first.1 in
+            ((first.0, second.0), second.1),
+        λ both.
+            none_or (walk_fault s [] (walk_from nothing_held) words) _ both.0.0 (none_or (owed s ones own end) _ both.0.1 both.1),
+      )
+
+  -- walks with the same matches, of which one passes where the other does, have a fault or none together
+  same_level : (one two : List Text)
+      → (Passes s ones own (walk_from nothing_held) one ↔ Passes s ones own (walk_from nothing_held) two)
+      → rows_at s.rules (fold (walked s.rules []) (walk_from nothing_held) one)
+      ≡ rows_at s.rules (fold (walked s.rules []) (walk_from nothing_held) two)
+      → (level_fault s [] nothing_held one false [] ≡ []) ↔ (level_fault s [] nothing_held two false [] ≡ [])
+  same_level one two passes rows = (
+    λ e.
+        let both = (level_is one).0 e in
+        (level_is two).1 (passes.0 both.0, ap tail_fault (sym rows) ∙ both.1),
+    λ e.
+        let both = (level_is two).0 e in
+        (level_is one).1 (passes.1 both.0, ap tail_fault rows ∙ both.1),
+  )
+
+  module _ (rule : Rule) (long value : Text) (found : arg_by_long s.rules long ≡ Some rule) (valued : takes_values rule ≡ true)
+    (some : 0 < length long) (lacks : ¬ (Contains long 61)) (value_plain : IsPlain value) (behind : List Text) (w : Walk)
+    (stand : Stands w) where
+
+    abbrev one : Walk
+    one = behind_one s ones own rule long value found valued some lacks value_plain w
+
+    abbrev waiting_one : Walk
+    waiting_one = pending_none s ones own rule long value found valued some lacks value_plain w
+
+    abbrev two : Walk
+    two = pending_one s ones own rule long value found valued some lacks value_plain w
+
+    one_is : walked s.rules [] w (attached long value) ≡ one
+    one_is = one_walk s ones own rule long value found valued some lacks value_plain w stand
+
+    waiting_is : walked s.rules [] w (long_word long) ≡ waiting_one
+    waiting_is = two_walk s ones own rule long value found valued some lacks value_plain w stand
+
+    two_is : walked s.rules [] waiting_one value ≡ two
+    two_is = value_walk s ones own rule long value found valued some lacks value_plain w stand
+
+    rests_is : rested s ones own two ≡ one
+    rests_is = settles s ones own rule long value found valued some lacks value_plain w
+
+    goes : GoesOn s ones own two behind
+    goes = goes_on s ones own behind two stand.still tt
+
+    -- what passes and what is matched from here on, where the value is behind `=`
+    one_passes : Passes s ones own w (attached long value ∷ behind)
+        ↔ ((owed s ones own w.held ≡ []) × (owed s ones own two.held ≡ []) × Passes s ones own one behind)
+    unfolding walk_fault
+    one_passes =
+        let turn = one_turn s ones own rule long value found valued some lacks value_plain w stand in
+        let uses = owes s ones own rule long value found valued some lacks value_plain w in
+        (
+          λ p.
+              let parts = or_none (turn_fault s [] w (attached long value)) _ p.0 in
+              let first = or_none (or_else (owed s ones own w.held) _) [] (sym turn ∙ parts.0) in
+              let both = or_none (owed s ones own w.held) _ first.0 in
+              (both.0, uses ∙ both.1, subst (λ (v : Walk). Passes s ones own v behind) one_is (parts.1, p.1)),
+          λ p.
+              let here = turn ∙ none_or (or_else (owed s ones own w.held) _) [] (none_or (owed s ones own w.held) _ p.0 (sym uses ∙ p.1)) refl in
+              let rest = subst (λ (v : Walk). Passes s ones own v behind) (sym one_is) p.2 in
+              (none_or (turn_fault s [] w (attached long value)) _ here rest.0, rest.1),
+        )
+
+    -- and where it is the next word
+    two_passes : Passes s ones own w (long_word long ∷ value ∷ behind)
+        ↔ ((owed s ones own w.held ≡ []) × Passes s ones own two behind)
+    unfolding walk_fault
+    two_passes =
+        let turn = two_turn s ones own rule long value found valued some lacks value_plain w stand in
+        let next_turn = value_turn s ones own rule long value found valued some lacks value_plain w stand in
+        (
+          λ p.
+              let parts = or_none (turn_fault s [] w (long_word long)) _ p.0 in
+              let first = or_none (owed s ones own w.held) [] (sym turn ∙ parts.0) in
+              let waiting = subst (λ (v : Walk). Passes s ones own v (value ∷ behind)) waiting_is (parts.1, p.1) in
+              let rest = or_none (turn_fault s [] waiting_one value) _ waiting.0 in
+              (first.0, subst (λ (v : Walk). Passes s ones own v behind) two_is (rest.1, waiting.1)),
+          λ p.
+              let here = turn ∙ none_or (owed s ones own w.held) [] p.0 refl in
+              let rest = subst (λ (v : Walk). Passes s ones own v behind) (sym two_is) p.1 in
+              let waiting = subst (λ (v : Walk). Passes s ones own v (value ∷ behind)) (sym waiting_is)
+              (none_or (turn_fault s [] waiting_one value) _ next_turn rest.0, rest.1) in
+              (none_or (turn_fault s [] w (long_word long)) _ here waiting.0, waiting.1),
+        )
+
+    pub same_passes : Passes s ones own w (attached long value ∷ behind) ↔ Passes s ones own w (long_word long ∷ value ∷ behind)
+    same_passes = (
+      λ p.
+          let parts = one_passes.0 p in
+          two_passes.1 (parts.0, goes.passes.1 (parts.1, subst (λ (v : Walk). Passes s ones own v behind) (sym rests_is) parts.2)),
+      λ p.
+          let parts = two_passes.0 p in
+          let rest = goes.passes.0 parts.1 in
+          one_passes.1 (parts.0, rest.0, subst (λ (v : Walk). Passes s ones own v behind) rests_is rest.1),
+    )
+
+    pub same_rows : rows_at s.rules (fold (walked s.rules []) w (attached long value ∷ behind))
+        ≡ rows_at s.rules (fold (walked s.rules []) w (long_word long ∷ value ∷ behind))
+    same_rows =
+        let rows = λ (v : Walk). rows_at s.rules (fold (walked s.rules []) v behind) in
+        let next_rows = λ (v : Walk). rows_at s.rules (fold (walked s.rules []) v (value ∷ behind)) in
+        ap rows one_is ∙ ap rows (sym rests_is) ∙ sym goes.rows ∙ ap rows (sym two_is) ∙ ap next_rows (sym waiting_is)
+
+  -- the same behind other words
+  pub same_behind : (before one two : List Text)
+      → (Passes s ones own (fold (walked s.rules []) (walk_from nothing_held) before) one
+      ↔ Passes s ones own (fold (walked s.rules []) (walk_from nothing_held) before) two)
+      → Passes s ones own (walk_from nothing_held) (before ++ one) ↔ Passes s ones own (walk_from nothing_held) (before ++ two)
+  same_behind before one two passes = (over one two passes.0, over two one passes.1)
+    where
+      over : (one two : List Text)
+          → (Passes s ones own (fold (walked s.rules []) (walk_from nothing_held) before) one
+          → Passes s ones own (fold (walked s.rules []) (walk_from nothing_held) before) two)
+          → Passes s ones own (walk_from nothing_held) (before ++ one) → Passes s ones own (walk_from nothing_held) (before ++ two)
+      over one two from p =
+          let first = fold-append (walked s.rules []) (walk_from nothing_held) before one in
+          let second = fold-append (walked s.rules []) (walk_from nothing_held) before two in
+          let cut = (faults_cut before one (walk_from nothing_held)).0 p.0 in
+          let next = from (cut.1, ap (λ (v : Walk). owed s ones own v.held) (sym first) ∙ p.1) in
+          (
+            (faults_cut before two (walk_from nothing_held)).1 (cut.0, next.0),
+            ap (λ (v : Walk). owed s ones own v.held) second ∙ next.1,
+          )
+
+-- ---- the command
+
+entered_none : (a : App) → a.subs ≡ [] → (stop : Option (Text × List Text)) → entered a stop ≡ None
+entered_none a alone None = refl
+entered_none a alone (Some p) = rw alone refl
+
+entered_fault_none : (a : App) → a.subs ≡ [] → (stop : Option (Text × List Text)) → entered_fault a stop ≡ []
+entered_fault_none a alone None = refl
+entered_fault_none a alone (Some p) = rw alone refl
+
+built_is : (a : App) → a.subs ≡ [] → (words : List Text) → built_fault a nothing_held words ≡ level_fault a.top [] nothing_held words false []
+built_is a alone words =
+    let names : names_of a ≡ [] = ap (map label_of) alone in
+    rw (
+      entered_none a alone (walk a.top.rules (names_of a) nothing_held words).stopped,
+      entered_fault_none a alone (walk a.top.rules (names_of a) nothing_held words).stopped,
+      names
+    ) refl
+
+same_taken : (one two : Kinds) (found found' : List Row) → ((one ≡ []) ↔ (two ≡ [])) → found ≡ found'
+    → if_taken one found ≡ if_taken two found'
+same_taken [] [] found found' both same = ap Some same
+same_taken (kind ∷ kinds) (other ∷ others) found found' both same = refl
+same_taken [] (other ∷ others) found found' both same = let wrong = both.0 refl in absurd cc
+same_taken (kind ∷ kinds) [] found found' both same = let wrong = both.1 refl in absurd cc
+
+pub equals_same : (command : App) → Parts command → (name long value : Text) (before behind : List Text) → NamesValue command long
+    → IsPlain value → LackDashes before
+    → matched command (name ∷ (before ++ attached long value ∷ behind)) ≡ matched command (name ∷ (before ++ long_word long ∷ value ∷ behind))
+unfolding matched
+equals_same command p name long value before behind n value_plain lack =
+    same_taken _ _ _ _ (
+      λ e. (is two_words) ∙ levels.0 (sym (is one_words) ∙ e),
+      λ e. (is one_words) ∙ levels.1 (sym (is two_words) ∙ e),
+    ) (
+      matches_are command p name one_words
+      ∙ ap (λ (rows : List Row). fold with_default rows (rules_of command)) rows
+      ∙ sym (matches_are command p name two_words)
+    )
+  where
+    s : Shape
+    s = (built command).top
+
+    one_words : List Text
+    one_words = before ++ attached long value ∷ behind
+
+    two_words : List Text
+    two_words = before ++ long_word long ∷ value ∷ behind
+
+    at : Walk
+    at = fold (walked (rules_of command) []) (walk_from nothing_held) before
+
+    stand : Stands at
+    stand = stands (rules_of command) p.ones p.own before (walk_from nothing_held) lack (record { still = refl; before = refl; place = omega arith })
+
+    is : (words : List Text) → fault_of command (name ∷ words) ≡ level_fault (built command).top [] nothing_held words false []
+    is words =
+        ap (built_fault (built command) nothing_held) (words_behind command p name words) ∙ built_is (built command) p.alone words
+
+    rows : rows_at (rules_of command) (fold (walked (rules_of command) []) (walk_from nothing_held) one_words)
+        ≡ rows_at (rules_of command) (fold (walked (rules_of command) []) (walk_from nothing_held) two_words)
+    rows =
+        ap (rows_at (rules_of command)) (fold-append (walked (rules_of command) []) (walk_from nothing_held) before (attached long value ∷ behind))
+        ∙ same_rows s p.ones p.own n.option long value n.found n.valued n.some n.lacks value_plain behind at stand
+        ∙ ap (rows_at (rules_of command)) (sym (fold-append (walked (rules_of command) []) (walk_from nothing_held) before (long_word long ∷ value ∷ behind)))
+
+    levels : (level_fault (built command).top [] nothing_held one_words false [] ≡ [])
+        ↔ (level_fault (built command).top [] nothing_held two_words false [] ≡ [])
+    levels =
+        same_level s p.ones p.own one_words two_words
+        (same_behind s p.ones p.own before (attached long value ∷ behind) (long_word long ∷ value ∷ behind)
+        (same_passes s p.ones p.own n.option long value n.found n.valued n.some n.lacks value_plain behind at stand)) rows
