@@ -1,54 +1,23 @@
 -- What an accepted walk comes to: each word that goes to a positional finds one, and words before `--` leave the walk as it stood.
-use Rattle.std.proofs.Common.{◌≡◌, ◌⊎◌, ℕ, ◌+◌, ◌-◌, ◌<◌, ◌≤◌, zero, suc, Bool, cond, true, false, List, [], ◌∷◌, ◌++◌, Option, Some, None}
+use Rattle.std.proofs.Common.{◌≡◌, ℕ, ◌+◌, ◌<◌, ◌≤◌, zero, suc, Bool, cond, true, false, List, [], ◌∷◌, Option, Some, None}
 use Rattle.std.proofs.Common.{refl, sym, ap, subst, ◌∙◌, inl, inr, arith, drop, true≢false}
-use Rattle.std.specs.Prelude.{◌≢◌, ◌==◌, ◌&&◌, ◌||◌, not, is_some, unwrap_or, nat_lt, min, fold, find}
-use Rattle.std.specs.List.{AllByRecursion, filter, list_all}
+use Rattle.std.specs.Prelude.{◌≢◌, ◌==◌, is_some, unwrap_or, nat_lt, min, fold, find}
+use Rattle.std.specs.List.{filter, list_all}
 use Rattle.std.specs.Option.{option_map_or}
 use Rattle.std.specs.Str.{bytes_eq}
-use Rattle.std.proofs.lemmas.Bool.{and_parts, both_ways, cases_Bool, false_from_ne_true, eqb-true, eqb-false, ltb-true}
+use Rattle.std.proofs.lemmas.Bool.{and_parts, both_ways, cases_Bool, false_from_ne_true, eq-eqb, eqb-true, ltb-true}
 use Rattle.std.proofs.lemmas.Slice.Eq.{bytes_eq-Decides}
-use Rattle.clap.specs.Faults.{positional_fault, step_fault, stray_fault, turn_fault, walk_fault, word_fault}
+use Rattle.clap.specs.Faults.{step_fault, stray_fault, turn_fault, walk_fault, word_fault}
 use Rattle.clap.specs.Kinds.{Kinds, or_else}
 use Rattle.clap.specs.Lexer.{long_of, short_of, usize_max}
 use Rattle.clap.specs.Simple.{Shape}
-use Rattle.clap.specs.Walk.{
-  Held,
-  Outcome,
-  Rule,
-  Step,
-  Text,
-  Waiting,
-  Walk,
-  done,
-  idle,
-  next,
-  option,
-  plain,
-  positional,
-  refused,
-  subcommand,
-  trailing,
-  value,
-  waits,
-  after_flag,
-  after_step,
-  arg_by_index,
-  bundle,
-  arg_by_long,
-  is_multiple,
-  long_met,
-  long_or_other,
-  next_position,
-  plain_word,
-  short_or_plain,
-  to_positional,
-  walked,
-  word_met,
-}
+use Rattle.clap.specs.Walk.{Held, Outcome, Rule, Step, Text, Waiting, Walk, done, idle, next, option, plain, positional, refused}
+use Rattle.clap.specs.Walk.{subcommand, trailing, value, waits, after_flag, after_step, arg_by_index, bundle, arg_by_long}
+use Rattle.clap.specs.Walk.{is_multiple, long_met, long_or_other, plain_word, short_or_plain, to_positional, walked, word_met}
 use Rattle.word_laws.specs.Laws.{LackDashes}
 use Rattle.word_laws.specs.Positionals.{are_counted, dashes, have_own_ids, positionals, takes_all, takes_one}
 use Rattle.word_laws.proofs.Turns.{Fit}
-use Rattle.word_laws.proofs.Steps.{Follow, Goes, follow_once, gone, gone_goes, met_value, stray, taken, takes_single, goes_rest}
+use Rattle.word_laws.proofs.Steps.{Follow, Goes, follow_once, gone, gone_goes, met_value, taken, takes_single}
 
 -- ---- faults
 
@@ -90,9 +59,9 @@ module _ (s : Shape) where
               let rest = (step_passes w word words still passes).1 in
               let step = taken s.rules ones own rule w word words follow.0 still goes in
               rw once (
-                walk_fits rules words (gone s.rules rule word w) (follow_once s.rules ones own rule rules w word once follow) refl
-                (gone_goes s.rules ones own rule word w follow.0 words goes)
-                (subst (λ (v : Walk). walk_fault s [] v words ≡ []) step rest)
+              walk_fits rules words (gone s.rules rule word w) (follow_once s.rules ones own rule rules w word once follow) refl
+              (gone_goes s.rules ones own rule word w follow.0 words goes)
+              (subst (λ (v : Walk). walk_fault s [] v words ≡ []) step rest)
               )
         ]
 
@@ -139,13 +108,6 @@ index_is : (place : ℕ) (o : Option ℕ) → 1 ≤ place → (unwrap_or o 0 == 
 index_is place None some e = let zero_is = eqb-true 0 place e in absurd (omega arith)
 index_is place (Some k) some e = ap Some (eqb-true k place e)
 
-same_number : (k : ℕ) → (k == k) ≡ true
-same_number k = by (k == k) refl
-  where
-    by : (b : Bool) → (k == k) ≡ b → b ≡ true
-    by true e = refl
-    by false e = absurd (eqb-false k k e refl)
-
 later_number : (k n : ℕ) → (k == (k + suc n)) ≡ false
 later_number k n = false_from_ne_true (k == (k + suc n)) (λ same. let e = eqb-true k (k + suc n) same in absurd (omega arith))
 
@@ -165,7 +127,7 @@ nth_place start (rule ∷ rules) some counted zero =
     let parts = counted_parts start rule rules some counted in
     let place : start + 0 ≡ start = omega arith in
     let here : at_place (start + 0) rule ≡ true =
-    ap (λ o. option_map_or (λ k. k == (start + 0)) o false) parts.0 ∙ ap (λ m. start == m) place ∙ same_number start in
+    ap (λ o. option_map_or (λ k. k == (start + 0)) o false) parts.0 ∙ ap (λ m. start == m) place ∙ eq-eqb start start refl in
     rw here refl
 nth_place start (rule ∷ rules) some counted (suc n) =
     let parts = counted_parts start rule rules some counted in
@@ -199,13 +161,12 @@ follow_from c counted n [] is =
     find_filtered (at_place (1 + n)) (λ rule. is_some rule.index) (has_place (1 + n)) c
     ∙ nth_place 1 (positionals c) (omega arith) counted n ∙ ap head_of is
 follow_from c counted n (rule ∷ rules) is =
-    let next_is : 1 + n + 1 ≡ 1 + suc n = omega arith in
-    (
+    let next_is : 1 + n + 1 ≡ 1 + suc n = omega arith in (
       find_filtered (at_place (1 + n)) (λ rule. is_some rule.index) (has_place (1 + n)) c
-      ∙ nth_place 1 (positionals c) (omega arith) counted n ∙ ap head_of is,
+          ∙ nth_place 1 (positionals c) (omega arith) counted n ∙ ap head_of is,
       nth_small 1 (positionals c) (omega arith) counted n rule rules is,
       subst (λ place. Follow c place rules) (sym next_is)
-      (follow_from c counted (suc n) rules (drop_more n (positionals c) rule rules is)),
+          (follow_from c counted (suc n) rules (drop_more n (positionals c) rule rules is)),
     )
 
 -- ---- words before the first `--`
@@ -279,8 +240,9 @@ module _ (c : List Rule) (ones : list_all takes_one c ≡ true) (own : have_own_
   stands_step w word differ s =
       subst Stands (sym (walked_is c w word s.still))
       (stands_behind w word _ _ (
-        subst (λ b. Flat (word_met c [] b w.waiting w.position word w.held).1) (sym s.before)
-        (word_flat c word w.waiting w.position w.held (false_from_ne_true (bytes_eq word dashes) (λ same. differ ((bytes_eq-Decides word dashes).0 same))))
+      subst (λ b. Flat (word_met c [] b w.waiting w.position word w.held).1) (sym s.before)
+      (word_flat c word w.waiting w.position w.held
+      (false_from_ne_true (bytes_eq word dashes) (λ same. differ ((bytes_eq-Decides word dashes).0 same))))
       ) s)
 
   pub stands : (words : List Text) (w : Walk) → LackDashes words → Stands w → Stands (fold (walked c []) w words)

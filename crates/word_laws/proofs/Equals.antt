@@ -1,79 +1,40 @@
 -- A value behind `=` comes to the same as one that is the next word.
-use Rattle.std.proofs.Common.{◌≡◌, ◌⊎◌, ℕ, ◌<◌, zero, suc, Bool, cond, true, false, List, [], ◌∷◌, ◌++◌, Option, Some, None}
-use Rattle.std.proofs.Common.{refl, sym, ap, subst, ◌∙◌, inl, inr, arith, length, map}
-use Rattle.std.specs.Prelude.{◌↔◌, ◌≢◌, ◌==◌, ◌&&◌, ◌||◌, not, is_some, nat_lt, fold, Contains}
-use Rattle.std.specs.List.{AllByRecursion, list_all}
+use Rattle.std.proofs.Common.{◌≡◌, ◌<◌, zero, suc, true, false, List, [], ◌∷◌, ◌++◌, Option, Some, None}
+use Rattle.std.proofs.Common.{refl, sym, ap, subst, ◌∙◌, arith, length, map}
+use Rattle.std.specs.Prelude.{◌↔◌, ◌==◌, ◌&&◌, not, is_some, nat_lt, fold}
+use Rattle.std.specs.List.{list_all, list_any}
+use Rattle.std.specs.Option.{option_map_or}
 use Rattle.std.specs.Str.{bytes_eq}
-use Rattle.std.proofs.lemmas.Bool.{cases_Bool, eqb-true, or_parts}
+use Rattle.std.proofs.lemmas.Bool.{and_parts, both_ways, eq-eqb, eqb-true, not-false, not-true, or_parts}
 use Rattle.std.proofs.lemmas.List.Sums.{fold-append}
 use Rattle.clap.specs.Facts.{unwrap_or_range}
-use Rattle.clap.specs.Faults.{
-  built_fault,
-  check_fault,
-  defaults_fault,
-  entered_fault,
-  fault_of,
-  level_fault,
-  settle_fault,
-  turn_fault,
-  use_fault,
-  walk_fault,
-}
+use Rattle.clap.specs.Faults.{built_fault, check_fault, defaults_fault, entered_fault, fault_of, level_fault, turn_fault}
+use Rattle.clap.specs.Faults.{use_fault, walk_fault}
 use Rattle.clap.specs.Kinds.{Kinds, or_else}
-use Rattle.clap.specs.Lexer.{long_of, short_of}
-use Rattle.clap.specs.Simple.{App, Shape, argument_words, built, entered, label_of, matches_of, names_of}
-use Rattle.clap.specs.Walk.{
-  Held,
-  Names,
-  Row,
-  Rule,
-  Text,
-  Waiting,
-  Walk,
-  idle,
-  option,
-  positional,
-  arg_by_id,
-  arg_by_long,
-  has_long,
-  most_values,
-  nothing_held,
-  reacted,
-  settled,
-  subcommand_met,
-  takes_several,
-  takes_values,
-  used_by_id,
-  walk,
-  walk_from,
-  walked,
-  with_default,
-}
+use Rattle.clap.specs.Lexer.{long_of}
+use Rattle.clap.specs.Simple.{App, Shape, built, entered, label_of, names_of}
+use Rattle.clap.specs.Walk.{Held, Row, Rule, Text, Walk, idle, option, arg_by_id, arg_by_long, has_long, is_empty, most_values}
+use Rattle.clap.specs.Walk.{nothing_held, reacted, settled, takes_several, takes_values, walk, walk_from, walked, with_default}
 use Rattle.clap.proofs.CutLemmas.{Lacks, after_first-at, before_first-Lacks, before_first-at, list_any-Lacks, list_any-at}
 use Rattle.command_words.specs.Commands.{if_taken, matched}
-use Rattle.word_laws.specs.Laws.{IsSingle, LackDashes, NamesValue, attached, long_word}
+use Rattle.word_laws.specs.Laws.{LackDashes, attached, long_word, names_value}
 use Rattle.word_laws.specs.Positionals.{dashes, have_own_ids, rules_of, takes_one, IsPlain}
 use Rattle.word_laws.proofs.Rows.{same_text}
-use Rattle.word_laws.proofs.Turns.{not_true}
-use Rattle.word_laws.proofs.Steps.{found_again, plain_long, plain_not_dashes, plain_short, rows_at, takes_single}
+use Rattle.word_laws.proofs.Steps.{found_again, no_subcommand, plain_long, plain_not_dashes, plain_short, rows_at, takes_single}
 use Rattle.word_laws.proofs.Accepted.{Stands, or_none, stands, walked_is}
 use Rattle.word_laws.proofs.Settling.{GoesOn, Passes, goes_on, none_or, owed, rested}
-use Rattle.word_laws.proofs.InOrder.{Parts, matches_are, words_behind, no_names}
+use Rattle.word_laws.proofs.InOrder.{Parts, matches_are, words_behind}
 
 -- ---- the words
 
-lacks_is : (text : Text) → ¬ (Contains text 61) → Lacks 61 text
+lacks_is : (text : Text) → list_any (λ x. x == 61) text ≡ false → Lacks 61 text
 lacks_is [] none place within = absurd (omega arith)
-lacks_is (byte ∷ bytes) none zero within = λ same. none (zero, omega arith, same)
+lacks_is (byte ∷ bytes) none zero within =
+    let parts = or_parts (byte == 61) _ none in λ same. both_ways (byte == 61) parts.0 (eq-eqb byte 61 same)
 lacks_is (byte ∷ bytes) none (suc place) within =
-    lacks_is bytes (λ has. none (suc has.0, omega (arith, has.1), has.2)) place (omega arith)
+    let parts = or_parts (byte == 61) _ none in lacks_is bytes parts.1 place (omega arith)
 
-no_subcommand : (waiting : Waiting) (word : Text) → subcommand_met [] waiting word ≡ None
-no_subcommand idle word = refl
-no_subcommand positional word = refl
-no_subcommand (option id) word = refl
-
-module _ (long value : Text) (some : 0 < length long) (lacks : ¬ (Contains long 61)) where
+module _ (long value : Text) (some : 0 < length long) (lacks : list_any (λ x. x == 61) long ≡ false) where
   long_not_dashes : bytes_eq (long_word long) dashes ≡ false
   long_not_dashes = by long some
     where
@@ -104,7 +65,9 @@ module _ (long value : Text) (some : 0 < length long) (lacks : ¬ (Contains long
       by : (text : Text) → 0 < length text → Lacks 61 text → long_of (attached text value) ≡ Some (text, Some value)
       by [] one lack = absurd (omega arith)
       by (byte ∷ bytes) one lack =
-          rw (before_first-at 61 (byte ∷ bytes) value lack, list_any-at 61 (byte ∷ bytes) value, after_first-at 61 (byte ∷ bytes) value lack) refl
+          let front = before_first-at 61 (byte ∷ bytes) value lack in
+          let behind = after_first-at 61 (byte ∷ bytes) value lack in
+          rw (front, list_any-at 61 (byte ∷ bytes) value, behind) refl
 
 -- ---- one option
 
@@ -112,17 +75,12 @@ module _ (long value : Text) (some : 0 < length long) (lacks : ¬ (Contains long
 most_one : (rule : Rule) → takes_several rule ≡ false → nat_lt 1 (most_values rule) ≡ false
 most_one rule single =
     let both = or_parts (not ((unwrap_or_range rule.range).start_inclusive == most_values rule)) _ single in
-    let same = eqb-true (unwrap_or_range rule.range).start_inclusive (most_values rule) (not_false _ both.0) in
+    let same = eqb-true (unwrap_or_range rule.range).start_inclusive (most_values rule) (not-false _ both.0) in
     ap (nat_lt 1) (sym same) ∙ both.1
-  where
-    not_false : (b : Bool) → not b ≡ false → b ≡ true
-    not_false true e = refl
-    not_false false e = absurd cc
 
 module _ (s : Shape) (ones : list_all takes_one s.rules ≡ true) (own : have_own_ids s.rules ≡ true)
-  (rule : Rule) (long value : Text) (found : arg_by_long s.rules long ≡ Some rule) (valued : takes_values rule ≡ true)
-  (some : 0 < length long) (lacks : ¬ (Contains long 61)) (value_plain : IsPlain value) where
-
+    (rule : Rule) (long value : Text) (found : arg_by_long s.rules long ≡ Some rule) (valued : takes_values rule ≡ true)
+    (some : 0 < length long) (lacks : list_any (λ x. x == 61) long ≡ false) (value_plain : IsPlain value) where
   by_id : arg_by_id s.rules rule.id ≡ Some rule
   by_id = found_again (λ a. not (is_some a.index) && has_long a long) s.rules rule own found
 
@@ -143,7 +101,7 @@ module _ (s : Shape) (ones : list_all takes_one s.rules ≡ true) (own : have_ow
         attached_not_dashes long value some lacks,
         attached_is long value some lacks,
         found,
-        valued
+        valued,
       ) refl
 
   one_turn : (w : Walk) → Stands w
@@ -156,7 +114,7 @@ module _ (s : Shape) (ones : list_all takes_one s.rules ≡ true) (own : have_ow
         attached_not_dashes long value some lacks,
         attached_is long value some lacks,
         found,
-        valued
+        valued,
       ) refl
 
   -- the walk behind `--name`, and behind the value
@@ -175,7 +133,7 @@ module _ (s : Shape) (ones : list_all takes_one s.rules ≡ true) (own : have_ow
         long_not_dashes long value some lacks,
         long_is long value some lacks,
         found,
-        valued
+        valued,
       ) refl
 
   two_turn : (w : Walk) → Stands w → turn_fault s [] w (long_word long) ≡ or_else (owed s ones own w.held) []
@@ -187,7 +145,7 @@ module _ (s : Shape) (ones : list_all takes_one s.rules ≡ true) (own : have_ow
         long_not_dashes long value some lacks,
         long_is long value some lacks,
         found,
-        valued
+        valued,
       ) refl
 
   value_walk : (w : Walk) → Stands w → walked s.rules [] (pending_none w) value ≡ pending_one w
@@ -201,7 +159,7 @@ module _ (s : Shape) (ones : list_all takes_one s.rules ≡ true) (own : have_ow
         plain_short value value_plain,
         by_id,
         same_text rule.id,
-        most_one rule single
+        most_one rule single,
       ) refl
 
   value_turn : (w : Walk) → Stands w → turn_fault s [] (pending_none w) value ≡ []
@@ -211,7 +169,7 @@ module _ (s : Shape) (ones : list_all takes_one s.rules ≡ true) (own : have_ow
         stand.before,
         plain_not_dashes value value_plain,
         plain_long value value_plain,
-        plain_short value value_plain
+        plain_short value value_plain,
       ) refl
 
   -- settled, the two come to the same
@@ -230,8 +188,7 @@ module _ (s : Shape) (ones : list_all takes_one s.rules ≡ true) (own : have_ow
   unfolding walk_fault
   faults_cut [] behind w = (λ e. (refl, e), λ both. both.1)
   faults_cut (word ∷ before) behind w =
-      let rest = faults_cut before behind (walked s.rules [] w word) in
-      (
+      let rest = faults_cut before behind (walked s.rules [] w word) in (
         λ e.
             let parts = or_none (turn_fault s [] w word) _ e in
             let cut = rest.0 parts.1 in
@@ -250,8 +207,7 @@ module _ (s : Shape) (ones : list_all takes_one s.rules ≡ true) (own : have_ow
       ↔ (Passes s ones own (walk_from nothing_held) words
       × (tail_fault (rows_at s.rules (fold (walked s.rules []) (walk_from nothing_held) words)) ≡ []))
   level_is words =
-      let end = (fold (walked s.rules []) (walk_from nothing_held) words).held in
-      (
+      let end = (fold (walked s.rules []) (walk_from nothing_held) words).held in (
         λ e.
             let first = or_none (walk_fault s [] (walk_from nothing_held) words) _ e in
             let second = or_none (owed s ones own end) _ first.1 in
@@ -276,9 +232,8 @@ module _ (s : Shape) (ones : list_all takes_one s.rules ≡ true) (own : have_ow
   )
 
   module _ (rule : Rule) (long value : Text) (found : arg_by_long s.rules long ≡ Some rule) (valued : takes_values rule ≡ true)
-    (some : 0 < length long) (lacks : ¬ (Contains long 61)) (value_plain : IsPlain value) (behind : List Text) (w : Walk)
-    (stand : Stands w) where
-
+      (some : 0 < length long) (lacks : list_any (λ x. x == 61) long ≡ false) (value_plain : IsPlain value) (behind : List Text) (w : Walk)
+      (stand : Stands w) where
     abbrev one : Walk
     one = behind_one s ones own rule long value found valued some lacks value_plain w
 
@@ -309,15 +264,15 @@ module _ (s : Shape) (ones : list_all takes_one s.rules ≡ true) (own : have_ow
     unfolding walk_fault
     one_passes =
         let turn = one_turn s ones own rule long value found valued some lacks value_plain w stand in
-        let uses = owes s ones own rule long value found valued some lacks value_plain w in
-        (
+        let uses = owes s ones own rule long value found valued some lacks value_plain w in (
           λ p.
               let parts = or_none (turn_fault s [] w (attached long value)) _ p.0 in
               let first = or_none (or_else (owed s ones own w.held) _) [] (sym turn ∙ parts.0) in
               let both = or_none (owed s ones own w.held) _ first.0 in
               (both.0, uses ∙ both.1, subst (λ (v : Walk). Passes s ones own v behind) one_is (parts.1, p.1)),
           λ p.
-              let here = turn ∙ none_or (or_else (owed s ones own w.held) _) [] (none_or (owed s ones own w.held) _ p.0 (sym uses ∙ p.1)) refl in
+              let both = none_or (owed s ones own w.held) _ p.0 (sym uses ∙ p.1) in
+              let here = turn ∙ none_or (or_else (owed s ones own w.held) _) [] both refl in
               let rest = subst (λ (v : Walk). Passes s ones own v behind) (sym one_is) p.2 in
               (none_or (turn_fault s [] w (attached long value)) _ here rest.0, rest.1),
         )
@@ -328,8 +283,7 @@ module _ (s : Shape) (ones : list_all takes_one s.rules ≡ true) (own : have_ow
     unfolding walk_fault
     two_passes =
         let turn = two_turn s ones own rule long value found valued some lacks value_plain w stand in
-        let next_turn = value_turn s ones own rule long value found valued some lacks value_plain w stand in
-        (
+        let next_turn = value_turn s ones own rule long value found valued some lacks value_plain w stand in (
           λ p.
               let parts = or_none (turn_fault s [] w (long_word long)) _ p.0 in
               let first = or_none (owed s ones own w.held) [] (sym turn ∙ parts.0) in
@@ -377,8 +331,7 @@ module _ (s : Shape) (ones : list_all takes_one s.rules ≡ true) (own : have_ow
           let first = fold-append (walked s.rules []) (walk_from nothing_held) before one in
           let second = fold-append (walked s.rules []) (walk_from nothing_held) before two in
           let cut = (faults_cut before one (walk_from nothing_held)).0 p.0 in
-          let next = from (cut.1, ap (λ (v : Walk). owed s ones own v.held) (sym first) ∙ p.1) in
-          (
+          let next = from (cut.1, ap (λ (v : Walk). owed s ones own v.held) (sym first) ∙ p.1) in (
             (faults_cut before two (walk_from nothing_held)).1 (cut.0, next.0),
             ap (λ (v : Walk). owed s ones own v.held) second ∙ next.1,
           )
@@ -393,13 +346,14 @@ entered_fault_none : (a : App) → a.subs ≡ [] → (stop : Option (Text × Lis
 entered_fault_none a alone None = refl
 entered_fault_none a alone (Some p) = rw alone refl
 
-built_is : (a : App) → a.subs ≡ [] → (words : List Text) → built_fault a nothing_held words ≡ level_fault a.top [] nothing_held words false []
+built_is : (a : App) → a.subs ≡ [] → (words : List Text)
+    → built_fault a nothing_held words ≡ level_fault a.top [] nothing_held words false []
 built_is a alone words =
     let names : names_of a ≡ [] = ap (map label_of) alone in
     rw (
       entered_none a alone (walk a.top.rules (names_of a) nothing_held words).stopped,
       entered_fault_none a alone (walk a.top.rules (names_of a) nothing_held words).stopped,
-      names
+      names,
     ) refl
 
 same_taken : (one two : Kinds) (found found' : List Row) → ((one ≡ []) ↔ (two ≡ [])) → found ≡ found'
@@ -409,20 +363,47 @@ same_taken (kind ∷ kinds) (other ∷ others) found found' both same = refl
 same_taken [] (other ∷ others) found found' both same = let wrong = both.0 refl in absurd cc
 same_taken (kind ∷ kinds) [] found found' both same = let wrong = both.1 refl in absurd cc
 
-pub equals_same : (command : App) → Parts command → (name long value : Text) (before behind : List Text) → NamesValue command long
-    → IsPlain value → LackDashes before
-    → matched command (name ∷ (before ++ attached long value ∷ behind)) ≡ matched command (name ∷ (before ++ long_word long ∷ value ∷ behind))
+-- the option that a long name names
+record NamesValue (command : App) (long : Text) : Type 0 where
+  pub rule : Rule
+  pub found : arg_by_long (rules_of command) long ≡ Some rule
+  pub valued : takes_values rule ≡ true
+  pub some : 0 < length long
+  pub lacks : list_any (λ x. x == 61) long ≡ false
+
+named : (command : App) (long : Text) → names_value command long ≡ true → NamesValue command long
+named command long e =
+    let both = and_parts (option_map_or takes_values (arg_by_long (rules_of command) long) false) _ e in
+    let rest = and_parts (not (is_empty long)) _ both.1 in
+    by (arg_by_long (rules_of command) long) refl both.0 (longer long rest.0) (not-true _ rest.1)
+  where
+    longer : (text : Text) → not (is_empty text) ≡ true → 0 < length text
+    longer [] some = absurd cc
+    longer (byte ∷ bytes) some = omega arith
+
+    by : (o : Option Rule) → arg_by_long (rules_of command) long ≡ o → option_map_or takes_values o false ≡ true → 0 < length long
+        → list_any (λ x. x == 61) long ≡ false → NamesValue command long
+    by None is valued some lacks = absurd cc
+    by (Some rule) is valued some lacks = record { rule = rule; found = is; valued = valued; some = some; lacks = lacks }
+
+pub equals_same : (command : App) → Parts command → (name long value : Text) (before behind : List Text)
+    → names_value command long ≡ true → IsPlain value → LackDashes before
+    → matched command (name ∷ (before ++ attached long value ∷ behind))
+    ≡ matched command (name ∷ (before ++ long_word long ∷ value ∷ behind))
 unfolding matched
-equals_same command p name long value before behind n value_plain lack =
+equals_same command p name long value before behind names value_plain lack =
     same_taken _ _ _ _ (
       λ e. (is two_words) ∙ levels.0 (sym (is one_words) ∙ e),
       λ e. (is one_words) ∙ levels.1 (sym (is two_words) ∙ e),
     ) (
-      matches_are command p name one_words
-      ∙ ap (λ (rows : List Row). fold with_default rows (rules_of command)) rows
-      ∙ sym (matches_are command p name two_words)
+    matches_are command p name one_words
+    ∙ ap (λ (rows : List Row). fold with_default rows (rules_of command)) rows
+    ∙ sym (matches_are command p name two_words)
     )
   where
+    n : NamesValue command long
+    n = named command long names
+
     s : Shape
     s = (built command).top
 
@@ -436,7 +417,9 @@ equals_same command p name long value before behind n value_plain lack =
     at = fold (walked (rules_of command) []) (walk_from nothing_held) before
 
     stand : Stands at
-    stand = stands (rules_of command) p.ones p.own before (walk_from nothing_held) lack (record { still = refl; before = refl; place = omega arith })
+    stand =
+        stands (rules_of command) p.ones p.own before (walk_from nothing_held) lack
+        (record { still = refl; before = refl; place = omega arith })
 
     is : (words : List Text) → fault_of command (name ∷ words) ≡ level_fault (built command).top [] nothing_held words false []
     is words =
@@ -445,13 +428,15 @@ equals_same command p name long value before behind n value_plain lack =
     rows : rows_at (rules_of command) (fold (walked (rules_of command) []) (walk_from nothing_held) one_words)
         ≡ rows_at (rules_of command) (fold (walked (rules_of command) []) (walk_from nothing_held) two_words)
     rows =
-        ap (rows_at (rules_of command)) (fold-append (walked (rules_of command) []) (walk_from nothing_held) before (attached long value ∷ behind))
-        ∙ same_rows s p.ones p.own n.option long value n.found n.valued n.some n.lacks value_plain behind at stand
-        ∙ ap (rows_at (rules_of command)) (sym (fold-append (walked (rules_of command) []) (walk_from nothing_held) before (long_word long ∷ value ∷ behind)))
+        ap (rows_at (rules_of command))
+        (fold-append (walked (rules_of command) []) (walk_from nothing_held) before (attached long value ∷ behind))
+        ∙ same_rows s p.ones p.own n.rule long value n.found n.valued n.some n.lacks value_plain behind at stand
+        ∙ ap (rows_at (rules_of command))
+        (sym (fold-append (walked (rules_of command) []) (walk_from nothing_held) before (long_word long ∷ value ∷ behind)))
 
     levels : (level_fault (built command).top [] nothing_held one_words false [] ≡ [])
         ↔ (level_fault (built command).top [] nothing_held two_words false [] ≡ [])
     levels =
         same_level s p.ones p.own one_words two_words
         (same_behind s p.ones p.own before (attached long value ∷ behind) (long_word long ∷ value ∷ behind)
-        (same_passes s p.ones p.own n.option long value n.found n.valued n.some n.lacks value_plain behind at stand)) rows
+        (same_passes s p.ones p.own n.rule long value n.found n.valued n.some n.lacks value_plain behind at stand)) rows

@@ -1,59 +1,21 @@
 -- Plain words, and words behind `--`, are the positionals of an accepted command.
-use Rattle.std.proofs.Common.{◌≡◌, ◌⊎◌, ℕ, ◌+◌, ◌-◌, ◌<◌, ◌≤◌, Bool, cond, true, false, List, [], ◌∷◌, ◌++◌, Option, Some, None}
-use Rattle.std.proofs.Common.{refl, sym, ap, subst, ◌∙◌, inl, inr, arith, drop, true≢false, map}
-use Rattle.std.specs.Prelude.{◌≢◌, ◌&&◌, not, is_some, fold}
-use Rattle.std.specs.List.{AllByRecursion, filter, list_all}
-use Rattle.std.specs.Str.{bytes_eq}
-use Rattle.std.proofs.lemmas.Bool.{and_parts, both_ways, cases_Bool, false_from_ne_true}
+use Rattle.std.proofs.Common.{◌≡◌, ℕ, ◌+◌, ◌-◌, true, false, List, [], ◌∷◌, ◌++◌, Option, Some, None}
+use Rattle.std.proofs.Common.{refl, sym, ap, subst, ◌∙◌, inl, inr, arith, map}
+use Rattle.std.specs.Prelude.{is_some, fold}
+use Rattle.std.specs.List.{AllByRecursion, list_all}
+use Rattle.std.proofs.lemmas.Bool.{and_parts, both_ways, not-true}
 use Rattle.std.proofs.lemmas.List.Sums.{fold-append}
-use Rattle.clap.specs.Faults.{built_fault, fault_of, level_fault, step_fault, turn_fault, walk_fault}
+use Rattle.clap.specs.Faults.{fault_of, turn_fault, walk_fault}
 use Rattle.clap.specs.Kinds.{Kinds}
-use Rattle.clap.specs.Simple.{App, Shape, argument_words, built, label_of, matches_of, names_of}
-use Rattle.clap.specs.Walk.{
-  Held,
-  Names,
-  Row,
-  Rule,
-  Step,
-  Text,
-  Waiting,
-  Walk,
-  idle,
-  option,
-  positional,
-  trailing,
-  value,
-  all_of,
-  arg_by_index,
-  finished,
-  nothing_held,
-  rows_after,
-  settled,
-  to_positional,
-  walk,
-  walk_from,
-  walked,
-  word_met,
-}
+use Rattle.clap.specs.Simple.{App, argument_words, built, label_of, matches_of, names_of}
+use Rattle.clap.specs.Walk.{Held, Names, Row, Rule, Text, Waiting, Walk, idle, option, positional, trailing, arg_by_index}
+use Rattle.clap.specs.Walk.{nothing_held, rows_after, settled, to_positional, walk_from, walked, word_met}
 use Rattle.command_words.specs.Commands.{if_taken, matched}
 use Rattle.word_laws.specs.Laws.{IsSingle, LackDashes, reached}
-use Rattle.word_laws.specs.Positionals.{
-  are_counted,
-  dashes,
-  from_place,
-  given,
-  have_own_ids,
-  is_single,
-  keeps_words,
-  positionals,
-  rules_of,
-  takes_one,
-  with_defaults,
-  IsPlain,
-  StandInOrder,
-}
-use Rattle.word_laws.proofs.Turns.{EndWith, Fit, HaveNone, empty_is, end_with, in_order, not_true, own_filtered}
-use Rattle.word_laws.proofs.Steps.{Follow, Goes, WaitsNot, goes_step, gone_goes, met_value, plain_met, plain_not_dashes, rows_at, single, stray, taken, walk_given}
+use Rattle.word_laws.specs.Positionals.{are_counted, dashes, from_place, given, have_own_ids, keeps_words, positionals, rules_of}
+use Rattle.word_laws.specs.Positionals.{takes_one, with_defaults, IsPlain, StandInOrder}
+use Rattle.word_laws.proofs.Turns.{EndWith, Fit, HaveNone, empty_is, end_with, in_order, own_filtered}
+use Rattle.word_laws.proofs.Steps.{Follow, Goes, WaitsNot, goes_step, gone_goes, met_value, rows_at, single, walk_given}
 use Rattle.word_laws.proofs.Accepted.{Stands, follow_from, or_none, stands, step_passes, turn_value, walk_fits, walked_is}
 
 -- ---- what the test of a command says
@@ -75,7 +37,7 @@ parts_of command single =
     let f = and_parts _ _ e.1 in
     record {
       alone = empty_is _ a.0;
-      named = not_true _ b.0;
+      named = not-true _ b.0;
       ones = d.0;
       own = e.0;
       keeps = f.0;
@@ -87,9 +49,6 @@ parts_of command single =
 taken_is : (kinds : Kinds) (found rows : List Row) → if_taken kinds found ≡ Some rows → (kinds ≡ []) × (found ≡ rows)
 taken_is [] found rows e = (refl, cc)
 taken_is (kind ∷ kinds) found rows e = absurd cc
-
-pub start : Walk
-start = walk_from nothing_held
 
 module _ (command : App) (p : Parts command) where
   pub no_names : names_of (built command) ≡ []
@@ -115,7 +74,8 @@ module _ (command : App) (p : Parts command) where
   -- the words of a command that is accepted pass, and these are its matches
   pub accepted : (name : Text) (words : List Text) (rows : List Row) → matched command (name ∷ words) ≡ Some rows
       → (walk_fault (built command).top [] (walk_from nothing_held) words ≡ [])
-      × (with_defaults (rules_of command) (rows_at (rules_of command) (fold (walked (rules_of command) []) (walk_from nothing_held) words)) ≡ rows)
+      × (with_defaults (rules_of command) (rows_at (rules_of command) (fold (walked (rules_of command) []) (walk_from nothing_held) words))
+      ≡ rows)
   unfolding matched
   accepted name words rows e =
       let both = taken_is (fault_of command (name ∷ words)) _ rows e in
@@ -147,7 +107,8 @@ module _ (command : App) (p : Parts command) where
       let c = rules_of command in
       let both = accepted name words rows e in
       let goes : Goes (walk_from nothing_held) words = inr (tt, plain) in
-      stand words rows _ (walk_fits (built command).top p.ones p.own (positionals c) words (walk_from nothing_held) first_place refl goes both.0)
+      stand words rows _
+      (walk_fits (built command).top p.ones p.own (positionals c) words (walk_from nothing_held) first_place refl goes both.0)
       (walk_given c p.ones p.own (positionals c) words (walk_from nothing_held) first_place refl goes) both.1
 
 -- ---- `--`
@@ -167,7 +128,7 @@ dashes_step c w still before =
     ∙ rw (before, dashes_met c w.waiting w.position w.held) refl
 
 module _ (command : App) (p : Parts command) where
-  c : List Rule
+  abbrev c : List Rule
   c = rules_of command
 
   start_stands : Stands (walk_from nothing_held)
@@ -178,13 +139,13 @@ module _ (command : App) (p : Parts command) where
       → matched command (name ∷ (before ++ dashes ∷ behind)) ≡ Some rows
       → rows ≡ with_defaults (rules_of command) (given (from_place (rules_of command) (reached command before).position) behind
       (settled (rules_of command) (reached command before).held).rows)
-  unfolding c
   dashes_in_turn name before behind rows lack e =
       let both = accepted command p name (before ++ dashes ∷ behind) rows e in
       let w = reached command before in
       let s = stands c p.ones p.own before (walk_from nothing_held) lack start_stands in
       let place : 1 + (w.position - 1) ≡ w.position = omega (arith, s.place) in
-      let follow = subst (λ n. Follow c n (from_place c w.position)) place (follow_from c p.counted (w.position - 1) (from_place c w.position) refl) in
+      let follow = subst (λ n. Follow c n (from_place c w.position)) place
+      (follow_from c p.counted (w.position - 1) (from_place c w.position) refl) in
       let all = fold-append (walked c []) (walk_from nothing_held) before (dashes ∷ behind) in
       let step = ap (λ (v : Walk). fold (walked c []) v behind) (dashes_step c w s.still s.before) in
       sym both.1
@@ -205,9 +166,6 @@ module _ (c : List Rule) where
 
 -- a word goes to a positional before a `--` as it does behind
 module _ (command : App) (p : Parts command) where
-  rules : List Rule
-  rules = rules_of command
-
   -- where a walk goes with plain words, before a `--`
   abbrev Plainly : Walk → List Text → Type 0
   Plainly w words = (w.stopped ≡ None) × (w.is_trailing ≡ false) × WaitsNot w.waiting × AllByRecursion IsPlain words

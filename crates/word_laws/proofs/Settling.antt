@@ -1,82 +1,24 @@
 -- A walk whose pending option has its value goes on as one in which it is settled.
 use Rattle.std.proofs.Common.{◌≡◌, ◌⊎◌, ℕ, zero, suc, Bool, cond, true, false, List, [], ◌∷◌, Option, Some, None}
 use Rattle.std.proofs.Common.{refl, sym, ap, subst, ◌∙◌, inl, inr, length, drop}
-use Rattle.std.specs.Prelude.{◌↔◌, ◌==◌, ◌&&◌, ◌||◌, not, is_some, fold, slice_get, encode_utf8}
+use Rattle.std.specs.Prelude.{◌↔◌, ◌==◌, ◌||◌, fold, slice_get, encode_utf8}
 use Rattle.std.specs.List.{list_all}
 use Rattle.std.specs.Option.{option_map_or}
 use Rattle.std.specs.Str.{bytes_eq, chars}
 use Rattle.std.proofs.lemmas.Bool.{cases_Bool}
-use Rattle.clap.specs.Faults.{
-  bundle_fault,
-  bundle_step_fault,
-  flag_word_fault,
-  flags_fault,
-  long_fault,
-  option_fault,
-  positional_fault,
-  react_fault,
-  settle_fault,
-  short_fault,
-  step_fault,
-  stray_fault,
-  turn_fault,
-  use_fault,
-  walk_fault,
-  word_fault,
-}
+use Rattle.clap.specs.Faults.{bundle_fault, bundle_step_fault, flag_word_fault, flags_fault, long_fault, option_fault}
+use Rattle.clap.specs.Faults.{positional_fault, settle_fault, short_fault, step_fault, stray_fault, turn_fault, use_fault}
+use Rattle.clap.specs.Faults.{walk_fault, word_fault}
 use Rattle.clap.specs.Kinds.{Kinds, or_else}
 use Rattle.clap.specs.Lexer.{long_of, short_of}
 use Rattle.clap.specs.Simple.{Shape}
-use Rattle.clap.specs.Walk.{
-  Held,
-  Outcome,
-  Rule,
-  Step,
-  Text,
-  Waiting,
-  Walk,
-  done,
-  idle,
-  next,
-  option,
-  plain,
-  positional,
-  refused,
-  subcommand,
-  trailing,
-  value,
-  waits,
-  after_flag,
-  after_step,
-  arg_by_index,
-  arg_by_long,
-  arg_by_short,
-  attached_value,
-  bundle,
-  bundle_met,
-  bundle_step,
-  is_multiple,
-  is_pending,
-  long_met,
-  long_or_other,
-  long_word,
-  next_position,
-  option_met,
-  plain_word,
-  positional_held,
-  reacted,
-  settled,
-  short_met,
-  short_or_plain,
-  subcommand_met,
-  takes_several,
-  takes_values,
-  to_positional,
-  walked,
-  word_met,
-}
+use Rattle.clap.specs.Walk.{Held, Outcome, Rule, Step, Text, Waiting, Walk, done, idle, next, option, plain, positional, refused}
+use Rattle.clap.specs.Walk.{subcommand, trailing, value, waits, after_flag, after_step, arg_by_index, arg_by_long, arg_by_short}
+use Rattle.clap.specs.Walk.{attached_value, bundle, bundle_met, bundle_step, is_multiple, is_pending, long_met, long_or_other}
+use Rattle.clap.specs.Walk.{long_word, next_position, option_met, plain_word, reacted, settled, short_met, short_or_plain}
+use Rattle.clap.specs.Walk.{takes_several, takes_values, to_positional, walked, word_met}
 use Rattle.word_laws.specs.Positionals.{dashes, have_own_ids, takes_one}
-use Rattle.word_laws.proofs.Steps.{WaitsNot, and_no, rows_at, settled_first, takes_single}
+use Rattle.word_laws.proofs.Steps.{WaitsNot, and_no, no_subcommand, rows_at, settled_first, takes_single}
 use Rattle.word_laws.proofs.Accepted.{or_none, stray_is_fault, walked_is}
 
 -- ---- lists of faults
@@ -151,11 +93,11 @@ module _ (s : Shape) (ones : list_all takes_one s.rules ≡ true) (own : have_ow
       elim (cases_Bool (takes_values rule)) [
         | inl valued ↦ rw valued (with_option rule (attached_value rest) h)
         | inr flag ↦ rw flag (
-          inl (
-            refl,
-            regrouped (owed h) (use_fault s.args_override_self rule [] (settled s.rules h).rows) (fault (reacted s.rules rule [] h)),
-          )
-        )
+            inl (
+              refl,
+              regrouped (owed h) (use_fault s.args_override_self rule [] (settled s.rules h).rows) (fault (reacted s.rules rule [] h)),
+            )
+            )
       ]
 
   with_bundle : (k : ℕ) (flags : Text) (skip : ℕ) (o : Outcome) (h : Held) → Unready o
@@ -167,9 +109,9 @@ module _ (s : Shape) (ones : list_all takes_one s.rules ≡ true) (own : have_ow
     where
       by : (x : Option ℕ) (skip : ℕ)
           → ((flags : Text) (skip : ℕ) (o : Outcome) (h : Held) → Unready o
-            → Flagged h (bundle_met s.rules k flags skip o h) (flags_fault s.rules s.args_override_self k flags skip h)
-            (bundle_met s.rules k flags skip o (settled s.rules h))
-            (flags_fault s.rules s.args_override_self k flags skip (settled s.rules h)))
+          → Flagged h (bundle_met s.rules k flags skip o h) (flags_fault s.rules s.args_override_self k flags skip h)
+          (bundle_met s.rules k flags skip o (settled s.rules h))
+          (flags_fault s.rules s.args_override_self k flags skip (settled s.rules h)))
           → Flagged h (bundle_step s.rules x flags skip o h (bundle_met s.rules k))
           (bundle_step_fault s.rules s.args_override_self x flags skip h (flags_fault s.rules s.args_override_self k))
           (bundle_step s.rules x flags skip o (settled s.rules h) (bundle_met s.rules k))
@@ -188,7 +130,7 @@ module _ (s : Shape) (ones : list_all takes_one s.rules ≡ true) (own : have_ow
   Turned w after after' fault fault' =
       ((after' ≡ after) × ((fault ≡ []) ↔ ((owed w.held ≡ []) × (fault' ≡ []))))
       ⊎ ((after' ≡ rested after) × WaitsNot after.waiting × (after.stopped ≡ None) × ((fault ≡ []) ↔ (fault' ≡ []))
-        × (fault ≡ [] → owed after.held ≡ owed w.held))
+      × (fault ≡ [] → owed after.held ≡ owed w.held))
 
   module _ (w : Walk) (word : Text) (still : w.stopped ≡ None) (waits_not : WaitsNot w.waiting) where
     -- a value of a positional, behind a word that has a fault or none
@@ -209,7 +151,6 @@ module _ (s : Shape) (ones : list_all takes_one s.rules ≡ true) (own : have_ow
         let one = (takes_single s.rules ones own (λ a. option_map_or (λ k. k == w.position) a.index false) rule is).0 in
         let settles = settled_first s.rules ones own rule word h one in
         let settles' = settled_first s.rules ones own rule word (settled s.rules h) one in
-        let after_is = ap (λ (x : Held). ◌≡◌ {A = Walk} (going x) (going x)) settles in
         inl (ap going (settles' ∙ sym settles), by one both)
       where
         going : Held → Walk
@@ -273,7 +214,8 @@ module _ (s : Shape) (ones : list_all takes_one s.rules ≡ true) (own : have_ow
     with_flag h same met met' fault fault' (inr apart) =
         subst (λ (m : Held × Outcome). Turned w (flag_walk w m) (flag_walk (rested w) met') (flag_turn m fault) (flag_turn met' fault'))
         (sym apart.1)
-        (subst (λ (m : Held × Outcome). Turned w (flag_walk w (h, met.1)) (flag_walk (rested w) m) (flag_turn (h, met.1) fault) (flag_turn m fault'))
+        (subst (λ (m : Held × Outcome). Turned w (flag_walk w (h, met.1)) (flag_walk (rested w) m) (flag_turn (h, met.1) fault)
+        (flag_turn m fault'))
         (sym apart.2) (by met.1 apart.0))
       where
         plainly : Turned w (after_step s.rules word w (plain_word s.rules w.waiting word h).0 (plain_word s.rules w.waiting word h).1)
@@ -293,11 +235,6 @@ module _ (s : Shape) (ones : list_all takes_one s.rules ≡ true) (own : have_ow
         by refused unready = plainly
         by done unready = absurd unready
         by (waits id) unready = absurd unready
-
-    no_subcommand : (waiting : Waiting) → subcommand_met [] waiting word ≡ None
-    no_subcommand idle = refl
-    no_subcommand positional = refl
-    no_subcommand (option id) = refl
 
     abbrev other_met : Option (Text × Option Text) → Option Text → Held → Held × Step
     other_met (Some p) flags h = long_word s.rules w.waiting word p.0 p.1 h
@@ -352,11 +289,11 @@ module _ (s : Shape) (ones : list_all takes_one s.rules ≡ true) (own : have_ow
         (met_at b (settled s.rules w.held)).1))
     turn_by true = with_value (arg_by_index s.rules w.position) refl w.held refl [] [] (inl (refl, refl))
     turn_by false =
-        rw (no_subcommand w.waiting) (
-          elim (cases_Bool (bytes_eq word dashes)) [
-            | inl first ↦ rw first (inr (refl, waits_not, still, (λ e. e, λ e. e), λ e. refl))
-            | inr other ↦ rw other (by_parts (long_of word))
-          ]
+        rw (no_subcommand w.waiting word) (
+        elim (cases_Bool (bytes_eq word dashes)) [
+          | inl first ↦ rw first (inr (refl, waits_not, still, (λ e. e, λ e. e), λ e. refl))
+          | inr other ↦ rw other (by_parts (long_of word))
+        ]
         )
 
     turn_is : (v : Walk) → v.stopped ≡ None
@@ -388,14 +325,10 @@ module _ (s : Shape) (ones : list_all takes_one s.rules ≡ true) (own : have_ow
   goes_on [] w still waits_not = record { rows = refl; passes = (λ p. (p.1, (refl, refl)), λ p. (refl, p.0)) }
   goes_on (word ∷ words) w still waits_not = by (word_turn w word still waits_not) (goes_on words (walked s.rules [] w word))
     where
-      after : Walk
-      after = walked s.rules [] w word
-
-      after' : Walk
-      after' = walked s.rules [] (rested w) word
-
-      by : Turned w (walked s.rules [] w word) (walked s.rules [] (rested w) word) (turn_fault s [] w word) (turn_fault s [] (rested w) word)
-          → ((walked s.rules [] w word).stopped ≡ None → WaitsNot (walked s.rules [] w word).waiting → GoesOn (walked s.rules [] w word) words)
+      by : Turned w (walked s.rules [] w word) (walked s.rules [] (rested w) word) (turn_fault s [] w word)
+          (turn_fault s [] (rested w) word)
+          → ((walked s.rules [] w word).stopped ≡ None → WaitsNot (walked s.rules [] w word).waiting
+          → GoesOn (walked s.rules [] w word) words)
           → GoesOn w (word ∷ words)
       by (inl alike) rest = record {
         rows = ap (λ (v : Walk). rows_at s.rules (fold (walked s.rules []) v words)) (sym alike.0);

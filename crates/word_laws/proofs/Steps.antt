@@ -1,54 +1,26 @@
 -- The walk over words, a step at a time, for a command in which no use of an argument takes two words.
-use Rattle.std.proofs.Common.{◌≡◌, ◌⊎◌, ℕ, ◌+◌, ◌-◌, ◌<◌, ◌≤◌, zero, suc, Bool, cond, true, false, List, [], ◌∷◌, ◌++◌, Option, Some, None}
-use Rattle.std.proofs.Common.{refl, sym, ap, subst, ◌∙◌, inl, inr, arith, true≢false, drop}
-use Rattle.std.specs.Prelude.{◌≢◌, ◌==◌, ◌&&◌, ◌||◌, not, is_some, unwrap_or, nat_lt, min, fold, find, slice_get}
-use Rattle.std.specs.List.{AllByRecursion, filter, list_all}
+use Rattle.std.proofs.Common.{◌≡◌, ◌⊎◌, ℕ, ◌+◌, ◌<◌, Bool, cond, true, false, List, [], ◌∷◌, Some, None}
+use Rattle.std.proofs.Common.{refl, sym, ap, subst, ◌∙◌, inl, inr, arith}
+use Rattle.std.specs.Prelude.{◌==◌, ◌&&◌, ◌||◌, not, min, fold, find}
+use Rattle.std.specs.List.{AllByRecursion, list_all}
 use Rattle.std.specs.Option.{option_map_or}
 use Rattle.std.specs.Str.{bytes_eq}
-use Rattle.std.proofs.lemmas.Bool.{and_parts, and_from, both_ways, cases_Bool, false_from_ne_true, eqb-true, eqb-false, ltb-true}
+use Rattle.std.proofs.lemmas.Bool.{and_parts, cases_Bool, false_from_ne_true, eqb-true, not-true}
 use Rattle.std.proofs.lemmas.Slice.Eq.{bytes_eq-Decides}
 use Rattle.clap.specs.Lexer.{long_of, short_of, usize_max}
-use Rattle.clap.specs.Walk.{
-  Held,
-  Row,
-  Rule,
-  Step,
-  Text,
-  Waiting,
-  Walk,
-  idle,
-  option,
-  positional,
-  next,
-  trailing,
-  value,
-  after_step,
-  arg_by_id,
-  arg_by_index,
-  is_pending,
-  is_multiple,
-  next_position,
-  positional_held,
-  pushed,
-  reacted,
-  settled,
-  subcommand_met,
-  takes_several,
-  to_positional,
-  used,
-  used_by_id,
-  walked,
-  word_met,
-}
+use Rattle.clap.specs.Walk.{Held, Row, Rule, Text, Waiting, Walk, idle, option, positional, value, arg_by_id, arg_by_index}
+use Rattle.clap.specs.Walk.{is_pending, is_multiple, next_position, positional_held, pushed, settled, subcommand_met}
+use Rattle.clap.specs.Walk.{takes_several, to_positional, used, used_by_id, walked, word_met}
 use Rattle.word_laws.specs.Positionals.{dashes, given, have_own_ids, takes_all, takes_one, IsPlain}
 use Rattle.word_laws.proofs.Rows.{same_text}
-use Rattle.word_laws.proofs.Turns.{Fit, lack_id, not_true, turned}
+use Rattle.word_laws.proofs.Turns.{lack_id}
 
 -- ---- words
 
 pub plain_not_dashes : (word : Text) → IsPlain word → bytes_eq word dashes ≡ false
 plain_not_dashes [] plain = refl
-plain_not_dashes (byte ∷ bytes) plain = false_from_ne_true (bytes_eq (byte ∷ bytes) dashes) (λ same. plain (by ((bytes_eq-Decides (byte ∷ bytes) dashes).0 same)))
+plain_not_dashes (byte ∷ bytes) plain = false_from_ne_true (bytes_eq (byte ∷ bytes) dashes)
+    (λ same. plain (by ((bytes_eq-Decides (byte ∷ bytes) dashes).0 same)))
   where
     by : byte ∷ bytes ≡ dashes → byte ≡ 45
     by same = cc
@@ -60,6 +32,12 @@ plain_long (byte ∷ bytes) plain = rw (false_from_ne_true (byte == 45) (λ same
 pub plain_short : (word : Text) → IsPlain word → short_of word ≡ None
 plain_short [] plain = refl
 plain_short (byte ∷ bytes) plain = rw (false_from_ne_true (byte == 45) (λ same. plain (eqb-true byte 45 same))) refl
+
+-- no word is a subcommand's name where there is none
+pub no_subcommand : (waiting : Waiting) (word : Text) → subcommand_met [] waiting word ≡ None
+no_subcommand idle word = refl
+no_subcommand positional word = refl
+no_subcommand (option id) word = refl
 
 -- no option waits for a value
 abbrev pub WaitsNot : Waiting → Type 0
@@ -119,7 +97,7 @@ found_again p (first ∷ c) rule own found =
           let same : bytes_eq first.id rule.id ≡ true = ap (λ (r : Rule). bytes_eq first.id r.id) (sym is) ∙ same_text first.id in
           rw same (ap Some is)
       | inr behind ↦
-          let other = not_true _ (found_passes p (λ o. not (bytes_eq first.id o.id)) c rule both.0 (rw behind at found)) in
+          let other = not-true _ (found_passes p (λ o. not (bytes_eq first.id o.id)) c rule both.0 (rw behind at found)) in
           rw other (found_again p c rule both.1 (rw behind at found))
     ]
 
@@ -150,7 +128,7 @@ module _ (c : List Rule) (ones : list_all takes_one c ≡ true) (own : have_own_
   pub takes_single : (p : Rule → Bool) (rule : Rule) → find p c ≡ Some rule → (takes_several rule ≡ false) × (rule.trailing_var_arg ≡ false)
   takes_single p rule found =
       let both = and_parts (not (takes_several rule)) _ (found_passes p takes_one c rule ones found) in
-      (not_true _ both.0, not_true _ both.1)
+      (not-true _ both.0, not-true _ both.1)
 
   -- what was pending is settled first
   pub settled_first : (rule : Rule) (word : Text) (h : Held) → takes_several rule ≡ false
@@ -221,11 +199,11 @@ module _ (c : List Rule) (ones : list_all takes_one c ≡ true) (own : have_own_
       let rows = gone_rows rule word w follow.0 in
       elim (cases_Bool (takes_all rule)) [
         | inl all ↦ rw all (
-          step ∙ walk_given (rule ∷ rules) words (gone c rule word w) (follow_all rule rules w word all follow) refl rest
-          ∙ ap (given (rule ∷ rules) words) rows
-        )
+            step ∙ walk_given (rule ∷ rules) words (gone c rule word w) (follow_all rule rules w word all follow) refl rest
+            ∙ ap (given (rule ∷ rules) words) rows
+            )
         | inr once ↦ rw once (
-          step ∙ walk_given rules words (gone c rule word w) (follow_once rule rules w word once follow) refl rest
-          ∙ ap (given rules words) rows
-        )
+            step ∙ walk_given rules words (gone c rule word w) (follow_once rule rules w word once follow) refl rest
+            ∙ ap (given rules words) rows
+            )
       ]

@@ -1,32 +1,19 @@
 -- Words that go to positionals in turn stand in order.
-use Rattle.std.proofs.Common.{◌≡◌, Bool, cond, true, false, List, [], ◌∷◌, ◌++◌, Option, Some, None, refl, sym, ap, subst, ◌∙◌, inl, inr, arith, length}
+use Rattle.std.proofs.Common.{◌≡◌, Bool, cond, true, false, List, [], ◌∷◌, ◌++◌, Some, None, refl, sym, ap, subst, ◌∙◌, inl, inr}
+use Rattle.std.proofs.Common.{arith, length}
 use Rattle.std.proofs.Common.{append-nil, append_assoc}
-use Rattle.std.specs.Prelude.{◌&&◌, ◌||◌, not, unwrap_or, take, fold}
+use Rattle.std.specs.Prelude.{◌||◌, not, unwrap_or, fold}
 use Rattle.std.specs.List.{AllByRecursion, filter, list_all}
 use Rattle.std.specs.Str.{bytes_eq}
-use Rattle.std.proofs.lemmas.Bool.{and_parts, and_from, both_ways, cases_Bool, eqb-true, false_from_ne_true}
+use Rattle.std.proofs.lemmas.Bool.{and_parts, and_from, both_ways, cases_Bool, eqb-true, false_from_ne_true, not-true}
 use Rattle.std.proofs.lemmas.Slice.Eq.{bytes_eq-Decides}
 use Rattle.clap.specs.declared.builder.action.ArgAction.TheVariants as action
 use Rattle.clap.specs.Walk.{Row, Rule, Text, action_of, all_of, default_rows, has_row, is_empty, reading_by, used, with_default}
 use Rattle.command_words.specs.Commands.{taken_by}
-use Rattle.word_laws.specs.Positionals.{
-  given,
-  have_own_ids,
-  is_set,
-  keeps_words,
-  own_words,
-  other_words,
-  takes_all,
-  with_defaults,
-  StandInOrder,
-}
+use Rattle.word_laws.specs.Positionals.{given, have_own_ids, is_set, keeps_words, takes_all, with_defaults, StandInOrder}
 use Rattle.word_laws.proofs.Rows.{kinds_of, used_once, used_more, used_other, values_other}
 
 -- ---- ids
-
-pub not_true : (b : Bool) → not b ≡ true → b ≡ false
-not_true true e = absurd cc
-not_true false e = refl
 
 pub turned : (one other : Text) → bytes_eq one other ≡ false → bytes_eq other one ≡ false
 turned one other differ = false_from_ne_true (bytes_eq other one)
@@ -52,9 +39,8 @@ have_none : (rule : Rule) (word : Text) (rows : List Row) → keeps_words rule �
     → HaveNone rows rules → HaveNone (used rule (word ∷ []) rows) rules
 have_none rule word rows keeps [] differ none = tt
 have_none rule word rows keeps (other ∷ rules) differ none =
-    let both = and_parts (not (bytes_eq rule.id other.id)) _ differ in
-    (
-      used_other rule word other.id rows keeps (not_true _ both.0) ∙ none.0,
+    let both = and_parts (not (bytes_eq rule.id other.id)) _ differ in (
+      used_other rule word other.id rows keeps (not-true _ both.0) ∙ none.0,
       have_none rule word rows keeps rules both.1 none.1,
     )
 
@@ -66,7 +52,7 @@ given_other id [] (word ∷ words) rows keeps differ = refl
 given_other id (rule ∷ rules) (word ∷ words) rows keeps differ =
     let keep = and_parts (keeps_words rule) _ keeps in
     let both = and_parts (not (bytes_eq id rule.id)) _ differ in
-    let here = used_other rule word id rows keep.0 (turned id rule.id (not_true _ both.0)) in
+    let here = used_other rule word id rows keep.0 (turned id rule.id (not-true _ both.0)) in
     elim (cases_Bool (takes_all rule)) [
       | inl all ↦ rw all (given_other id (rule ∷ rules) words (used rule (word ∷ []) rows) keeps differ ∙ here)
       | inr once ↦ rw once (given_other id rules words (used rule (word ∷ []) rows) keep.1 both.1 ∙ here)
@@ -112,9 +98,8 @@ behind_all : (rule : Rule) (others : List Rule) (all : takes_all rule ≡ true) 
     → HaveNone rows rules → HaveNone (given (rule ∷ others) words rows) rules
 behind_all rule others all is keeps words rows [] differ none = tt
 behind_all rule others all is keeps words rows (other ∷ rules) differ none =
-    let both = and_parts (not (bytes_eq rule.id other.id)) _ differ in
-    (
-      none_given rule others all is keeps other.id (not_true _ both.0) words rows ∙ none.0,
+    let both = and_parts (not (bytes_eq rule.id other.id)) _ differ in (
+      none_given rule others all is keeps other.id (not-true _ both.0) words rows ∙ none.0,
       behind_all rule others all is keeps words rows rules both.1 none.1,
     )
 
@@ -162,18 +147,20 @@ default_other id rule rows silent =
     elim (cases_Bool (has_row rule.id rows)) [
       | inl has ↦ rw has refl
       | inr lacks ↦ rw lacks (
-        elim (cases_Bool (bytes_eq rule.id id)) [
-          | inl same ↦ rw (silent same) refl
-          | inr differ ↦ by differ rule.defaults
-        ]
-      )
+          elim (cases_Bool (bytes_eq rule.id id)) [
+            | inl same ↦ rw (silent same) refl
+            | inr differ ↦ by differ rule.defaults
+          ]
+          )
     ]
   where
-    by : bytes_eq rule.id id ≡ false → (values : List Text) → all_of id (default_rows rule.id (reading_by rule) values rows) ≡ all_of id rows
+    by : bytes_eq rule.id id ≡ false → (values : List Text)
+        → all_of id (default_rows rule.id (reading_by rule) values rows) ≡ all_of id rows
     by differ [] = refl
     by differ (value ∷ values) = values_other rule.id _ _ (value ∷ values) id differ rows
 
-defaults_other : (id : Text) (rules : List Rule) (rows : List Row) → Silent id rules → all_of id (fold with_default rows rules) ≡ all_of id rows
+defaults_other : (id : Text) (rules : List Rule) (rows : List Row) → Silent id rules
+    → all_of id (fold with_default rows rules) ≡ all_of id rows
 defaults_other id [] rows silent = refl
 defaults_other id (rule ∷ rules) rows silent =
     defaults_other id rules (with_default rows rule) silent.1 ∙ default_other id rule rows silent.0
@@ -198,7 +185,8 @@ module _ (test : Rule → Bool) where
       let both = and_parts (lack_id rule.id rules) _ e in
       elim (cases_Bool (test rule)) [
         | inl in_it ↦
-            rw in_it (and_from (lack_id rule.id (filter test rules)) _ (all_filtered (λ other. not (bytes_eq rule.id other.id)) rules both.0)
+            rw in_it (and_from (lack_id rule.id (filter test rules)) _
+            (all_filtered (λ other. not (bytes_eq rule.id other.id)) rules both.0)
             (own_filtered rules both.1))
         | inr out ↦ rw out (own_filtered rules both.1)
       ]
@@ -207,9 +195,8 @@ module _ (test : Rule → Bool) where
   silent_others : (id : Text) (rules : List Rule) → lack_id id rules ≡ true → Silent id rules
   silent_others id [] differ = tt
   silent_others id (other ∷ rules) differ =
-      let both = and_parts (not (bytes_eq id other.id)) _ differ in
-      (
-        λ same. absurd (both_ways (bytes_eq other.id id) (turned id other.id (not_true _ both.0)) same),
+      let both = and_parts (not (bytes_eq id other.id)) _ differ in (
+        λ same. absurd (both_ways (bytes_eq other.id id) (turned id other.id (not-true _ both.0)) same),
         silent_others id rules both.1,
       )
 
@@ -217,9 +204,8 @@ module _ (test : Rule → Bool) where
       → AllByRecursion (λ (r : Rule). Silent r.id all) kept → AllByRecursion (λ (r : Rule). Silent r.id (rule ∷ all)) kept
   silent_more rule all [] differ silent = tt
   silent_more rule all (other ∷ kept) differ silent =
-      let both = and_parts (not (bytes_eq rule.id other.id)) _ differ in
-      (
-        (λ same. absurd (both_ways (bytes_eq rule.id other.id) (not_true _ both.0) same), silent.0),
+      let both = and_parts (not (bytes_eq rule.id other.id)) _ differ in (
+        (λ same. absurd (both_ways (bytes_eq rule.id other.id) (not-true _ both.0) same), silent.0),
         silent_more rule all kept both.1 silent.1,
       )
 

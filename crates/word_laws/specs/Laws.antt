@@ -1,8 +1,10 @@
 -- The laws of plain words, of values behind `=`, and of the word `--`.
-use Rattle.std.specs.Prelude.{◌≡◌, ◌≢◌, ◌<◌, true, List, [], ◌∷◌, ◌++◌, length, Contains, Some}
+use Rattle.std.specs.Prelude.{◌≡◌, ◌≢◌, ◌&&◌, Bool, true, false, not, List, [], ◌∷◌, ◌++◌, Some, codes}
 use Rattle.std.specs.List.{AllByRecursion}
+use Rattle.std.specs.Option.{option_map_or}
+use Rattle.clap.specs.Lexer.{has_byte}
 use Rattle.clap.specs.Simple.{App}
-use Rattle.clap.specs.Walk.{Row, Rule, Text, Walk, arg_by_long, nothing_held, settled, takes_values, walk}
+use Rattle.clap.specs.Walk.{Row, Text, Walk, arg_by_long, is_empty, nothing_held, settled, takes_values, walk}
 use Rattle.command_words.specs.CalcWords.{calc_command}
 use Rattle.command_words.specs.CheckWords.{check_command}
 use Rattle.command_words.specs.Commands.{matched}
@@ -48,13 +50,22 @@ PlainWordsStandInOrder = (command : App) (name : Text) (words : List Text) (rows
 abbrev pub LackDashes : List Text → Type 0
 LackDashes words = AllByRecursion (λ word. word ≢ dashes) words
 
--- an option of the command that takes a value has this long name
-pub record NamesValue (command : App) (long : Text) : Type 0 where
-  pub option : Rule
-  pub found : arg_by_long (rules_of command) long ≡ Some option
-  pub valued : takes_values option ≡ true
-  pub some : 0 < length long
-  pub lacks : ¬ (Contains long 61)
+-- an option of the command that takes a value has this long name, which has no `=` (61)
+abbrev pub names_value : App → Text → Bool
+names_value command long =
+    option_map_or takes_values (arg_by_long (rules_of command) long) false && (not (is_empty long) && not (has_byte 61 long))
+
+-- the options of the program's commands that take a value
+abbrev pub options : List (App × Text)
+options =
+    (calc_command, codes "intersect") ∷ (calc_command, codes "number-of") ∷ (calc_command, codes "hierarchical")
+    ∷ (calc_command, codes "sep") ∷ (distrib_command, codes "from") ∷ (distrib_command, codes "to") ∷ (distrib_command, codes "at")
+    ∷ (select_command, codes "weights") ∷ (select_command, codes "keep") ∷ (run_command, codes "levels") ∷ (run_command, codes "locks")
+    ∷ (run_command, codes "keep") ∷ (run_command, codes "threads") ∷ (run_command, codes "quantum") ∷ (check_command, codes "levels")
+    ∷ (check_command, codes "keep") ∷ []
+
+abbrev pub OptionsTakeValues : Type 0
+OptionsTakeValues = AllByRecursion (λ (option : App × Text). names_value option.0 option.1 ≡ true) options
 
 -- `--name` and `--name=value`
 abbrev pub long_word : Text → Text
@@ -66,8 +77,9 @@ attached long value = 45 ∷ 45 ∷ (long ++ 61 ∷ value)
 -- before the first `--`, and wherever it stands there, a value behind `=` gives the same as the same value as the next word
 abbrev pub ValuesStandBehindEquals : Type 0
 ValuesStandBehindEquals = (command : App) (name long value : Text) (before behind : List Text) → IsSingle command
-    → NamesValue command long → IsPlain value → LackDashes before
-    → matched command (name ∷ (before ++ attached long value ∷ behind)) ≡ matched command (name ∷ (before ++ long_word long ∷ value ∷ behind))
+    → names_value command long ≡ true → IsPlain value → LackDashes before
+    → matched command (name ∷ (before ++ attached long value ∷ behind))
+    ≡ matched command (name ∷ (before ++ long_word long ∷ value ∷ behind))
 
 -- ---- words behind `--`
 

@@ -1,6 +1,6 @@
 -- Commands in which no use of an argument takes two words, and what words come to that go to their positionals.
 use Rattle.std.specs.Prelude.{◌≡◌, ◌≢◌, ℕ, ◌+◌, ◌-◌, ◌==◌, ◌&&◌, ◌||◌, Bool, true, false, not, nat_lt, if◌then◌else◌}
-use Rattle.std.specs.Prelude.{List, [], ◌∷◌, length, take, drop, is_some, unwrap_or, fold}
+use Rattle.std.specs.Prelude.{List, [], ◌∷◌, take, drop, is_some, unwrap_or, fold}
 use Rattle.std.specs.List.{filter, list_all}
 use Rattle.std.specs.Str.{bytes_eq}
 use Rattle.clap.specs.Lexer.{usize_max}

@@ -1,10 +1,11 @@
 // Laws of words: each is the contract of a function that does nothing.
-ghost use Rattle.word_laws.specs.Laws.{CommandsAreSingle, PlainWordsStandInOrder, ValuesStandBehindEquals};
+ghost use Rattle.word_laws.specs.Laws.{CommandsAreSingle, OptionsTakeValues, PlainWordsStandInOrder, ValuesStandBehindEquals};
 ghost use Rattle.word_laws.specs.Laws.{WordsBehindDashesGoInTurn, WordsBehindDashesStandInOrder};
 
-/// The laws below hold of the program's commands.
+/// The laws below hold of the program's commands, and of each of their options that takes a value.
 pub fn commands_are_single()
-    ensures { CommandsAreSingle }
+    ensures commands { CommandsAreSingle }
+    ensures options { OptionsTakeValues }
 {}
 
 /// Words that don't begin with `-` are the positionals of the command, in order, and none is left over.
