@@ -40,7 +40,7 @@ have_none : (rule : Rule) (word : Text) (rows : List Row) → keeps_words rule �
 have_none rule word rows keeps [] differ none = tt
 have_none rule word rows keeps (other ∷ rules) differ none =
     let both = and_parts (not (bytes_eq rule.id other.id)) _ differ in (
-      used_other rule word other.id rows keeps (not-true _ both.0) ∙ none.0,
+      used_other rule (word ∷ []) other.id rows (not-true _ both.0) ∙ none.0,
       have_none rule word rows keeps rules both.1 none.1,
     )
 
@@ -52,7 +52,7 @@ given_other id [] (word ∷ words) rows keeps differ = refl
 given_other id (rule ∷ rules) (word ∷ words) rows keeps differ =
     let keep = and_parts (keeps_words rule) _ keeps in
     let both = and_parts (not (bytes_eq id rule.id)) _ differ in
-    let here = used_other rule word id rows keep.0 (turned id rule.id (not-true _ both.0)) in
+    let here = used_other rule (word ∷ []) id rows (turned id rule.id (not-true _ both.0)) in
     elim (cases_Bool (takes_all rule)) [
       | inl all ↦ rw all (given_other id (rule ∷ rules) words (used rule (word ∷ []) rows) keeps differ ∙ here)
       | inr once ↦ rw once (given_other id rules words (used rule (word ∷ []) rows) keep.1 both.1 ∙ here)
@@ -72,7 +72,7 @@ module _ (rule : Rule) (rules : List Rule) (all : takes_all rule ≡ true) (is :
       → all_of id (given (rule ∷ rules) words rows) ≡ all_of id rows
   none_given keeps id differ [] rows = refl
   none_given keeps id differ (word ∷ words) rows =
-      rw all (none_given keeps id differ words (used rule (word ∷ []) rows) ∙ used_other rule word id rows keeps differ)
+      rw all (none_given keeps id differ words (used rule (word ∷ []) rows) ∙ used_other rule (word ∷ []) id rows differ)
 
 -- ---- order
 
