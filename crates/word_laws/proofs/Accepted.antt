@@ -236,7 +236,7 @@ module _ (c : List Rule) (ones : list_all takes_one c ≡ true) (own : have_own_
           go true = s.place
           go false = omega arith
 
-  stands_step : (w : Walk) (word : Text) → word ≢ dashes → Stands w → Stands (walked c [] w word)
+  pub stands_step : (w : Walk) (word : Text) → word ≢ dashes → Stands w → Stands (walked c [] w word)
   stands_step w word differ s =
       subst Stands (sym (walked_is c w word s.still))
       (stands_behind w word _ _ (

@@ -182,7 +182,7 @@ module _ (s : Shape) (ones : list_all takes_one s.rules ≡ true) (own : have_ow
 -- ---- a whole command
 
 module _ (s : Shape) (ones : list_all takes_one s.rules ≡ true) (own : have_own_ids s.rules ≡ true) where
-  faults_cut : (before behind : List Text) (w : Walk)
+  pub faults_cut : (before behind : List Text) (w : Walk)
       → (walk_fault s [] w (before ++ behind) ≡ [])
       ↔ ((walk_fault s [] w before ≡ []) × (walk_fault s [] (fold (walked s.rules []) w before) behind ≡ []))
   unfolding walk_fault

@@ -83,11 +83,11 @@ module _ (command : App) (p : Parts command) where
 
   -- ---- plain words
 
-  nothing_yet : (rules : List Rule) → HaveNone [] rules
+  pub nothing_yet : (rules : List Rule) → HaveNone [] rules
   nothing_yet [] = tt
   nothing_yet (rule ∷ rules) = (refl, nothing_yet rules)
 
-  first_place : Follow (rules_of command) 1 (positionals (rules_of command))
+  pub first_place : Follow (rules_of command) 1 (positionals (rules_of command))
   first_place = follow_from (rules_of command) p.counted 0 (positionals (rules_of command)) refl
 
   -- words that fit and give these rows stand in order
@@ -131,7 +131,7 @@ module _ (command : App) (p : Parts command) where
   abbrev c : List Rule
   c = rules_of command
 
-  start_stands : Stands (walk_from nothing_held)
+  pub start_stands : Stands (walk_from nothing_held)
   start_stands = record { still = refl; before = refl; place = omega arith }
 
   -- the words behind the first `--` go to positionals in turn

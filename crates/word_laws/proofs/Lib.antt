@@ -6,3 +6,5 @@ pub mod Accepted
 pub mod InOrder
 pub mod Settling
 pub mod Equals
+pub mod Ahead
+pub mod Joined

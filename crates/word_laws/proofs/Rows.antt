@@ -101,9 +101,13 @@ used_once rule word rows is none =
     rw (is, without_none rule.id rows none) (values_more rule.id _ _ (word ∷ []) rows ∙ ap (λ o. Some (unwrap_or o [] ++ word ∷ [])) none)
 
 -- one that takes any number has the word behind the others
+pub used_behind : (rule : Rule) (word : Text) (rows : List Row) → action_of rule ≡ action.Append
+    → all_of rule.id (used rule (word ∷ []) rows) ≡ Some (unwrap_or (all_of rule.id rows) [] ++ word ∷ [])
+used_behind rule word rows is = rw is (values_more rule.id _ _ (word ∷ []) rows)
+
 pub used_more : (rule : Rule) (word : Text) (rows : List Row) → action_of rule ≡ action.Append
     → taken_by rule.id (used rule (word ∷ []) rows) ≡ taken_by rule.id rows ++ word ∷ []
-used_more rule word rows is = rw is (ap (λ o. unwrap_or o []) (values_more rule.id _ _ (word ∷ []) rows))
+used_more rule word rows is = ap (λ o. unwrap_or o []) (used_behind rule word rows is)
 
 -- and no other argument has another word than before
 pub used_other : (rule : Rule) (values : List Text) (other : Text) (rows : List Row) → bytes_eq rule.id other ≡ false

@@ -35,7 +35,7 @@ Fit (rule ∷ rules) (word ∷ words) = cond (takes_all rule) (Unit {0}) (Fit ru
 abbrev pub HaveNone : List Row → List Rule → Type 0
 HaveNone rows rules = AllByRecursion (λ (rule : Rule). all_of rule.id rows ≡ None) rules
 
-have_none : (rule : Rule) (word : Text) (rows : List Row) → keeps_words rule ≡ true → (rules : List Rule) → lack_id rule.id rules ≡ true
+pub have_none : (rule : Rule) (word : Text) (rows : List Row) → keeps_words rule ≡ true → (rules : List Rule) → lack_id rule.id rules ≡ true
     → HaveNone rows rules → HaveNone (used rule (word ∷ []) rows) rules
 have_none rule word rows keeps [] differ none = tt
 have_none rule word rows keeps (other ∷ rules) differ none =
@@ -170,7 +170,7 @@ empty_is [] e = refl
 empty_is (x ∷ xs) e = let wrong = eqb-true (length (x ∷ xs)) 0 e in absurd (omega arith)
 
 module _ (test : Rule → Bool) where
-  all_filtered : (p : Rule → Bool) (rules : List Rule) → list_all p rules ≡ true → list_all p (filter test rules) ≡ true
+  pub all_filtered : (p : Rule → Bool) (rules : List Rule) → list_all p rules ≡ true → list_all p (filter test rules) ≡ true
   all_filtered p [] e = refl
   all_filtered p (rule ∷ rules) e =
       let both = and_parts (p rule) _ e in

@@ -95,8 +95,14 @@ WordsBehindDashesGoInTurn = (command : App) (name : Text) (before behind : List 
     → rows ≡ with_defaults (rules_of command) (given (from_place (rules_of command) (reached command before).position) behind
     (settled (rules_of command) (reached command before).held).rows)
 
--- so they are its positionals in order, behind plain words that stand before the `--`
+-- So they are its positionals in order, behind the words that positionals have before the `--`, which don't depend on those behind.
 abbrev pub WordsBehindDashesStandInOrder : Type 0
-WordsBehindDashesStandInOrder = (command : App) (name : Text) (before behind : List Text) (rows : List Row) → IsSingle command
+WordsBehindDashesStandInOrder = (command : App) (name : Text) (before : List Text) → IsSingle command → LackDashes before
+    → (ahead : List Text) × ((behind : List Text) (rows : List Row) → matched command (name ∷ (before ++ dashes ∷ behind)) ≡ Some rows
+      → StandInOrder rows (positionals (rules_of command)) (ahead ++ behind))
+
+-- where the words before it are plain, these are they
+abbrev pub WordsBehindDashesJoinPlain : Type 0
+WordsBehindDashesJoinPlain = (command : App) (name : Text) (before behind : List Text) (rows : List Row) → IsSingle command
     → AllByRecursion IsPlain before → matched command (name ∷ (before ++ dashes ∷ behind)) ≡ Some rows
     → StandInOrder rows (positionals (rules_of command)) (before ++ behind)

@@ -1,6 +1,6 @@
 // Laws of words: each is the contract of a function that does nothing.
 ghost use Rattle.word_laws.specs.Laws.{CommandsAreSingle, OptionsTakeValues, PlainWordsStandInOrder, ValuesStandBehindEquals};
-ghost use Rattle.word_laws.specs.Laws.{WordsBehindDashesGoInTurn, WordsBehindDashesStandInOrder};
+ghost use Rattle.word_laws.specs.Laws.{WordsBehindDashesGoInTurn, WordsBehindDashesJoinPlain, WordsBehindDashesStandInOrder};
 
 /// The laws below hold of the program's commands, and of each of their options that takes a value.
 pub fn commands_are_single()
@@ -22,4 +22,5 @@ pub fn values_stand_behind_equals()
 pub fn words_behind_dashes_are_positionals()
     ensures turn { WordsBehindDashesGoInTurn }
     ensures order { WordsBehindDashesStandInOrder }
+    ensures plain { WordsBehindDashesJoinPlain }
 {}
