@@ -1,21 +1,20 @@
 -- Words before `--`, options among them, give positionals their words in order, and options theirs.
-use Rattle.std.proofs.Common.{◌≡◌, ℕ, ◌+◌, ◌-◌, zero, suc, Bool, cond, true, false, List, [], ◌∷◌, ◌++◌, Option, Some, None}
-use Rattle.std.proofs.Common.{refl, sym, ap, subst, ◌∙◌, inl, inr, length, drop}
-use Rattle.std.specs.Prelude.{◌&&◌, nat_lt, not, is_some, fold, find, slice_get, encode_utf8}
-use Rattle.std.specs.List.{AllByRecursion, filter, list_all}
+use Rattle.std.proofs.Common.{◌≡◌, ℕ, zero, suc, Bool, cond, true, false, List, [], ◌∷◌, ◌++◌, Option, Some, None}
+use Rattle.std.proofs.Common.{refl, sym, ap, ◌∙◌, inl, inr, length, drop}
+use Rattle.std.specs.Prelude.{◌&&◌, nat_lt, not, is_some, find, slice_get, encode_utf8}
 use Rattle.std.specs.Str.{bytes_eq, chars}
 use Rattle.std.proofs.lemmas.Bool.{and_parts, and_from, cases_Bool, not-true, not_from_false}
 use Rattle.std.proofs.lemmas.Slice.Eq.{bytes_eq-Decides}
-use Rattle.clap.specs.Walk.{Held, Outcome, Row, Rule, Step, Text, Waiting, Walk, done, idle, next, option, plain, positional, refused}
-use Rattle.clap.specs.Walk.{subcommand, trailing, value, waits, after_flag, all_of, arg_by_id, arg_by_long, arg_by_short, attached_value}
+use Rattle.clap.specs.Walk.{Held, Outcome, Row, Rule, Step, Text, Waiting, done, idle, next, option, plain, positional, refused}
+use Rattle.clap.specs.Walk.{subcommand, trailing, value, waits, after_flag, arg_by_id, arg_by_long, arg_by_short, attached_value}
 use Rattle.clap.specs.Walk.{bundle, bundle_met, bundle_step, has_long, has_short, long_met, long_or_other, option_met, option_word}
 use Rattle.clap.specs.Walk.{plain_word, pushed, reacted, settled, settled_rows, short_met, short_or_plain, takes_values, used, used_by_id}
-use Rattle.clap.specs.Walk.{word_met, long_word, pending_count, most_values}
+use Rattle.clap.specs.Walk.{word_met, pending_count, most_values}
 use Rattle.clap.specs.Lexer.{long_of, short_of}
 use Rattle.word_laws.specs.Positionals.{dashes, have_own_ids, positionals}
 use Rattle.word_laws.proofs.Rows.{used_other}
 use Rattle.word_laws.proofs.Turns.{EndWith, all_filtered, lack_id, turned}
-use Rattle.word_laws.proofs.Steps.{WaitsNot, found_again, found_passes, no_subcommand, some_is}
+use Rattle.word_laws.proofs.Steps.{WaitsNot, found_passes, no_subcommand, some_is}
 
 -- ---- what the positionals have
 
@@ -145,8 +144,11 @@ module _ (c : List Rule) (own : have_own_ids c ≡ true) where
       ]
 
   flags_then : (h middle : Held) (met : Held × Outcome) → FlagKeeps h (middle, done) → FlagKeeps middle met → FlagKeeps h met
-  flags_then h middle met first second =
-      (ends_then (settled c met.0).rows (settled c middle).rows (settled c h).rows (positionals c) second.0 first.0, second.1, λ p. second.2 (first.2 p))
+  flags_then h middle met first second = (
+    ends_then (settled c met.0).rows (settled c middle).rows (settled c h).rows (positionals c) second.0 first.0,
+    second.1,
+    λ p. second.2 (first.2 p),
+  )
 
   -- no option waits
   abbrev Free : Outcome → Type 0
@@ -177,7 +179,8 @@ module _ (c : List Rule) (own : have_own_ids c ≡ true) where
           left = drop (length (encode_utf8 x)) flags
 
           at : (o : Option Rule) → arg_by_short c x ≡ o
-              → FlagKeeps h (short_met c o (drop (length (encode_utf8 x)) flags) h (bundle_met c k (drop (length (encode_utf8 x)) flags) 0 done))
+              → FlagKeeps h (short_met c o (drop (length (encode_utf8 x)) flags) h
+              (bundle_met c k (drop (length (encode_utf8 x)) flags) 0 done))
           at None is = with_nothing h refused tt
           at (Some rule) is = elim (cases_Bool (takes_values rule)) [
             | inl valued ↦

@@ -1,17 +1,17 @@
 -- The words that positionals have before a `--`, and those behind it, stand in order.
-use Rattle.std.proofs.Common.{◌≡◌, ℕ, ◌+◌, Bool, cond, true, false, List, [], ◌∷◌, ◌++◌, Option, Some, None, append-nil, append_assoc}
+use Rattle.std.proofs.Common.{◌≡◌, Bool, cond, true, false, List, [], ◌∷◌, ◌++◌, Option, Some, None, append-nil, append_assoc}
 use Rattle.std.proofs.Common.{refl, sym, ap, subst, ◌∙◌, inl, inr}
-use Rattle.std.specs.Prelude.{◌≢◌, ◌&&◌, not, is_some, unwrap_or, fold}
-use Rattle.std.specs.List.{AllByRecursion, list_all}
-use Rattle.std.specs.Option.{option_map_or}
+use Rattle.std.specs.Prelude.{◌≢◌, is_some, unwrap_or, fold}
+use Rattle.std.specs.List.{list_all}
 use Rattle.std.specs.Str.{bytes_eq}
-use Rattle.std.proofs.lemmas.Bool.{and_parts, both_ways, cases_Bool, false_from_ne_true, not-true}
+use Rattle.std.proofs.lemmas.Bool.{and_parts, both_ways, cases_Bool, false_from_ne_true}
 use Rattle.std.proofs.lemmas.List.Sums.{fold-append}
 use Rattle.std.proofs.lemmas.Slice.Eq.{bytes_eq-Decides}
 use Rattle.clap.specs.Faults.{walk_fault}
 use Rattle.clap.specs.Simple.{App, Shape, built}
 use Rattle.clap.specs.Walk.{Held, Row, Rule, Step, Text, Waiting, Walk, idle, next, option, positional, subcommand, trailing, value}
-use Rattle.clap.specs.Walk.{after_step, all_of, arg_by_index, is_multiple, nothing_held, settled, to_positional, used, walk_from, walked, word_met}
+use Rattle.clap.specs.Walk.{after_step, all_of, arg_by_index, is_multiple, nothing_held, settled, to_positional, used, walk_from}
+use Rattle.clap.specs.Walk.{walked, word_met}
 use Rattle.command_words.specs.Commands.{matched}
 use Rattle.word_laws.specs.Laws.{LackDashes}
 use Rattle.word_laws.specs.Positionals.{StandInOrder, dashes, given, have_own_ids, keeps_words, positionals, rules_of, takes_all, takes_one}
@@ -36,20 +36,16 @@ left_all : (rule : Rule) (rules : List Rule) (words : List Text) → takes_all r
 left_all rule rules [] all = refl
 left_all rule rules (word ∷ words) all = rw all refl
 
-nothing_given : (words : List Text) (rows : List Row) → given [] words rows ≡ rows
-nothing_given [] rows = refl
-nothing_given (word ∷ words) rows = refl
-
 given_more : (rules : List Rule) (words more : List Text) (rows : List Row)
     → given rules (words ++ more) rows ≡ given (left_rules rules words) more (given rules words rows)
 given_more rules [] more rows = refl
-given_more [] (word ∷ words) more rows = sym (nothing_given more rows)
+given_more [] (word ∷ words) more rows = sym (given_nothing more rows)
 given_more (rule ∷ rules) (word ∷ words) more rows =
     elim (cases_Bool (takes_all rule)) [
       | inl all ↦ rw all (
-        given_more (rule ∷ rules) words more (used rule (word ∷ []) rows)
-        ∙ ap (λ rs. given rs more (given (rule ∷ rules) words (used rule (word ∷ []) rows))) (left_all rule rules words all)
-      )
+          given_more (rule ∷ rules) words more (used rule (word ∷ []) rows)
+          ∙ ap (λ rs. given rs more (given (rule ∷ rules) words (used rule (word ∷ []) rows))) (left_all rule rules words all)
+          )
       | inr once ↦ rw once (given_more rules words more (used rule (word ∷ []) rows))
     ]
 
@@ -146,9 +142,8 @@ waits_well c own positional h free = tt
 waits_well c own (option id) h free = absurd free
 
 module _ (s : Shape) (ones : list_all takes_one s.rules ≡ true) (own : have_own_ids s.rules ≡ true)
-  (keeps : list_all keeps_words (positionals s.rules) ≡ true) (apart : have_own_ids (positionals s.rules) ≡ true)
-  (unused : HaveNone [] (positionals s.rules)) where
-
+    (keeps : list_all keeps_words (positionals s.rules) ≡ true) (apart : have_own_ids (positionals s.rules) ≡ true)
+    (unused : HaveNone [] (positionals s.rules)) where
   -- the walk has given these words to positionals, in turn
   record Come (w : Walk) (ahead : List Text) : Type 0 where
     pub ends : EndWith (rows_at s.rules w) (given (positionals s.rules) ahead []) (positionals s.rules)
@@ -195,7 +190,8 @@ module _ (s : Shape) (ones : list_all takes_one s.rules ≡ true) (own : have_ow
                 | inr once ↦ kept rules words (and_parts (keeps_words first) _ all).1 (rw once at left)
               ]
 
-      fresh : takes_all rule ≡ false → (all_of rule.id (rows_at s.rules w) ≡ None) × (all_of rule.id (given (positionals s.rules) ahead []) ≡ None)
+      fresh : takes_all rule ≡ false
+          → (all_of rule.id (rows_at s.rules w) ≡ None) × (all_of rule.id (given (positionals s.rules) ahead []) ≡ None)
       fresh one =
           let none = next_none (positionals s.rules) ahead [] rule rest one keeps apart unused is in
           (next_ends (rows_at s.rules w) _ (positionals s.rules) ahead rule rest come.ends is ∙ none, none)
@@ -207,7 +203,8 @@ module _ (s : Shape) (ones : list_all takes_one s.rules ≡ true) (own : have_ow
           ∙ by (takes_all rule)
         where
           by : (b : Bool)
-              → cond b (used rule (word ∷ []) (given (positionals s.rules) ahead [])) (used rule (word ∷ []) (given (positionals s.rules) ahead []))
+              → cond b (used rule (word ∷ []) (given (positionals s.rules) ahead []))
+              (used rule (word ∷ []) (given (positionals s.rules) ahead []))
               ≡ used rule (word ∷ []) (given (positionals s.rules) ahead [])
           by true = refl
           by false = refl
@@ -245,7 +242,8 @@ module _ (s : Shape) (ones : list_all takes_one s.rules ≡ true) (own : have_ow
       walk_is = walked_is s.rules w word stand.still ∙ rw stand.before refl
 
       -- a step, behind which the positionals have what they had
-      held_come : (after : Held) → Keeps s.rules own w.held after → WaitsWell s.rules own w.waiting after → Come (record w { held = after }) ahead
+      held_come : (after : Held) → Keeps s.rules own w.held after → WaitsWell s.rules own w.waiting after
+          → Come (record w { held = after }) ahead
       held_come after kept well = record {
         ends = ends_then (settled s.rules after).rows (rows_at s.rules w) _ (positionals s.rules) kept come.ends;
         fits = come.fits;
@@ -253,14 +251,14 @@ module _ (s : Shape) (ones : list_all takes_one s.rules ≡ true) (own : have_ow
         well = well;
       }
 
-      by_left : (after : Held) → Come (record w { held = after }) ahead → (rules : List Rule) → left_rules (positionals s.rules) ahead ≡ rules
+      by_left : (after : Held) → Come (record w { held = after }) ahead → (rules : List Rule)
+          → left_rules (positionals s.rules) ahead ≡ rules
           → (more : List Text) × Come (to_positional s.rules (arg_by_index s.rules w.position) word w after) more
       by_left after here [] is =
           let none = subst (λ (rs : List Rule). Follow s.rules w.position rs) is come.follow in
           (ahead, subst (λ (o : Option Rule). Come (to_positional s.rules o word w after) ahead) (sym none) here)
       by_left after here (rule ∷ rest) is =
-          let found = (subst (λ (rs : List Rule). Follow s.rules w.position rs) is come.follow).0 in
-          (
+          let found = (subst (λ (rs : List Rule). Follow s.rules w.position rs) is come.follow).0 in (
             ahead ++ word ∷ [],
             subst (λ (o : Option Rule). Come (to_positional s.rules o word w after) (ahead ++ word ∷ [])) (sym found)
                 (come_taken (record w { held = after }) ahead rule rest word here is),
@@ -278,14 +276,16 @@ module _ (s : Shape) (ones : list_all takes_one s.rules ≡ true) (own : have_ow
         },
       )
       by_step after value kept =
-          by_left after (held_come after kept.0 (waits_well s.rules own w.waiting after kept.1)) (left_rules (positionals s.rules) ahead) refl
+          by_left after (held_come after kept.0 (waits_well s.rules own w.waiting after kept.1))
+          (left_rules (positionals s.rules) ahead) refl
       by_step after (trailing place) kept = absurd kept
       by_step after (subcommand name) kept = absurd kept
 
       by_walk : (more : List Text) × Come (after_step s.rules word w (word_met s.rules [] false w.waiting w.position word w.held).0
           (word_met s.rules [] false w.waiting w.position word w.held).1) more
       by_walk =
-          by_step (word_met s.rules [] false w.waiting w.position word w.held).0 (word_met s.rules [] false w.waiting w.position word w.held).1
+          by_step (word_met s.rules [] false w.waiting w.position word w.held).0
+          (word_met s.rules [] false w.waiting w.position word w.held).1
           (word_keeps s.rules own word w.waiting w.position w.held come.well
           (false_from_ne_true (bytes_eq word dashes) (λ same. differ ((bytes_eq-Decides word dashes).0 same))))
 
@@ -304,7 +304,7 @@ module _ (s : Shape) (ones : list_all takes_one s.rules ≡ true) (own : have_ow
     where
       by : (rules : List Rule) → left_rules (positionals s.rules) ahead ≡ rules
           → ((v : Walk) (so_far : List Text) → v.stopped ≡ None → v.is_trailing ≡ true → walk_fault s [] v words ≡ [] → Come v so_far
-            → Come (fold (walked s.rules []) v words) (so_far ++ words))
+          → Come (fold (walked s.rules []) v words) (so_far ++ words))
           → Come (fold (walked s.rules []) (walked s.rules [] w word) words) (ahead ++ word ∷ words)
       by [] is rest =
           let none = subst (λ (rs : List Rule). Follow s.rules w.position rs) is come.follow in
@@ -325,7 +325,7 @@ module _ (s : Shape) (ones : list_all takes_one s.rules ≡ true) (own : have_ow
 -- behind a `--` the words join those that positionals have before it
 pub dashes_joined : (command : App) → Parts command → (name : Text) (before : List Text) → LackDashes before
     → (ahead : List Text) × ((behind : List Text) (rows : List Row) → matched command (name ∷ (before ++ dashes ∷ behind)) ≡ Some rows
-      → StandInOrder rows (positionals (rules_of command)) (ahead ++ behind))
+    → StandInOrder rows (positionals (rules_of command)) (ahead ++ behind))
 dashes_joined command p name before lack = (come.0, joined)
   where
     s : Shape
@@ -340,7 +340,8 @@ dashes_joined command p name before lack = (come.0, joined)
     at : Walk
     at = fold (walked (rules_of command) []) (walk_from nothing_held) before
 
-    come : (ahead : List Text) × Come s p.ones p.own p.keeps apart unused (fold (walked (rules_of command) []) (walk_from nothing_held) before) ahead
+    come : (ahead : List Text)
+        × Come s p.ones p.own p.keeps apart unused (fold (walked (rules_of command) []) (walk_from nothing_held) before) ahead
     come =
         come_on s p.ones p.own p.keeps apart unused before (walk_from nothing_held) [] (start_stands command p) lack
         (record { ends = ends_same [] (positionals (rules_of command)); fits = tt; follow = first_place command p; well = tt })

@@ -124,6 +124,11 @@ rows_at c w = (settled c w.held).rows
 abbrev pub gone : List Rule → Rule → Text → Walk → Walk
 gone c rule word w = to_positional c (Some rule) word w w.held
 
+-- without positionals, words give nothing
+pub given_nothing : (words : List Text) (rows : List Row) → given [] words rows ≡ rows
+given_nothing [] rows = refl
+given_nothing (word ∷ words) rows = refl
+
 module _ (c : List Rule) (ones : list_all takes_one c ≡ true) (own : have_own_ids c ≡ true) where
   pub takes_single : (p : Rule → Bool) (rule : Rule) → find p c ≡ Some rule → (takes_several rule ≡ false) × (rule.trailing_var_arg ≡ false)
   takes_single p rule found =
@@ -159,10 +164,6 @@ module _ (c : List Rule) (ones : list_all takes_one c ≡ true) (own : have_own_
   pub goes_rest : (w : Walk) (word : Text) (words : List Text) → Goes w (word ∷ words) → Goes w words
   goes_rest w word words (inl behind) = inl behind
   goes_rest w word words (inr plain) = inr (plain.0, plain.1.1)
-
-  pub given_nothing : (words : List Text) (rows : List Row) → given [] words rows ≡ rows
-  given_nothing [] rows = refl
-  given_nothing (word ∷ words) rows = refl
 
   -- a word that no positional takes changes nothing
   pub stray : (w : Walk) (word : Text) (words : List Text) → arg_by_index c w.position ≡ None → w.stopped ≡ None

@@ -99,7 +99,7 @@ WordsBehindDashesGoInTurn = (command : App) (name : Text) (before behind : List 
 abbrev pub WordsBehindDashesStandInOrder : Type 0
 WordsBehindDashesStandInOrder = (command : App) (name : Text) (before : List Text) → IsSingle command → LackDashes before
     → (ahead : List Text) × ((behind : List Text) (rows : List Row) → matched command (name ∷ (before ++ dashes ∷ behind)) ≡ Some rows
-      → StandInOrder rows (positionals (rules_of command)) (ahead ++ behind))
+    → StandInOrder rows (positionals (rules_of command)) (ahead ++ behind))
 
 -- where the words before it are plain, these are they
 abbrev pub WordsBehindDashesJoinPlain : Type 0
