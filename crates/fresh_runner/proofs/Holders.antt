@@ -1,11 +1,11 @@
 -- What a holder knows.
-use Rattle.std.proofs.Common.{◌≡◌, ℕ, ◌+◌, ◌^◌, ◌<◌, ◌++◌, [], ◌∷◌, List, length, map, ap, sym, ◌∙◌, subst, arith, Option, Some, None}
+use Rattle.std.proofs.Common.{◌≡◌, ℕ, ◌+◌, ◌^◌, ◌<◌, ◌++◌, [], ◌∷◌, List, length, ap, sym, ◌∙◌, subst, arith, Option, Some, None}
 use Rattle.std.proofs.Common.{length-append, refl, true}
 use Rattle.std.specs.Prelude.{All, IsSome, slice_get, ◌==◌}
 use Rattle.std.proofs.lemmas.Bool.{eq-eqb}
 use Rattle.std.proofs.lemmas.List.Sums.{sum_by-append, sum_by-cons}
 use Rattle.std.proofs.lemmas.List.{length-map}
-use Rattle.std.proofs.lemmas.List.Elements.{All-append, All-head, All-map, All-nil, All-tail, All-cons}
+use Rattle.std.proofs.lemmas.List.Elements.{All-head, All-nil, All-tail, All-cons}
 use Rattle.lock_rules.specs.Tag.{Tag}
 use Rattle.lock_rules.specs.Trees.{lists_in, tree_of_lists}
 use Rattle.lock_rules.proofs.Trees.{lists_in-tree_of_lists}
@@ -19,8 +19,7 @@ use Rattle.keep_local.proofs.Trails.{times_callers}
 use Rattle.clof_compose.specs.Calls.{HasOpened}
 use Rattle.clof_compose.specs.Courses.{course_of}
 use Rattle.clof_compose.specs.declared.root.Root.{Root}
-use Rattle.fresh_root.specs.Prefixes.{IsPrefixOf}
-use Rattle.fresh_root.specs.States.{FreshState, calls_while, fresh_calls, no_caller}
+use Rattle.fresh_root.specs.States.{calls_while, no_caller}
 use Rattle.mc_text.specs.Request.{WholeCommand}
 use Rattle.mc_text.specs.Reading.{commands_of}
 use Rattle.kv_history.specs.Log.{Log, IsNext, calls}

@@ -4,7 +4,6 @@ use Rattle.std.proofs.Common.{subst, arith, Option, Some, None, length-append}
 use Rattle.std.specs.Prelude.{All, option_map, slice_get, slice_index, ◌||◌}
 use Rattle.std.specs.List.{list_any}
 use Rattle.std.proofs.lemmas.List.{append-nil}
-use Rattle.std.proofs.lemmas.List.Elements.{All-nil}
 use Rattle.std.proofs.lemmas.Option.{get_or_from_slice_get, slice_get-get_or, slice_get-map, slice_get_within}
 use Rattle.atomic_table.specs.Seated.{TableId}
 use Rattle.lock_rules.specs.Tag.{Tag}
@@ -23,7 +22,7 @@ use Rattle.kv_history.specs.Log.{Log, EachHasSection, EachOwnFirst, NoneVoid, ca
 use Rattle.kv_history.proofs.Next.{count-own}
 use Rattle.placed_runner.specs.Printed.{IsRun}
 use Rattle.placed_runner.specs.Sections.{Placed}
-use Rattle.placed_runner.specs.Text.{Hold, one_lock, run_text, turns_text}
+use Rattle.placed_runner.specs.Text.{turns_text}
 use Rattle.placed_runner.specs.Views.{section_view}
 use Rattle.placed_runner.specs.declared.sections.Section.{Section}
 use Rattle.placed_runner.proofs.Printed.{is_run}

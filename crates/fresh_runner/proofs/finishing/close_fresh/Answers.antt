@@ -1,6 +1,5 @@
 use Rattle.std.proofs.Common.{List, ℕ, length, map, ap, sym, ◌∙◌, subst}
 use Rattle.std.proofs.lemmas.Result.{IfOk-weaker}
-use Rattle.lock_rules.specs.Tag.{Tag}
 use Rattle.lock_rules.specs.Trees.{lists_in}
 use Rattle.keep_local.specs.States.{TrailState, callers_in}
 use Rattle.clof_compose.specs.Courses.{Course, course_of}

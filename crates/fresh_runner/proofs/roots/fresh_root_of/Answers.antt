@@ -1,8 +1,5 @@
 use Rattle.std.proofs.Common.{length, map, ap, sym, ◌∙◌, subst}
 use Rattle.std.proofs.lemmas.List.{length-map}
-use Rattle.lock_rules.specs.Trees.{tree_of_lists}
-use Rattle.clof_compose.specs.Courses.{course_of}
-use Rattle.clof_compose.specs.Roots.{root_tag}
 use Rattle.fresh_root.specs.States.{AreAll, FreshState}
 use Rattle.placed_runner.specs.declared.sections.Section.{Section}
 use Rattle.threaded_runner.specs.Books.{book_tag}
