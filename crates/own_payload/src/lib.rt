@@ -11,10 +11,12 @@ mod jobs;
 mod noted;
 mod roots;
 mod runs;
+mod serves;
 
 pub use calls::Calls;
-pub use holding::{hold, hold_all};
+pub use holding::{hold, serve_caller};
 pub use jobs::{Job, Lists, deal, gather};
 pub use noted::Noted;
 pub use roots::{new_root, new_unrecorded_root};
-pub use runs::run;
+pub use runs::serve;
+pub use serves::{Always, Serves};
