@@ -17,14 +17,16 @@ gather-passes-requires g c = record {
 
 pub close-root-requires-clause-all : goal.close-root-requires-clause-all
 close-root-requires-clause-all g c =
-    passes_back _ _ _ _ (g.S.Serves.stops c.args.server.now) c.in-Some.jobs.items c.by_all-jobs.result.items _ c.in-Some.ensures.many c.by_all-jobs.ensures.many
-    c.in-Some.ensures.each c.by_all-jobs.ensures.each c.gather-passes.result.passes.items c.gather-passes.ensures.passes
+    passes_back _ _ _ _ (g.S.Serves.stops c.args.server.now) c.in-Some.jobs.items c.by_all-jobs.result.items _
+    c.in-Some.ensures.many c.by_all-jobs.ensures.many c.in-Some.ensures.each c.by_all-jobs.ensures.each
+    c.gather-passes.result.passes.items c.gather-passes.ensures.passes
 
 pub agreed-requires : goal.agreed-requires
 agreed-requires g c = record {
   own = λ k s e.
-      (shares_back _ _ _ _ (g.S.Serves.stops c.args.server.now) c.in-Some.jobs.items c.by_all-jobs.result.items _ c.in-Some.ensures.many c.by_all-jobs.ensures.many
-      c.in-Some.ensures.each c.by_all-jobs.ensures.each c.gather-passes.result.shares.items c.gather-passes.ensures.shares k s e).own
+      (shares_back _ _ _ _ (g.S.Serves.stops c.args.server.now) c.in-Some.jobs.items c.by_all-jobs.result.items _
+      c.in-Some.ensures.many c.by_all-jobs.ensures.many c.in-Some.ensures.each c.by_all-jobs.ensures.each
+      c.gather-passes.result.shares.items c.gather-passes.ensures.shares k s e).own
       ∙ name_of c.close-root.result _ (sym c.close-root.ensures.tagged);
 }
 
