@@ -51,7 +51,8 @@ module _ (sections : List Placed) (shape : Shape) (printed : List ℕ) where
         make = all.make;
         rest = lines (caller_lines sections ++ behind);
         none = none_told sections (map (λ (hold : Hold). hold.caller) run.holds);
-        lines_are = ap lines (marked.printed_is ∙ ap (λ (t : List ℕ). t ++ behind) text_is ∙ append_assoc text (caller_lines sections) behind)
+        lines_are =
+            ap lines (marked.printed_is ∙ ap (λ (t : List ℕ). t ++ behind) text_is ∙ append_assoc text (caller_lines sections) behind)
             ∙ all.lines_are (caller_lines sections ++ behind);
       }
 
@@ -80,7 +81,8 @@ module _ (sections : List Placed) (shape : Shape) (printed : List ℕ) where
       ∙ first_lines other.run.holds second (many_told other.run.holds second) in
       let f = front sections shape few low [] one.run.holds other.run.holds first.made second.made [] first.make second.make
       (same ∙ sym (append-nil second.made)) in
-      f.holds_are ∙ ap (λ (t : List Hold). other.run.holds ++ t) (no_holds f.tail (sym (made_many sections shape other.run.holds f.tail [] f.make)))
+      f.holds_are
+      ∙ ap (λ (t : List Hold). other.run.holds ++ t) (no_holds f.tail (sym (made_many sections shape other.run.holds f.tail [] f.make)))
       ∙ append-nil other.run.holds
     where
       no_holds : (holds : List Hold) → length holds ≡ 0 → holds ≡ []

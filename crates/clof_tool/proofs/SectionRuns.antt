@@ -109,7 +109,8 @@ same_marked printed sections one other same few low first =
 -- the same under the lock of one plan
 same_under : (receipts : Bool) (described : Description) (plan : Plan) (printed : List ℕ) (sections : List Placed)
     → IsPlanFor described plan → length sections ≤ caller_limit
-    → (first second : PrintsRun receipts described plan sections printed) → holds_in receipts _ _ _ _ first ≡ holds_in receipts _ _ _ _ second
+    → (first second : PrintsRun receipts described plan sections printed)
+    → holds_in receipts _ _ _ _ first ≡ holds_in receipts _ _ _ _ second
 same_under false described plan printed sections planned few first second =
     let pus = map (λ (section : Placed). section.pu) sections in
     same_holds printed sections first.shape second.shape

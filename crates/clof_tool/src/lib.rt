@@ -17,8 +17,3 @@ pub use command_texts::{Fault, OptionName, Status};
 pub use laws::{one_check, one_run};
 pub use process::Process;
 pub use top_call::{top, top_with};
-
-#[cfg(test)]
-mod select_tests;
-#[cfg(test)]
-mod tests;

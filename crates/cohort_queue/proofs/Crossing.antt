@@ -22,5 +22,6 @@ pub cohort_shared : (J : RattleType) (g : Ghosts J.Denot) → IsSend J → IsSyn
 cohort_shared J g job =
     let fields : IsSync (inside.the_row J g) =
     recorded_sync _ _ _ (inside.the_type J g).to_one
-    (struct_sync (shape (inside.the_type J g)) (search (sendable, crosses, slotted.the_field_sync) depth 30 fits 20000, (search (sendable, crosses) depth 20, tt))) in
+    (struct_sync (shape (inside.the_type J g))
+    (search (sendable, crosses, slotted.the_field_sync) depth 30 fits 20000, (search (sendable, crosses) depth 20, tt))) in
     view_sync (inside.the_row J g) _ _ _ _ fields

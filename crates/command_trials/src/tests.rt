@@ -119,3 +119,12 @@ fn tells_each_fault(rt: HostRuntime) -> Result<(), Fail> {
     assert_eq!(rt; told.as_str(), "out of memory");
     Ok(())
 }
+
+// Want of memory has a line too, which no words call forth.
+#[test]
+fn tells_of_wanted_memory(rt: HostRuntime) -> Result<(), Fail> {
+    let told = line(&Status::OutOfMemory);
+    assert_eq!(rt; Status::OutOfMemory.code(), 7);
+    assert_eq!(rt; told.as_str(), "clof: out of memory\n");
+    Ok(())
+}

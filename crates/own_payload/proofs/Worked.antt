@@ -13,7 +13,7 @@ use Rattle.clof_compose.specs.Courses.{course_of}
 use Rattle.clof_compose.specs.Meanings.{Rest}
 use Rattle.clof_compose.specs.Passes.{AreAll, IsNumber}
 use Rattle.clof_compose.specs.Shares.{IsShareIn}
-use Rattle.own_payload.specs.Jobs.{EachMadeAll, HasWorked, IsJob, MayWork}
+use Rattle.own_payload.specs.Jobs.{EachEnded, EachMadeAll, HasServed, IsJob, MayWork}
 use Rattle.own_payload.specs.declared.jobs.Job.{Job}
 
 -- what stands in a list that was made of another stands for an item of that
@@ -33,60 +33,62 @@ module _ {P : Type 0} (rest : P → Rest) (has : Context → Type 0) (level : �
     job = subst (λ (n : ℕ). IsJob rest has level tag n j) (sym is.share_is.caller_is) is;
   }
 
-  -- the job of a caller that has made all its turns
-  pub record IsEnded (k : ℕ) (j : Job P) : Type 0 where
-    pub job : IsJob rest has level tag k j
-    pub made : j.share.made ≡ j.share.quota
+  module _ (stops : ℕ → Type 0) where
+    -- the job of a caller that has made all its turns, unless it may stop
+    pub record IsEnded (k : ℕ) (j : Job P) : Type 0 where
+      pub job : IsJob rest has level tag k j
+      pub made : ¬ stops k → j.share.made ≡ j.share.quota
 
-  ended : (k : ℕ) (j j' : Job P) → IsJob rest has level tag k j → HasWorked rest j j' → IsEnded k j'
-  ended k j j' is worked =
-      let share = worked.share in record {
-        job = record {
-          pass_is = subst (IsNumber has level tag k) (sym worked.pass) is.pass_is;
-          share_is = record {
-            own = ap (λ (s : ShareState). s.name) share ∙ is.share_is.own;
-            caller_is = ap (λ (s : ShareState). s.caller) share ∙ is.share_is.caller_is;
-            known = is.share_is.known;
-            quota = ap (λ (s : ShareState). s.quota) share ∙ is.share_is.quota;
+    ended : (k : ℕ) (j j' : Job P) → IsJob rest has level tag k j → HasServed rest stops j j' → IsEnded k j'
+    ended k j j' is served =
+        let share = served.share in
+        let caller : j.share.caller ≡ k = is.share_is.caller_is in record {
+          job = record {
+            pass_is = subst (IsNumber has level tag k) (sym served.pass) is.pass_is;
+            share_is = record {
+              own = ap (λ (s : ShareState). s.name) share ∙ is.share_is.own;
+              caller_is = ap (λ (s : ShareState). s.caller) share ∙ caller;
+              known = is.share_is.known;
+              quota = ap (λ (s : ShareState). s.quota) share ∙ is.share_is.quota;
+            };
           };
-        };
-        made = ap (λ (s : ShareState). s.made) share ∙ sym (ap (λ (s : ShareState). s.quota) share);
+          made = λ on. served.ended (subst (λ (n : ℕ). ¬ stops n) (sym caller) on) ∙ sym (ap (λ (s : ShareState). s.quota) share);
+        }
+
+    module _ (jobs done : List (Job P)) (count : ℕ) (all : length jobs ≡ count) (many : length done ≡ length jobs)
+        (each : (k : ℕ) (j : Job P) → slice_get jobs k ≡ Some j → IsJob rest has level tag k j)
+        (served : (k : ℕ) (j j' : Job P) → slice_get jobs k ≡ Some j → slice_get done k ≡ Some j' → HasServed rest stops j j') where
+      all_ended : (k : ℕ) (j' : Job P) → slice_get done k ≡ Some j' → IsEnded k j'
+      all_ended k j' e =
+          let within = slice_get_within done k j' e in
+          let at : slice_get jobs k ≡ Some (get_or jobs k j') = slice_get-get_or jobs k j' (omega (arith, within, many)) in
+          ended k (get_or jobs k j') j' (each k (get_or jobs k j') at) (served k (get_or jobs k j') j' at e)
+
+      -- the passes that come back are all passes
+      pub passes_back : (passes : List P) → passes ≡ map (λ (j : Job P). j.pass) done
+          → AreAll (λ p. (rest p).context) has level tag count passes
+      passes_back passes are = record {
+        all = ap length are ∙ length-map done (λ (j : Job P). j.pass) ∙ many ∙ all;
+        each = λ k p e.
+            let found = stands_for (λ (j : Job P). j.pass) done k p (ap (λ (l : List P). slice_get l k) (sym are) ∙ e) in
+            subst (λ q. IsNumber has level tag k (rest q).context) found.2 (all_ended k found.0 found.1).job.pass_is;
       }
 
-  module _ (jobs done : List (Job P)) (count : ℕ) (all : length jobs ≡ count) (many : length done ≡ length jobs)
-      (each : (k : ℕ) (j : Job P) → slice_get jobs k ≡ Some j → IsJob rest has level tag k j)
-      (worked : (k : ℕ) (j j' : Job P) → slice_get jobs k ≡ Some j → slice_get done k ≡ Some j' → HasWorked rest j j') where
-    all_ended : (k : ℕ) (j' : Job P) → slice_get done k ≡ Some j' → IsEnded k j'
-    all_ended k j' e =
-        let within = slice_get_within done k j' e in
-        let at : slice_get jobs k ≡ Some (get_or jobs k j') = slice_get-get_or jobs k j' (omega (arith, within, many)) in
-        ended k (get_or jobs k j') j' (each k (get_or jobs k j') at) (worked k (get_or jobs k j') j' at e)
+      module _ (shares : List ShareState) (are : shares ≡ map (λ (j : Job P). j.share) done) where
+        pub shares_many : length shares ≡ count
+        shares_many = ap length are ∙ length-map done (λ (j : Job P). j.share) ∙ many ∙ all
 
-    -- the passes that come back are all passes
-    pub passes_back : (passes : List P) → passes ≡ map (λ (j : Job P). j.pass) done
-        → AreAll (λ p. (rest p).context) has level tag count passes
-    passes_back passes are = record {
-      all = ap length are ∙ length-map done (λ (j : Job P). j.pass) ∙ many ∙ all;
-      each = λ k p e.
-          let found = stands_for (λ (j : Job P). j.pass) done k p (ap (λ (l : List P). slice_get l k) (sym are) ∙ e) in
-          subst (λ q. IsNumber has level tag k (rest q).context) found.2 (all_ended k found.0 found.1).job.pass_is;
-    }
+        -- the shares are those of the callers
+        pub shares_back : (k : ℕ) (s : ShareState) → slice_get shares k ≡ Some s → IsShareIn (course_of tag) k s
+        shares_back k s e =
+            let found = stands_for (λ (j : Job P). j.share) done k s (ap (λ (l : List ShareState). slice_get l k) (sym are) ∙ e) in
+            subst (IsShareIn (course_of tag) k) found.2 (all_ended k found.0 found.1).job.share_is
 
-    module _ (shares : List ShareState) (are : shares ≡ map (λ (j : Job P). j.share) done) where
-      pub shares_many : length shares ≡ count
-      shares_many = ap length are ∙ length-map done (λ (j : Job P). j.share) ∙ many ∙ all
-
-      -- the shares are those of the callers
-      pub shares_back : (k : ℕ) (s : ShareState) → slice_get shares k ≡ Some s → IsShareIn (course_of tag) k s
-      shares_back k s e =
-          let found = stands_for (λ (j : Job P). j.share) done k s (ap (λ (l : List ShareState). slice_get l k) (sym are) ∙ e) in
-          subst (IsShareIn (course_of tag) k) found.2 (all_ended k found.0 found.1).job.share_is
-
-      -- and have made all their turns
-      pub shares_made : (k : ℕ) (s : ShareState) → slice_get shares k ≡ Some s → s.made ≡ s.quota
-      shares_made k s e =
-          let found = stands_for (λ (j : Job P). j.share) done k s (ap (λ (l : List ShareState). slice_get l k) (sym are) ∙ e) in
-          subst (λ (t : ShareState). t.made ≡ t.quota) found.2 (all_ended k found.0 found.1).made
+        -- and have made all their turns, but for those of callers that may stop
+        pub shares_made : (k : ℕ) (s : ShareState) → slice_get shares k ≡ Some s → ¬ stops k → s.made ≡ s.quota
+        shares_made k s e =
+            let found = stands_for (λ (j : Job P). j.share) done k s (ap (λ (l : List ShareState). slice_get l k) (sym are) ∙ e) in
+            subst (λ (t : ShareState). ¬ stops k → t.made ≡ t.quota) found.2 (all_ended k found.0 found.1).made
 
 blank : ShareState
 blank = record {
@@ -96,16 +98,21 @@ blank = record {
   quota = 0;
 }
 
--- where no turn is open and each share is counted, each caller has made all its turns
-pub each_made : (s : TrailState) (quotas : List ℕ) (shares : List ShareState) → s.current ≡ None → All (IsShareOf s) shares
-    → s.quotas ≡ quotas → length shares ≡ length quotas
-    → ((k : ℕ) (one : ShareState) → slice_get shares k ≡ Some one → (one.caller ≡ k) × (one.made ≡ slice_index quotas k)) → EachMadeAll s
-each_made s quotas shares closed counted own many done k within =
+-- where no turn is open and each share is counted, each caller has made all its turns, but for those that may stop
+pub each_ended : (s : TrailState) (stops : ℕ → Type 0) (quotas : List ℕ) (shares : List ShareState) → s.current ≡ None
+    → All (IsShareOf s) shares → s.quotas ≡ quotas → length shares ≡ length quotas
+    → ((k : ℕ) (one : ShareState) → slice_get shares k ≡ Some one
+    → (one.caller ≡ k) × (¬ stops k → one.made ≡ slice_index quotas k)) → EachEnded stops s
+each_ended s stops quotas shares closed counted own many done k within on =
     let whole : all_turns s ≡ s.closed = ap (λ (o : Option Turn). s.closed ++ option_list o) closed ∙ append-nil s.closed in
     let one = get_or shares k blank in
     let same = ap length own in
     let inside : k < length shares = omega (arith, within, many, same) in
     let here = done k one (slice_get-get_or shares k blank inside) in
     let is = counted k blank inside in
-    ap (turns_of k) (sym whole) ∙ ap (λ (n : ℕ). turns_of n (all_turns s)) (sym here.0) ∙ sym is.made ∙ here.1
+    ap (turns_of k) (sym whole) ∙ ap (λ (n : ℕ). turns_of n (all_turns s)) (sym here.0) ∙ sym is.made ∙ here.1 on
     ∙ ap (λ (l : List ℕ). slice_index l k) (sym own)
+
+-- where none may stop, each has
+pub all_made : (s : TrailState) → EachEnded (λ _. ⊥) s → EachMadeAll s
+all_made s ended k within = ended k within (λ e. e)

@@ -23,10 +23,11 @@ module _ {P : Type 0} (rest : P → Rest) where
     pub lowest : level ≡ 0
     pub job : IsJob has level tag j.share.caller j
 
-  -- the pass is that of the same context, and the share has made all its turns
-  pub record HasWorked (before after : Job P) : Type 0 where
+  -- the pass is that of the same context, and the share has made all its turns, unless its caller may stop
+  pub record HasServed (stops : ℕ → Type 0) (before after : Job P) : Type 0 where
     pub pass : (rest after.pass).context ≡ (rest before.pass).context
-    pub share : after.share ≡ record before.share { made = before.share.quota }
+    pub share : after.share ≡ record before.share { made = after.share.made }
+    pub ended : ¬ stops before.share.caller → after.share.made ≡ before.share.quota
 
 -- the lists are empty, and have room for so many
 pub record AreEmpty {P : Type 0} (room : ℕ) (lists : Lists P) : Type 0 where
@@ -34,6 +35,10 @@ pub record AreEmpty {P : Type 0} (room : ℕ) (lists : Lists P) : Type 0 where
   pub shares : lists.shares.items ≡ []
   pub passes_room : room ≤ vec_capacity lists.passes
   pub shares_room : room ≤ vec_capacity lists.shares
+
+-- each caller has closed as many turns as its quota, but for those that may stop
+abbrev pub EachEnded : (ℕ → Type 0) → TrailState → Type 0
+EachEnded stops s = (k : ℕ) → k < length s.quotas → ¬ stops k → turns_of k s.closed ≡ slice_index s.quotas k
 
 -- each caller has closed as many turns as its quota
 abbrev pub EachMadeAll : TrailState → Type 0

@@ -2,10 +2,11 @@
 ghost use Rattle.std.specs.Prelude.{◌≡◌, ◌+◌, ◌∷◌, [], ◌++◌};
 ghost use Rattle.clof_compose.specs.Calls.{MayTurn};
 ghost use Rattle.clof_compose.specs.Courses.{course_of};
-ghost use Rattle.own_payload.specs.Jobs.{MayWork, HasWorked};
+ghost use Rattle.own_payload.specs.Jobs.{MayWork, HasServed};
 
 use crate::jobs::Job;
 use crate::noted::Noted;
+use crate::serves::Serves;
 use clof_compose::{Composed, Resting, Root, Standing};
 use keep_local::Share;
 use std::sync::Wait;
@@ -46,24 +47,34 @@ pub fn hold<T: Drop, A, C: Composed<Noted<T>>, F: FnOnce(&mut T, u32) -> A, R: W
     (lock.release(rt, held), answer)
 }
 
-/// Holds the lock once for each turn that the caller has left, and has `work` change the value each time.
-pub fn hold_all<T: Drop, C: Composed<Noted<T>>, F: Fn(&mut T, u32), R: Wait>(
+/// Has a caller take its tasks and hold the lock for each, until it stops or its share allows no further turn.
+pub fn serve_caller<T: Drop, C: Composed<Noted<T>>, S: Serves<T>, R: Wait>(
     rt: &R,
     lock: &C,
     job: Job<C::Pass>,
-    work: &F,
+    server: &S,
 ) -> Job<C::Pass>
     requires may { MayWork C.Pass.rest (C.has lock.now) (C.sound lock.now) (C.level lock.now) (C.tag lock.now) job }
-    requires callable { F.IsAlwaysCallable work.now }
-    ensures { HasWorked C.Pass.rest job result }
+    requires asked { S.may server.now }
+    ensures { HasServed C.Pass.rest (S.stops server.now) job result }
 {
     let Job {
         mut pass,
         mut share,
     } = job;
     for _ in share.turns_made()..share.turns_allowed() {
-        let (rested, ()) = hold(rt, lock, pass, &mut share, work);
+        let Some(task) = server.next(share.caller()) else {
+            return Job { pass, share };
+        };
+        let (rested, answer) = hold(
+            rt,
+            lock,
+            pass,
+            &mut share,
+            |value: &mut T, caller: u32| server.apply(value, caller, task),
+        );
         pass = rested;
+        server.tell(share.caller(), answer);
     }
     Job { pass, share }
 }

@@ -3,12 +3,13 @@ ghost use Rattle.std.specs.Prelude.{◌≡◌, ℕ, slice_get, All, IfSome, Some
 ghost use Rattle.lock_rules.specs.Tag.{leaf};
 ghost use Rattle.keep_local.specs.States.{IsShareOf};
 ghost use Rattle.clof_compose.specs.Roots.{IsFit, root_tag};
-ghost use Rattle.own_payload.specs.Jobs.{EachMadeAll, HasWorked, MayWork};
+ghost use Rattle.own_payload.specs.Jobs.{EachEnded, HasServed, MayWork};
 ghost use Rattle.own_payload.specs.Ready.{IsReady};
 
-use crate::holding::hold_all;
+use crate::holding::serve_caller;
 use crate::jobs::{Job, Lists, deal, gather};
 use crate::noted::Noted;
+use crate::serves::Serves;
 use clof_compose::{Composed, Root};
 use keep_local::{Share, Trail};
 use lock_threads::{Works, by_all};
@@ -17,56 +18,58 @@ use std::marker::PhantomData;
 use std::sync::Wait;
 use std::thread::Threads;
 
-// What each thread needs: they share the lock and the work by plain borrows.
+// What each thread needs: they share the lock and the server by plain borrows.
 #[derive(Drop)]
-struct Shift<'b, T, C, F, R> {
+struct Shift<'b, T, C, S, R> {
     rt: &'b R,
     lock: &'b C,
-    work: &'b F,
+    server: &'b S,
     value: PhantomData<T>,
 }
 
-impl<'b, T: Drop, C: Composed<Noted<T>>, F: Fn(&mut T, u32), R: Wait> Works<Job<C::Pass>>
-    for Shift<'b, T, C, F, R> {
-    // the job is that of a caller of this lock, and the work may always be done
+impl<'b, T: Drop, C: Composed<Noted<T>>, S: Serves<T>, R: Wait> Works<Job<C::Pass>>
+    for Shift<'b, T, C, S, R> {
+    // the job is that of a caller of this lock, and the server may be asked
     ghost allows = { λ s j. MayWork C.Pass.rest (C.has s.lock.now) (C.sound s.lock.now) (C.level s.lock.now) (C.tag s.lock.now) j
-        × F.IsAlwaysCallable s.work.now };
+        × S.may s.server.now };
 
-    // and all its turns are made
-    ghost gives = { λ _ j k. HasWorked C.Pass.rest j k };
+    // and all its turns are made, unless it may stop
+    ghost gives = { λ s j k. HasServed C.Pass.rest (S.stops s.server.now) j k };
 
     fn work(&self, job: Job<C::Pass>) -> Job<C::Pass> {
-        hold_all(self.rt, self.lock, job, self.work)
+        serve_caller(self.rt, self.lock, job, self.server)
     }
 }
 
-/// Each caller holds the lock as often as its share allows, in a thread of its own, and has `work` change the value each time. The lock is
-/// then taken apart, and gives its root, whose trail has all turns of all callers. The answer is `None` for want of memory.
-pub fn run<
+/// Has each caller take its tasks and hold the lock for each, in a thread of its own, until it stops or its share allows no further turn.
+/// The lock is then taken apart, and gives its root. The answer is `None` for want of memory.
+pub fn serve<
     T: Send + Sync + Drop,
     C: Composed<Noted<T>> + Sync + Drop,
-    F: Fn(&mut T, u32) + Sync,
+    S: Serves<T> + Sync,
     R: Threads + Wait + Sync,
->(rt: &R, alloc: Global, lock: C, lists: Lists<C::Pass>, work: &F) -> Option<Root<Noted<T>>>
+>(rt: &R, alloc: Global, lock: C, lists: Lists<C::Pass>, server: &S) -> Option<Root<Noted<T>>>
 where
     C::Pass: Send,
     C::Queue: Send,
     C::Held: Send,
     C::Leave: Send,
+    S::Task: Send,
+    S::Answer: Send,
     requires ready { IsReady C.Pass.rest (C.has lock) (C.sound lock) (C.level lock) (C.count lock) (C.tag lock) lists.passes.items
         lists.shares.items }
-    requires callable { F.IsAlwaysCallable work.now }
+    requires asked { S.may server.now }
     ensures fit { IfSome result (IsFit (λ n. n.calls.callers)) }
     ensures tagged { IfSome result (λ r. root_tag (λ _. leaf 0) r ≡ C.tag lock) }
-    ensures made { IfSome result (λ r. EachMadeAll r.trail) }
+    ensures ended { IfSome result (λ r. EachEnded (S.stops server.now) r.trail) }
 {
     let Some((jobs, lists)) = deal(alloc, &lock, lists) else {
         return None;
     };
-    let shift = Shift::<T, C, F, R> {
+    let shift = Shift::<T, C, S, R> {
         rt,
         lock: &lock,
-        work,
+        server,
         value: PhantomData,
     };
     let jobs = by_all(rt, &shift, jobs);

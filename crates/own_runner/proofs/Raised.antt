@@ -50,7 +50,7 @@ module _ {T : Type 0} (root : Root (Noted T)) (t : Tag) (same : root_tag (λ _. 
   quotas_named = sym (ap (λ (c : Course). c.quotas) (course_is (λ n. n.calls.callers) (λ _. leaf 0) t root same))
 
 -- what follows from what a value is known for
-if_some : {A : Type 0} (P Q : A → Type 0) (o : Option A) → ((a : A) → P a → Q a) → IfSome o P → IfSome o Q
+pub if_some : {A : Type 0} (P Q : A → Type 0) (o : Option A) → ((a : A) → P a → Q a) → IfSome o P → IfSome o Q
 if_some P Q None weaker is = tt
 if_some P Q (Some a) weaker is = weaker a is
 

@@ -5,13 +5,13 @@ use std::alloc::Global;
 
 /// What a run has beside its root and its lock.
 #[derive(Drop)]
-pub(crate) struct Given<'r, F, R> {
+pub(crate) struct Given<'r, S, R> {
     pub(crate) rt: &'r R,
     pub(crate) alloc: Global,
     pub(crate) plan: &'r Plan,
     pub(crate) shape: &'r Shape,
     /// The share of each caller.
     pub(crate) shares: Vec<Share>,
-    /// What a caller does with the value while it holds the lock.
-    pub(crate) work: &'r F,
+    /// What the callers do.
+    pub(crate) server: &'r S,
 }

@@ -7,7 +7,7 @@ ghost use Rattle.lock_rules.specs.Tag.{leaf};
 ghost use Rattle.keep_local.specs.Shapes.{callers_of, top_of};
 ghost use Rattle.clof_compose.specs.Roots.{IsFit, root_tag};
 ghost use Rattle.lock_tree.specs.Made.{IsRaised};
-ghost use Rattle.own_payload.specs.Jobs.{EachMadeAll};
+ghost use Rattle.own_payload.specs.Jobs.{EachEnded};
 ghost use Rattle.own_payload.specs.Ready.{IsReady};
 ghost use Rattle.own_runner.specs.Runs.{MayRun};
 
@@ -17,26 +17,27 @@ use lock_rules::passes_are_shared;
 use lock_tree::{
     LevelOver, TopOf, add_below, kind_at, low_passes_are_shared, make_top_of, top_passes_are_shared,
 };
-use own_payload::{Lists, Noted, run};
+use own_payload::{Lists, Noted, Serves, serve};
 use std::sync::Wait;
 use std::thread::Threads;
 
 /// A run under a lock of one level.
-pub(crate) fn run_flat<
-    'r,
-    T: Send + Sync + Drop,
-    F: Fn(&mut T, u32) + Sync,
-    R: Threads + Wait + Sync,
->(given: Given<'r, F, R>, root: Root<Noted<T>>) -> Option<Root<Noted<T>>>
+pub(crate) fn run_flat<'r, T: Send + Sync + Drop, S: Serves<T> + Sync, R: Threads + Wait + Sync>(
+    given: Given<'r, S, R>,
+    root: Root<Noted<T>>,
+) -> Option<Root<Noted<T>>>
+where
+    S::Task: Send,
+    S::Answer: Send,
     requires top { top_of given.shape.now ≡ 0 }
     requires callers { 0 < callers_of given.shape.now }
     requires fit { IsFit (λ n. n.calls.callers) root }
     requires shape { root.trail.shape ≡ given.shape.now }
     requires may { MayRun (root_tag (λ _. leaf 0) root) given.shape.now given.plan.now.kinds given.shares.items }
-    requires callable { F.IsAlwaysCallable given.work.now }
+    requires asked { S.may given.server.now }
     ensures fit { IfSome result (IsFit (λ n. n.calls.callers)) }
     ensures tagged { IfSome result (λ r. root_tag (λ _. leaf 0) r ≡ root_tag (λ _. leaf 0) root) }
-    ensures made { IfSome result (λ r. EachMadeAll r.trail) }
+    ensures ended { IfSome result (λ r. EachEnded (S.stops given.entry.server.now) r.trail) }
 {
     passes_are_shared();
     top_passes_are_shared();
@@ -44,16 +45,18 @@ pub(crate) fn run_flat<
     else {
         return None;
     };
-    run_under::<T, TopOf<Noted<T>>, F, R>(given, lock, passes)
+    run_under::<T, TopOf<Noted<T>>, S, R>(given, lock, passes)
 }
 
 /// A run under a lock of two to five levels.
-pub(crate) fn run_deep<
-    'r,
-    T: Send + Sync + Drop,
-    F: Fn(&mut T, u32) + Sync,
-    R: Threads + Wait + Sync,
->(given: Given<'r, F, R>, root: Root<Noted<T>>, top: u32) -> Option<Root<Noted<T>>>
+pub(crate) fn run_deep<'r, T: Send + Sync + Drop, S: Serves<T> + Sync, R: Threads + Wait + Sync>(
+    given: Given<'r, S, R>,
+    root: Root<Noted<T>>,
+    top: u32,
+) -> Option<Root<Noted<T>>>
+where
+    S::Task: Send,
+    S::Answer: Send,
     requires top { top_of given.shape.now ≡ top }
     requires some { 0 < top }
     requires most { top ≤ 4 }
@@ -61,10 +64,10 @@ pub(crate) fn run_deep<
     requires fit { IsFit (λ n. n.calls.callers) root }
     requires shape { root.trail.shape ≡ given.shape.now }
     requires may { MayRun (root_tag (λ _. leaf 0) root) given.shape.now given.plan.now.kinds given.shares.items }
-    requires callable { F.IsAlwaysCallable given.work.now }
+    requires asked { S.may given.server.now }
     ensures fit { IfSome result (IsFit (λ n. n.calls.callers)) }
     ensures tagged { IfSome result (λ r. root_tag (λ _. leaf 0) r ≡ root_tag (λ _. leaf 0) root) }
-    ensures made { IfSome result (λ r. EachMadeAll r.trail) }
+    ensures ended { IfSome result (λ r. EachEnded (S.stops given.entry.server.now) r.trail) }
 {
     passes_are_shared();
     top_passes_are_shared();
@@ -77,7 +80,7 @@ pub(crate) fn run_deep<
     ) else {
         return None;
     };
-    with_second::<T, TopOf<Noted<T>>, F, R>(given, lock, passes, top - 1)
+    with_second::<T, TopOf<Noted<T>>, S, R>(given, lock, passes, top - 1)
 }
 
 // A run under a lock with a second level below this one, and with as many more as lie below it.
@@ -85,23 +88,25 @@ fn with_second<
     'r,
     T: Send + Sync + Drop,
     H: Composed<Noted<T>> + Sync + Drop,
-    F: Fn(&mut T, u32) + Sync,
+    S: Serves<T> + Sync,
     R: Threads + Wait + Sync,
->(given: Given<'r, F, R>, high: H, passes: Vec<H::Pass>, level: u32) -> Option<Root<Noted<T>>>
+>(given: Given<'r, S, R>, high: H, passes: Vec<H::Pass>, level: u32) -> Option<Root<Noted<T>>>
 where
     H::Pass: Send + Sync,
     H::Queue: Send,
     H::Held: Send,
     H::Leave: Send,
+    S::Task: Send,
+    S::Answer: Send,
     requires raised { IsRaised H.Pass.rest (H.has high) (H.sound high) (H.level high) (H.count high) (H.tag high) given.shape.now
         (level + 1) (H.tag high) passes.items }
     requires may { MayRun (H.tag high) given.shape.now given.plan.now.kinds given.shares.items }
     requires level { level < top_of given.shape.now }
     requires most { level < 4 }
-    requires callable { F.IsAlwaysCallable given.work.now }
+    requires asked { S.may given.server.now }
     ensures fit { IfSome result (IsFit (λ n. n.calls.callers)) }
     ensures tagged { IfSome result (λ r. root_tag (λ _. leaf 0) r ≡ H.tag high) }
-    ensures made { IfSome result (λ r. EachMadeAll r.trail) }
+    ensures ended { IfSome result (λ r. EachEnded (S.stops given.entry.server.now) r.trail) }
 {
     passes_are_shared();
     low_passes_are_shared();
@@ -111,9 +116,9 @@ where
         return None;
     };
     if level == 0 {
-        run_under::<T, LevelOver<Noted<T>, H>, F, R>(given, lock, passes)
+        run_under::<T, LevelOver<Noted<T>, H>, S, R>(given, lock, passes)
     } else {
-        with_third::<T, LevelOver<Noted<T>, H>, F, R>(given, lock, passes, level - 1)
+        with_third::<T, LevelOver<Noted<T>, H>, S, R>(given, lock, passes, level - 1)
     }
 }
 
@@ -122,23 +127,25 @@ fn with_third<
     'r,
     T: Send + Sync + Drop,
     H: Composed<Noted<T>> + Sync + Drop,
-    F: Fn(&mut T, u32) + Sync,
+    S: Serves<T> + Sync,
     R: Threads + Wait + Sync,
->(given: Given<'r, F, R>, high: H, passes: Vec<H::Pass>, level: u32) -> Option<Root<Noted<T>>>
+>(given: Given<'r, S, R>, high: H, passes: Vec<H::Pass>, level: u32) -> Option<Root<Noted<T>>>
 where
     H::Pass: Send + Sync,
     H::Queue: Send,
     H::Held: Send,
     H::Leave: Send,
+    S::Task: Send,
+    S::Answer: Send,
     requires raised { IsRaised H.Pass.rest (H.has high) (H.sound high) (H.level high) (H.count high) (H.tag high) given.shape.now
         (level + 1) (H.tag high) passes.items }
     requires may { MayRun (H.tag high) given.shape.now given.plan.now.kinds given.shares.items }
     requires level { level < top_of given.shape.now }
     requires most { level < 3 }
-    requires callable { F.IsAlwaysCallable given.work.now }
+    requires asked { S.may given.server.now }
     ensures fit { IfSome result (IsFit (λ n. n.calls.callers)) }
     ensures tagged { IfSome result (λ r. root_tag (λ _. leaf 0) r ≡ H.tag high) }
-    ensures made { IfSome result (λ r. EachMadeAll r.trail) }
+    ensures ended { IfSome result (λ r. EachEnded (S.stops given.entry.server.now) r.trail) }
 {
     passes_are_shared();
     low_passes_are_shared();
@@ -148,9 +155,9 @@ where
         return None;
     };
     if level == 0 {
-        run_under::<T, LevelOver<Noted<T>, H>, F, R>(given, lock, passes)
+        run_under::<T, LevelOver<Noted<T>, H>, S, R>(given, lock, passes)
     } else {
-        with_fourth::<T, LevelOver<Noted<T>, H>, F, R>(given, lock, passes, level - 1)
+        with_fourth::<T, LevelOver<Noted<T>, H>, S, R>(given, lock, passes, level - 1)
     }
 }
 
@@ -159,23 +166,25 @@ fn with_fourth<
     'r,
     T: Send + Sync + Drop,
     H: Composed<Noted<T>> + Sync + Drop,
-    F: Fn(&mut T, u32) + Sync,
+    S: Serves<T> + Sync,
     R: Threads + Wait + Sync,
->(given: Given<'r, F, R>, high: H, passes: Vec<H::Pass>, level: u32) -> Option<Root<Noted<T>>>
+>(given: Given<'r, S, R>, high: H, passes: Vec<H::Pass>, level: u32) -> Option<Root<Noted<T>>>
 where
     H::Pass: Send + Sync,
     H::Queue: Send,
     H::Held: Send,
     H::Leave: Send,
+    S::Task: Send,
+    S::Answer: Send,
     requires raised { IsRaised H.Pass.rest (H.has high) (H.sound high) (H.level high) (H.count high) (H.tag high) given.shape.now
         (level + 1) (H.tag high) passes.items }
     requires may { MayRun (H.tag high) given.shape.now given.plan.now.kinds given.shares.items }
     requires level { level < top_of given.shape.now }
     requires most { level < 2 }
-    requires callable { F.IsAlwaysCallable given.work.now }
+    requires asked { S.may given.server.now }
     ensures fit { IfSome result (IsFit (λ n. n.calls.callers)) }
     ensures tagged { IfSome result (λ r. root_tag (λ _. leaf 0) r ≡ H.tag high) }
-    ensures made { IfSome result (λ r. EachMadeAll r.trail) }
+    ensures ended { IfSome result (λ r. EachEnded (S.stops given.entry.server.now) r.trail) }
 {
     passes_are_shared();
     low_passes_are_shared();
@@ -185,9 +194,9 @@ where
         return None;
     };
     if level == 0 {
-        run_under::<T, LevelOver<Noted<T>, H>, F, R>(given, lock, passes)
+        run_under::<T, LevelOver<Noted<T>, H>, S, R>(given, lock, passes)
     } else {
-        with_fifth::<T, LevelOver<Noted<T>, H>, F, R>(given, lock, passes, level - 1)
+        with_fifth::<T, LevelOver<Noted<T>, H>, S, R>(given, lock, passes, level - 1)
     }
 }
 
@@ -196,23 +205,25 @@ fn with_fifth<
     'r,
     T: Send + Sync + Drop,
     H: Composed<Noted<T>> + Sync + Drop,
-    F: Fn(&mut T, u32) + Sync,
+    S: Serves<T> + Sync,
     R: Threads + Wait + Sync,
->(given: Given<'r, F, R>, high: H, passes: Vec<H::Pass>, level: u32) -> Option<Root<Noted<T>>>
+>(given: Given<'r, S, R>, high: H, passes: Vec<H::Pass>, level: u32) -> Option<Root<Noted<T>>>
 where
     H::Pass: Send + Sync,
     H::Queue: Send,
     H::Held: Send,
     H::Leave: Send,
+    S::Task: Send,
+    S::Answer: Send,
     requires raised { IsRaised H.Pass.rest (H.has high) (H.sound high) (H.level high) (H.count high) (H.tag high) given.shape.now
         (level + 1) (H.tag high) passes.items }
     requires may { MayRun (H.tag high) given.shape.now given.plan.now.kinds given.shares.items }
     requires level { level < top_of given.shape.now }
     requires most { level ≡ 0 }
-    requires callable { F.IsAlwaysCallable given.work.now }
+    requires asked { S.may given.server.now }
     ensures fit { IfSome result (IsFit (λ n. n.calls.callers)) }
     ensures tagged { IfSome result (λ r. root_tag (λ _. leaf 0) r ≡ H.tag high) }
-    ensures made { IfSome result (λ r. EachMadeAll r.trail) }
+    ensures ended { IfSome result (λ r. EachEnded (S.stops given.entry.server.now) r.trail) }
 {
     passes_are_shared();
     low_passes_are_shared();
@@ -221,7 +232,7 @@ where
     let Ok((lock, passes)) = made else {
         return None;
     };
-    run_under::<T, LevelOver<Noted<T>, H>, F, R>(given, lock, passes)
+    run_under::<T, LevelOver<Noted<T>, H>, S, R>(given, lock, passes)
 }
 
 // A run under a lock that is ready, which is then taken apart.
@@ -229,27 +240,29 @@ fn run_under<
     'r,
     T: Send + Sync + Drop,
     C: Composed<Noted<T>> + Sync + Drop,
-    F: Fn(&mut T, u32) + Sync,
+    S: Serves<T> + Sync,
     R: Threads + Wait + Sync,
->(given: Given<'r, F, R>, lock: C, passes: Vec<C::Pass>) -> Option<Root<Noted<T>>>
+>(given: Given<'r, S, R>, lock: C, passes: Vec<C::Pass>) -> Option<Root<Noted<T>>>
 where
     C::Pass: Send,
     C::Queue: Send,
     C::Held: Send,
     C::Leave: Send,
+    S::Task: Send,
+    S::Answer: Send,
     requires ready { IsReady C.Pass.rest (C.has lock) (C.sound lock) (C.level lock) (C.count lock) (C.tag lock) passes.items
         given.shares.items }
-    requires callable { F.IsAlwaysCallable given.work.now }
+    requires asked { S.may given.server.now }
     ensures fit { IfSome result (IsFit (λ n. n.calls.callers)) }
     ensures tagged { IfSome result (λ r. root_tag (λ _. leaf 0) r ≡ C.tag lock) }
-    ensures made { IfSome result (λ r. EachMadeAll r.trail) }
+    ensures ended { IfSome result (λ r. EachEnded (S.stops given.entry.server.now) r.trail) }
 {
     let Given {
         rt,
         alloc,
         shares,
-        work,
+        server,
         ..
     } = given;
-    run(rt, alloc, lock, Lists { passes, shares }, work)
+    serve(rt, alloc, lock, Lists { passes, shares }, server)
 }

@@ -132,10 +132,10 @@ distrib --at die 0 *|3 type --at";
     refuses(&rt, rt.alloc(), "PU:2", table)
 }
 
-// The cases of docs/REFUSALS.md that no other table of this file has, each with the words and the line of the page.
+// The cases of docs/REFUSALS.md that no other table of this file has, each with the words and the line of the page: here those of words and
+// inputs on one description.
 #[test]
 fn cases_of_the_page_on_refusals(rt: HostRuntime) -> Result<(), Fail> {
-    let alloc = rt.alloc();
     let plain = "calc * -I die all|3 type -I
 calc * -N die all|3 type -N
 calc * -H package.die all|3 type -H
@@ -158,7 +158,13 @@ select --weights 8,4,2 *|3 select Weights
 select --keep 65536 *|3 select Keep
 select *|3 select Line 2|0/1
 select *|3 select Place 2|0/8/";
-    refuses(&rt, alloc, "Package:2 Core:2 PU:2", plain)?;
+    refuses(&rt, rt.alloc(), "Package:2 Core:2 PU:2", plain)
+}
+
+// Those of inputs without a description, and of descriptions.
+#[test]
+fn further_cases_of_the_page(rt: HostRuntime) -> Result<(), Fail> {
+    let alloc = rt.alloc();
     let input = "run|3 section BadHead 0|worker 0//
 run|3 section BadHead 12|worker * 0///
 run|3 section BadPlace 0|worker pu:1 0//

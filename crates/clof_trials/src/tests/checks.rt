@@ -49,6 +49,10 @@ fn tells_a_reply_that_no_store_gives(rt: HostRuntime) -> Result<(), Fail> {
           turn 1 caller 0 pu 0 climb 0 tests 0 left 0 \"get a\\r\\n\" \"END\\r\\n\"\n\
           caller 0 pu 0 commands 2 rest 0\n";
     prints(&rt, alloc, &["check"], source, b"no 1\n")?;
+    let source = b"input 36\nworker * 23\nset a 5 0 1\r\nx\r\nget a\r\n\n\n\
+          turn 0 caller 0 pu 0 climb 0 tests 0 left 0 \"set a 5 0 1\\r\\nx\\r\\n\" \"STORED\\r\\n\"\n\
+          turn 1 caller 0 pu 0 climb 0 tests 0 left 0 \"get a\\r\\n\" \"VALUE a 5 1\\r\\nx\\r\\nEND\\r\\n\"\n";
+    prints(&rt, alloc, &["check"], source, b"no 2\n")?;
     prints(&rt, alloc, &["check"], b"input 0\n\n", b"yes\n")?;
     prints(&rt, alloc, &["check"], b"input 0\n\n\n", b"no 0\n")
 }

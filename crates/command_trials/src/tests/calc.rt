@@ -390,7 +390,7 @@ core:odd.pu:even=0x00000044
     answers(&rt, rt.alloc(), PLAIN, table)
 }
 
-// Physical numbers with gaps, which hwloc-calc 2.9 counts as if there were none (docs/DECISIONS.md).
+// Physical numbers with gaps, which hwloc-calc 2.9 counts as if there were none (docs/HWLOC.md).
 #[test]
 fn numbers_with_gaps(rt: HostRuntime) -> Result<(), Fail> {
     let alloc = rt.alloc();
@@ -468,7 +468,7 @@ fn words_of_every_form(rt: HostRuntime) -> Result<(), Fail> {
     Ok(())
 }
 
-// What differs from hwloc-calc 2.9 (docs/DECISIONS.md); its answer stands beside each row.
+// What differs from hwloc-calc 2.9 (docs/HWLOC.md); its answer stands beside each row.
 #[test]
 fn answers_of_this_profile(rt: HostRuntime) -> Result<(), Fail> {
     // It reads locations from standard input.
@@ -602,7 +602,7 @@ foo=3 clof: location NoSuchType 0
     refusals(&rt, alloc, "PU:4097", "foo=4 clof: synth TooManyObjects")
 }
 
-// Words that name a layer to hwloc-calc 2.9, and none here (docs/DECISIONS.md): a depth by its number, an L3 of data and
+// Words that name a layer to hwloc-calc 2.9, and none here (docs/HWLOC.md): a depth by its number, an L3 of data and
 // instructions, the node of memory that it adds.
 #[test]
 fn refuses_names_of_hwloc(rt: HostRuntime) -> Result<(), Fail> {

@@ -16,6 +16,7 @@ loop-number-preserved c =
     record {
       many = many ∙ ap (λ k. k + 1) had.many;
       each = λ x. ap (λ (l : List Caller). times x (map (λ (k : Caller). k.number) l)) pushed
-          ∙ ap (times x) (map-append (λ (k : Caller). k.number) jobs (one ∷ [])) ∙ one_more x n (map (λ (k : Caller). k.number) jobs) (had.each x);
+          ∙ ap (times x) (map-append (λ (k : Caller). k.number) jobs (one ∷ []))
+          ∙ one_more x n (map (λ (k : Caller). k.number) jobs) (had.each x);
       room = subst (λ k. c.args.count ≤ k) (sym c.push_reserved.ensures.capacity) had.room;
     }

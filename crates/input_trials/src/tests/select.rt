@@ -1,5 +1,5 @@
 // `select`, by the top call over sources and sinks in memory.
-use crate::{Fault, Status, top};
+use clof_tool::{Fault, Status, top};
 use edge_io::{MemSource, Source, SureSink, SureSource};
 use lock_select::SelectFault;
 use std::alloc::Global;

@@ -1,7 +1,7 @@
 use Rattle.std.proofs.Common.{ap, sym, ◌∙◌, subst, arith}
 use Rattle.clof_compose.specs.Contexts.{Context}
 use Rattle.clof_compose.proofs.Shares.{may_turn}
-use Rattle.own_payload.proofs.holding.hold_all.Goals as goal
+use Rattle.own_payload.proofs.holding.serve_caller.Goals as goal
 
 pub hold-rested-requires-clause-own : goal.hold-rested-requires-clause-own
 hold-rested-requires-clause-own g c =

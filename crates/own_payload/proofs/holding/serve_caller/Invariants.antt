@@ -1,5 +1,5 @@
 use Rattle.std.proofs.Common.{◌≡◌}
-use Rattle.own_payload.proofs.holding.hold_all.Given as goal
+use Rattle.own_payload.proofs.holding.serve_caller.Given as goal
 
 -- the pass is that of the same context, and the share has made the turns so far
 abbrev pub invariant-loop : goal.invariant-loop

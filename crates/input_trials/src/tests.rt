@@ -1,6 +1,7 @@
 // The top call over sources and sinks in memory.
-use crate::report::report;
-use crate::{Fault, OptionName, Status, top, top_with};
+mod select;
+
+use clof_tool::{Fault, OptionName, Status, top, top_with};
 use edge_io::{Failed, MemSink, MemSource, Source, SureSink, SureSource};
 use placed_runner::{Gate, SectionFault};
 use std::alloc::Global;
@@ -682,14 +683,5 @@ fn ends_as_well_where_the_line_fails(rt: HostRuntime) -> Result<(), Fail> {
         assert_eq!(rt; status.code(), 3);
         assert_eq!(rt; err.bytes(), line);
     }
-    Ok(())
-}
-
-#[test]
-fn tells_of_wanted_memory(rt: HostRuntime) -> Result<(), Fail> {
-    let mut err = SureSink::new(rt.alloc(), 100)?;
-    report(&mut err, &Status::OutOfMemory);
-    assert_eq!(rt; Status::OutOfMemory.code(), 7);
-    assert_eq!(rt; err.bytes(), b"clof: out of memory\n".as_slice());
     Ok(())
 }
