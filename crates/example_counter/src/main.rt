@@ -57,7 +57,8 @@ fn add_by_all<R: Threads + Wait + Sync>(
 ) -> Option<u64>
     requires { 0 < threads }
 {
-    let Ok((lock, passes)) = Counter::make(alloc, Waiters::Queue, threads, Plain { value: 0 }) else {
+    let Ok((lock, passes)) = Counter::make(alloc, Waiters::Queue, threads, Plain { value: 0 })
+    else {
         return None;
     };
     let adder = Adder {

@@ -58,8 +58,8 @@ pub trait Basic<V: Cargo>: Sized {
         ensures passes { IfOk result (λ m. AreAll Self.Pass.place (name m.0) (tag m.0) (count m.0) m.1.items) }
         ensures refused { IfErr result (λ r. r.value ≡ value) };
 
-    /// Enters the queue; a lock that counts its waiters is told first. The answer is `Not` only where this call made an entering step, which
-    /// the token records.
+    /// Enters the queue; a lock that counts its waiters is told first. The answer is `Not` only where this call made an entering step,
+    /// which the token records.
     fn begin(&self, pass: Self::Pass) -> Step<Self::Queue, Self::Held>
         requires own { IsOf (name self.now) (tag self.now) (Self.Pass.place pass) }
         ensures queue { IfNot result (λ q. (Self.Queue.waiting q).place ≡ Self.Pass.place pass) }

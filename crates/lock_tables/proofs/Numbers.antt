@@ -97,7 +97,8 @@ module _ (m : Numbering) where
         → sum_by (stands_in m k) (first_view a ch n tag ∷ []) ≡ cond (nat_lt k n) 1 0
     stands_first a ch n tag k h =
         let s = sum_by-cons (stands_in m k) (first_view a ch n tag) [] in
-        let f : stands_in m k (first_view a ch n tag) ≡ hits (n - 1) k + span 0 (n - 1) k + 0 = stands_unspent k (first_view a ch n tag) refl
+        let f : stands_in m k (first_view a ch n tag) ≡ hits (n - 1) k + span 0 (n - 1) k + 0
+        = stands_unspent k (first_view a ch n tag) refl
         ∙ (λ i. hits (d.first_own a ch n tag i) k + span 0 (n - 1) k + times k (d.first_taken a ch n tag i)) in
         let c : ℕ = cond (nat_lt k n) 1 0 in
         let g : hits (n - 1) k + span 0 (n - 1) k ≡ c = first_hit n k h in

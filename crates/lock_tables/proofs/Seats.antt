@@ -20,7 +20,8 @@ pub seat_is : {S V : Type 0} (a b : Seat S V) (view : V) (carried : List (ℕ ×
 seat_is a b view carried t d m = λ i. record { marker = b.marker; table_id = t i; id = d i; me = m i }
 
 -- the mark of a view that is as at the start
-pub fresh_mark : (a : Algorithm) (c : Waiters) (n : ℕ) (tag : Tag) (k from to : ℕ) (spent : Bool) → mark_by a (fresh_view a c n tag k from to spent) ≡ k
+pub fresh_mark : (a : Algorithm) (c : Waiters) (n : ℕ) (tag : Tag) (k from to : ℕ) (spent : Bool)
+    → mark_by a (fresh_view a c n tag k from to spent) ≡ k
 fresh_mark Ticket c n tag k from to spent = refl
 fresh_mark Mcs c n tag k from to spent = refl
 fresh_mark Clh c n tag k from to spent = refl

@@ -336,7 +336,8 @@ module _ {V : Type 0} (fit : V → Type 0) (tag_of : V → Tag) (parked : V → 
     -- Leave: the value goes home
     pub leaves : (word now id : ℕ) (v w : View) (x : V) (c : List (ℕ × Option V)) (tail : List ℕ) (s : St) (r : Locked ch n tag s)
         → word ≢ waiting → get_elem? s.views id ≡ some v → v.spent ≡ false → IsLike v w → w.announced ≡ v.announced
-        → v.announced ≡ false → holds v.phase ≡ true → r.seats ≡ id ∷ tail → is_busy d.lingers w.phase ≡ false → holds w.phase ≡ false → c ≡ (0, Some x) ∷ []
+        → v.announced ≡ false → holds v.phase ≡ true → r.seats ≡ id ∷ tail → is_busy d.lingers w.phase ≡ false
+        → holds w.phase ≡ false → c ≡ (0, Some x) ∷ []
         → MayRest fit tag_of parked v x
         → d.Core n (set s.words word now) tail (set s.views id w) → Kept ch n tag Leaves gives word now id (v, c) w s
     leaves word now id v w x c tail s r apart at live l a silent held cut free idle carries rests core =

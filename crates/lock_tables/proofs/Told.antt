@@ -203,4 +203,5 @@ module _ (lingers : Bool) (c : Waiters) where
   ] refl
 
   pub few_wait : (words seats : List ℕ) (views : List View) → T words seats views → slice_index words waiting ≤ sum_by passes_of views
-  few_wait words seats views r = let l = sum_le announced passes_of views (announced_le words seats views r) in omega (arith, l, r.waiting_is)
+  few_wait words seats views r =
+      let l = sum_le announced passes_of views (announced_le words seats views r) in omega (arith, l, r.waiting_is)

@@ -38,12 +38,13 @@ withdrawn_view v = record v { steps = v.steps + counting v.waiters; announced = 
 abbrev pub Seated : Type 0 → Type 0
 Seated V = Me (Option V) View
 
--- `rule` is the rule of a lock with this choice, this many passes and this tag. `queue_of` is what the events of a step speak of, as a function of
--- words and views
+-- `rule` is the rule of a lock with this choice, this many passes and this tag. `queue_of` is what the events of a step speak of, as a
+-- function of words and views
 module _ {V Q : Type 0} (rule : Waiters → ℕ → Tag → State (Option V) View → Type 0) (queue_of : List ℕ → List View → Q) where
   -- A step of a seat that was `before` and is `after`: in some state of the table that the rule allows, of a lock with the choice, the
   -- passes and the tag that the seat knows, the word with this index was `found`. The step made it `now`, gave the seat its new view, and
-  -- did `act` with the slot; all other words and views, and the slot where there is no act, stayed. The rule allows the state that it came to, and the queue changed as the event says
+  -- did `act` with the slot; all other words and views, and the slot where there is no act, stayed. The rule allows the state that it came
+  -- to, and the queue changed as the event says
   pub record Happened (event : ℕ → Q → Q → Type 0) (act : Act (Option V)) (word found now : ℕ) (before after : Seated V) : Type 0 where
     pub seat : ℕ
     pub state : State (Option V) View

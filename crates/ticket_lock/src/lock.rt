@@ -72,7 +72,8 @@ impl<V: Cargo> Basic<V> for Ticket<V> {
         ensures did { IfNot result (λ q. HasEntered V.fit V.tag V.parked pass.badge q.badge) }
         ensures queue { IfNot result (λ q. (badge_waiting q.badge).place ≡ badge_place pass.badge) }
         ensures entered { IfNot result (λ q. (view_of q.badge).entries ≡ (view_of pass.badge).entries + 1) }
-        ensures steps { IfNot result (λ q. (view_of q.badge).steps ≡ (view_of pass.badge).steps + counting (view_of pass.badge).waiters + 1) }
+        ensures steps { IfNot result (λ q. (view_of q.badge).steps
+            ≡ (view_of pass.badge).steps + counting (view_of pass.badge).waiters + 1) }
         ensures held { IfGot result (λ h. (holder_of h).place ≡ badge_place pass.badge) }
         ensures fit { IfGot result (λ h. V.fit h.value) }
         ensures tagged { IfGot result (λ h. V.tag h.value ≡ V.tag (padded_value self.now.words.table).shared.key.value.value) }
@@ -94,7 +95,8 @@ impl<V: Cargo> Basic<V> for Ticket<V> {
         ensures loaded { IfNot result (λ q. (badge_waiting q.badge).loads ≡ (badge_waiting queue.badge).loads + 1) }
         ensures unready { IfNot result (λ q. (badge_waiting q.badge).ready ≡ false) }
         ensures steps { IfNot result (λ q. (view_of q.badge).steps ≡ (view_of queue.badge).steps + 1) }
-        ensures steps_behind { IfGot result (λ h. (held_view h).steps ≡ (view_of queue.badge).steps + 1 + counting (view_of queue.badge).waiters) }
+        ensures steps_behind { IfGot result (λ h. (held_view h).steps
+            ≡ (view_of queue.badge).steps + 1 + counting (view_of queue.badge).waiters) }
         ensures held { IfGot result (λ h. (holder_of h).place ≡ (badge_waiting queue.badge).place) }
         ensures fit { IfGot result (λ h. V.fit h.value) }
         ensures tagged { IfGot result (λ h. V.tag h.value ≡ V.tag (padded_value self.now.words.table).shared.key.value.value) }

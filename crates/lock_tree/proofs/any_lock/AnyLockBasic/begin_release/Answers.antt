@@ -9,7 +9,8 @@ pub returns-in-Not-begin_release-clause-rests : goal.returns-in-Not-begin_releas
 returns-in-Not-begin_release-clause-rests g c =
     let left = c.in-Not-begin_release.ensures in (
       left.rests,
-      ap (λ p. algorithm_in p.lock) left.leave ∙ algorithm_told _ _ _ _ c.args.self.now.lock _ (names_tell _ _ _ _ _ _ _ _) c.requires.own.lock_is
+      ap (λ p. algorithm_in p.lock) left.leave
+          ∙ algorithm_told _ _ _ _ c.args.self.now.lock _ (names_tell _ _ _ _ _ _ _ _) c.requires.own.lock_is
           ∙ ap (λ k. algorithm_number (algorithm_of k)) c.in-Mcs.is,
     )
 
