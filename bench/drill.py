@@ -1,5 +1,5 @@
 #!/usr/bin/env python3
-"""Times `clof drill`, 64 callers on threads of their own, beside the same commands given otherwise.
+"""Times `clof drill`, 64 callers who share four threads, beside the same commands given otherwise.
 
 Run from anywhere, with a built program (./clof):   bench/drill.py [ROUNDS]
 Each row is a whole process whose text goes to /dev/null, the rows in turn, ROUNDS times (nine): the drill; `run` of its sections under its plan,

@@ -1,7 +1,7 @@
 """A plain model of the locks that `clof run` works under, and of their walk on one thread.
 
 The basic locks are stepped word by word: a ticket lock, that of Mellor-Crummey and Scott, that of Craig and of Magnusson, Landin and
-Hagersten, and Hemlock. Each call answers whether it got what it is for: `begin` and `poll` the lock, `begin_release` and `poll_release` the
+Hagersten, and Hemlock, each also with a count of its waiters in place of its own test. Each call answers whether it got what it is for: `begin` and `poll` the lock, `begin_release` and `poll_release` the
 end of the release. `Top` and `Level` compose them as CLoF does: the value of a low lock has a context of the lock above, which the holder
 takes, and which it may leave taken for the next one in its node.
 """
@@ -170,7 +170,41 @@ class Hemlock(Basic):
         return self.grants[own] == 0
 
 
-LOCKS = {"tkt": Ticket, "mcs": Mcs, "clh": Clh, "hem": Hemlock}
+def counted(lock):
+    """The lock with one more word, which each pass raises before it enters and lowers once it has taken, and by which `waiter` answers."""
+
+    class Counted(lock):
+        """Such a lock."""
+
+        def __init__(self, passes, value):
+            """Nobody waits."""
+            super().__init__(passes, value)
+            self.waiting = 0
+
+        def got(self, answer):
+            """Lowers the count where the lock was got."""
+            if answer:
+                self.waiting -= 1
+            return answer
+
+        def begin(self, own):
+            """Raises the count, and enters."""
+            self.waiting += 1
+            return self.got(super().begin(own))
+
+        def poll(self, own):
+            """As without the count."""
+            return self.got(super().poll(own))
+
+        def waiter(self, own):
+            """Whether somebody has begun and not yet got the lock."""
+            return self.waiting != 0
+
+    return Counted
+
+
+PLAIN = {"tkt": Ticket, "mcs": Mcs, "clh": Clh, "hem": Hemlock}
+LOCKS = {**PLAIN, **{name + "c": counted(lock) for name, lock in PLAIN.items()}}
 
 
 class Trail:

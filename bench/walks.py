@@ -299,10 +299,11 @@ caller 1 pu 1 commands 2 rest 0
 
 
 def worked_cases():
-    """The cases of the texts that were worked out by hand, with the texts."""
+    """The cases of the texts that were worked out by hand, with the texts, which are the same where the locks count their waiters."""
     for description, levels, locks, keeps, pus, commands, text in WORKED:
         sections = [Section("*" if pu is None else f"pu:{pu}", given) for pu, given in zip(pus, commands)]
-        yield Case(description, levels.split(","), locks.split("-"), keeps, sections, pus), text.lstrip().encode()
+        for kinds in (locks.split("-"), [kind + "c" for kind in locks.split("-")]):
+            yield Case(description, levels.split(","), kinds, keeps, sections, pus), text.lstrip().encode()
 
 
 def shown(said, case, words, **texts):

@@ -1,6 +1,6 @@
 -- Each kind of step of a CLH lock keeps the rule.
 use Rattle.std.proofs.Common.{◌≡◌, ◌≢◌, ℕ, zero, suc, ◌+◌, ◌*◌, ◌<◌, ◌≤◌, Bool, true, false, cond, not, ◌||◌, ◌==◌, eq-eqb, List, [], ◌∷◌}
-use Rattle.std.proofs.Common.{◌++◌, length, set, slice_index, nat_le, refl, ap, sym, ◌∙◌, subst, ⊎_elim, arith, Option, Some}
+use Rattle.std.proofs.Common.{◌++◌, length, set, slice_index, nat_le, refl, ap, sym, ◌∙◌, subst, inl, ⊎_elim, arith, Option, Some}
 use Rattle.std.specs.List.{sum_by}
 use mathlib.Core.Option.{some}
 use mathlib.Core.Logic.{dite}
@@ -9,28 +9,25 @@ use lib.ListN.{get_elem?}
 use Rattle.atomic_table.specs.Table.{State, Me, keeps, gives, Allows}
 use Rattle.atomic_table.proofs.Lists.{at_set}
 use Rattle.lock_rules.specs.Tag.{Tag}
-use Rattle.lock_rules.specs.Views.{answer_of}
+use Rattle.lock_rules.specs.Views.{is_counted, answer_of}
 use Rattle.lock_rules.specs.declared.step.Answer.TheVariants.{No, Yes}
 use Rattle.lock_rules.specs.declared.view.Phase.TheVariants.{Idle, Queued, Holding}
 use Rattle.lock_rules.specs.declared.view.View.{View}
+use Rattle.lock_rules.specs.declared.view.Waiters.{Waiters}
 use Rattle.lock_tables.specs.Happened.{MayRest, missed_view, took_view, tested_view}
 use Rattle.lock_tables.specs.Numbers.{by_node, stands_in}
 use Rattle.lock_tables.specs.Rule.{is_busy, is_holder, IsBusyAt, IsQueued, IsLock}
 use Rattle.lock_tables.proofs.Lists.{set_at, at_below, head_cut, no_true, wrote_here, wrote_else}
 use Rattle.lock_tables.proofs.Numbers.{hits, stands_unspent}
-use Rattle.lock_tables.proofs.Queues.{IsLike, lives, no_place, wrong_phase}
+use Rattle.lock_tables.proofs.Queues.{like, lives, no_place, wrong_phase}
 use Rattle.lock_tables.proofs.Steps.{stays, loads, enters, takes_head, leaves}
 use Rattle.lock_rules.proofs.Sums.{sum_set}
 use Rattle.clh_lock.specs.Kinds.{raised_view, queued_view, left_view, others_wait, Raised, Entered, Polled, Tested, Left}
 use Rattle.clh_lock.specs.Rule.{tail, flag, pending, granted, is_pending, Leads, HasNodes, clh_discipline}
-use Rattle.clh_lock.proofs.Nodes.{flags_apart, flag_not_tail, tail_not_flag, stays_pending, Once, nodes_stay, free_within, own_within}
-use Rattle.clh_lock.proofs.Nodes.{not_free, nodes_apart}
-use Rattle.clh_lock.proofs.Chain.{leads_stay, had_before, had_else, leads_end, leads_before, leads_alone, leads_within}
-use Rattle.clh_lock.proofs.Queue.{disciplined}
-
-like : (v w : View) → w.number ≡ v.number → w.from ≡ v.from → w.to ≡ v.to → w.joined ≡ v.joined → w.spent ≡ v.spent
-    → w.tag.tag ≡ v.tag.tag → w.count ≡ v.count → IsLike v w
-like v w a b c d e f g = record { number = a; from = b; to = c; joined = d; spent = e; tag = f; count = g }
+use Rattle.clh_lock.proofs.Nodes.{flags_apart, flag_not_tail, tail_not_flag, flag_not_waiting, tail_not_waiting, stays_pending, Once}
+use Rattle.clh_lock.proofs.Nodes.{nodes_stay, free_within, own_within, not_free, nodes_apart}
+use Rattle.clh_lock.proofs.Chain.{leads_stay, had_else, leads_end, leads_before, leads_alone, leads_within}
+use Rattle.clh_lock.proofs.Queue.{same_nodes, disciplined}
 
 -- words are as many as the lines of the lock hold
 tail_inside : (words : List ℕ) (n : ℕ) → length words ≡ 16 * (n + 2 + 1) → tail < length words
@@ -39,9 +36,9 @@ tail_inside words n long = omega (arith, long)
 pub flag_inside : (words : List ℕ) (n k : ℕ) → length words ≡ 16 * (n + 2 + 1) → k ≤ n → flag k < length words
 flag_inside words n k long h = omega (arith, long, h)
 
-module _ {V : Type 0} (fit : V → Type 0) (tag_of : V → Tag) (parked : V → Bool) (n : ℕ) (tag : Tag) where
+module _ {V : Type 0} (fit : V → Type 0) (tag_of : V → Tag) (parked : V → Bool) (ch : Waiters) (n : ℕ) (tag : Tag) where
   abbrev pub Rule : State (Option V) View → Type 0
-  Rule = IsLock clh_discipline fit tag_of parked n tag
+  Rule = IsLock clh_discipline fit tag_of parked ch n tag
 
   abbrev Q : List ℕ → List ℕ → List View → Type 0
   Q = IsQueued clh_discipline n tag
@@ -56,35 +53,13 @@ module _ {V : Type 0} (fit : V → Type 0) (tag_of : V → Tag) (parked : V → 
       (λ j b. own_within n views q.core.free q.core.once j b.view b.at (busy_lives words seats views q j b)) (free_within n views
       q.core.free q.core.once) q.core.leads
 
-  -- the nodes, where a seat gets a view with the same nodes that is pending only where its flag is
-  same_nodes : (words words' seats : List ℕ) (views : List View) (id : ℕ) (v w : View) (q : Q words seats views)
-      → get_elem? views id ≡ some v
-      → ((k : ℕ) → stands_in by_node k w ≡ stands_in by_node k v) → w.node ≡ v.node → w.predecessor ≡ v.predecessor
-      → slice_index words' tail ≡ slice_index words tail
-      → slice_index words' (flag q.core.free) ≡ granted → (is_pending w ≡ true → w.spent ≡ false
-      → slice_index words' (flag w.node) ≡ pending)
-      → ((k : ℕ) → slice_index words (flag k) ≡ pending → slice_index words' (flag k) ≡ pending) → HasNodes n words' seats (set views id w)
-  same_nodes words words' seats views id v w q at stand node predecessor last free own others = record {
-    free = q.core.free;
-    once = nodes_stay n views q.core.free id v w at stand q.core.once;
-    leads = subst (λ (t : ℕ). Leads (set views id w) q.core.free seats t) (sym last)
-        (leads_stay views (set views id w) seats q.core.free (slice_index words tail)
-        (λ i j u _ e. had_before views id v w at node predecessor j u e) q.core.leads);
-    free_granted = free;
-    own_pending = λ j u e live raised. ⊎_elim
-        (λ (x : (j ≡ id) × (w ≡ u)). subst (λ (y : View). slice_index words' (flag y.node) ≡ pending) x.1 (own (ap is_pending x.1
-        ∙ raised) (ap (λ (y : View). y.spent) x.1 ∙ live)))
-        (λ (x : (j ≢ id) × (get_elem? views j ≡ some u)). others u.node (q.core.own_pending j u x.1 live raised))
-        (at_set views id j w u e);
-  }
-
   -- a step that leaves the words too
   same_words : (words seats : List ℕ) (views : List View) (id : ℕ) (v w : View) (q : Q words seats views) → get_elem? views id ≡ some v
       → v.spent ≡ false
       → ((k : ℕ) → stands_in by_node k w ≡ stands_in by_node k v) → w.node ≡ v.node → w.predecessor ≡ v.predecessor
       → (is_pending w ≡ true → is_pending v ≡ true) → HasNodes n words seats (set views id w)
   same_words words seats views id v w q at live stand node predecessor was
-      = same_nodes words words seats views id v w q at stand node predecessor refl q.core.free_granted
+      = same_nodes n words words seats views id v w q.core at stand node predecessor refl q.core.free_granted
       (λ raised _. ap (λ (k : ℕ). slice_index words (flag k)) node ∙ q.core.own_pending id v at live (was raised)) (λ k e. e)
 
   pub raises : (slots id : ℕ) (me : Me (Option V) View) (word : ℕ) → word ≡ flag me.0.node → me.0.phase ≡ Idle → me.0.spent ≡ false
@@ -96,21 +71,21 @@ module _ {V : Type 0} (fit : V → Type 0) (tag_of : V → Tag) (parked : V → 
       let w : View = raised_view v in
       let inside = flag_inside s.words n v.node q.long (own_within n s.views q.core.free q.core.once id v at live) in
       let quiet = wrong_phase (is_holder false) v Idle idle refl in
-      let core = same_nodes s.words (set s.words (flag v.node) pending) r.seats s.views id v w q at (λ k. refl) refl refl
+      let core = same_nodes n s.words (set s.words (flag v.node) pending) r.seats s.views id v w q.core at (λ k. refl) refl refl
       (wrote_else s.words (flag v.node) tail pending (tail_not_flag v.node))
       (wrote_else s.words (flag v.node) (flag q.core.free) pending (flags_apart q.core.free v.node (not_free n s.views q.core.free
       q.core.once id v at live)) ∙ q.core.free_granted)
       (λ _ _. wrote_here s.words (flag v.node) pending inside)
       (λ k e. stays_pending s.words (flag v.node) (flag k) inside e) in
-      let k = stays fit tag_of parked clh_discipline disciplined n tag (flag v.node) pending id me w s r at live (like v w refl refl refl
-      refl refl refl refl) refl refl
+      let k = stays fit tag_of parked clh_discipline disciplined ch n tag (flag v.node) pending id me w s r
+      (flag_not_waiting v.node) at live (like v w refl refl refl refl refl refl refl refl) refl (inl refl) refl refl
       (λ h _. absurd (quiet h)) (λ h _. absurd (quiet h)) core in
       (w, keeps, k.0, k.1, (slice_index s.words (flag v.node), k.2)))
 
   pub swaps : (slots id : ℕ) (me : Me (Option V) View) (node : ℕ) → node ≡ me.0.node → me.0.phase ≡ Idle → me.0.spent ≡ false
-      → me.0.raised ≡ true
+      → me.0.raised ≡ true → me.0.announced ≡ is_counted me.0.waiters
       → Allows Rule slots id me tail (λ _. node) (Entered fit tag_of parked me)
-  swaps slots id me node own idle live raised = subst (λ (x : ℕ). Allows Rule slots id me tail
+  swaps slots id me node own idle live raised told = subst (λ (x : ℕ). Allows Rule slots id me tail
       (λ _. x) (Entered fit tag_of parked me)) (sym own) (λ s r count at low.
       let v : View = me.0 in
       let q = r.queued in
@@ -136,8 +111,8 @@ module _ {V : Type 0} (fit : V → Type 0) (tag_of : V → Tag) (parked : V → 
             (at_set s.views id j w u e);
       } in
       let few = subst (λ (c : ℕ). found ≤ c) (sym ((q.each_seat id v at).counted live)) (tail_within s.words r.seats s.views q) in
-      let k = enters fit tag_of parked clh_discipline disciplined n tag tail v.node id me w s r at live (like v w refl refl refl refl
-      refl refl refl) idle refl core in
+      let k = enters fit tag_of parked clh_discipline disciplined ch n tag tail v.node id me w s r tail_not_waiting at live
+      (like v w refl refl refl refl refl refl refl refl) refl told idle refl core in
       (w, keeps, k.0, k.1, (few, k.2)))
 
   -- where the node that a pass watches is granted, the pass is the head: each other one watches the node of a
@@ -171,8 +146,8 @@ module _ {V : Type 0} (fit : V → Type 0) (tag_of : V → Tag) (parked : V → 
       let w : View = took_view v in
       let core = same_words s.words r.seats s.views id v w r.queued at live (λ k. refl) refl refl (λ _. ap
       (λ (x : Bool). x || v.raised) (ap (is_busy false) queued)) in
-      let k = takes_head fit tag_of parked clh_discipline disciplined n tag (flag v.predecessor) id me w s r at live (like v w refl refl
-      refl refl refl refl refl) queued
+      let k = takes_head fit tag_of parked clh_discipline disciplined ch n tag (flag v.predecessor) id me w s r
+      (flag_not_waiting v.predecessor) at live (like v w refl refl refl refl refl refl refl refl) refl queued
       (watches_first s r id v at queued e) refl (λ x. absurd (cc)) refl core in
       (w, k.0, k.1, k.2, (λ _. k.3, λ ne. absurd (ne e))))
       (λ ne.
@@ -180,8 +155,8 @@ module _ {V : Type 0} (fit : V → Type 0) (tag_of : V → Tag) (parked : V → 
       let w : View = missed_view v in
       let quiet = wrong_phase (is_holder false) v Queued queued refl in
       let core = same_words s.words r.seats s.views id v w r.queued at live (λ k. refl) refl refl (λ x. x) in
-      let k = loads fit tag_of parked clh_discipline disciplined n tag (flag v.predecessor) id me w s r at live (like v w refl refl refl
-      refl refl refl refl) refl refl
+      let k = loads fit tag_of parked clh_discipline disciplined ch n tag (flag v.predecessor) id me w s r (flag_not_waiting v.predecessor)
+      at live (like v w refl refl refl refl refl refl refl refl) refl (inl refl) refl refl
       (λ h _. absurd (quiet h)) (λ h _. absurd (quiet h)) core in
       (w, keeps, k.0, k.1, (λ e. absurd (ne e), λ _. k.2))))
 
@@ -197,16 +172,16 @@ module _ {V : Type 0} (fit : V → Type 0) (tag_of : V → Tag) (parked : V → 
       let no : No ≡ Yes = sym (ap (λ (b : Bool). answer_of (not b)) same) ∙ noted in absurd cc)
       (λ ne. let b = at_below r.seats 0 id first in omega arith)
 
-  pub waits : (slots id : ℕ) (me : Me (Option V) View) → me.0.phase ≡ Holding → me.0.spent ≡ false → Allows Rule slots id me tail
-      (λ x. x) (Tested fit tag_of parked me)
-  waits slots id me held live s r count at low =
+  pub waits : (slots id : ℕ) (me : Me (Option V) View) → me.0.phase ≡ Holding → me.0.spent ≡ false → me.0.announced ≡ false
+      → Allows Rule slots id me tail (λ x. x) (Tested fit tag_of parked me)
+  waits slots id me held live silent s r count at low =
       let v : View = me.0 in
       let w : View = tested_view v (others_wait v (slice_index s.words tail)) in
       let st = r.queued.each_seat id v at in
       let core = same_words s.words r.seats s.views id v w r.queued at live (λ k. refl) refl refl (λ x. x) in
-      let k = loads fit tag_of parked clh_discipline disciplined n tag tail id me w s r at live (like v w refl refl refl refl refl refl
-      refl) refl refl
-      (λ h noted. others_behind s r id v at (st.first h) noted) st.followed core in
+      let k = loads fit tag_of parked clh_discipline disciplined ch n tag tail id me w s r tail_not_waiting at live
+      (like v w refl refl refl refl refl refl refl refl) refl (inl refl) refl refl
+      (λ h noted. (silent, inl (others_behind s r id v at (st.first h) noted))) st.followed core in
       (w, keeps, k.0, k.1, k.2)
 
   -- the nodes, where the head goes with the free node, and leaves its own free
@@ -222,9 +197,9 @@ module _ {V : Type 0} (fit : V → Type 0) (tag_of : V → Tag) (parked : V → 
       let goal : sum_by (stands_in by_node k) (set views id (left_view v)) + hits v.node k ≡ c = omega (arith, s, a, b, o, f) in goal
 
   pub gives_back : (slots id : ℕ) (v : View) (x : V) (word : ℕ) (c : List (ℕ × Option V)) → word ≡ flag v.node → v.phase ≡ Holding
-      → v.spent ≡ false → c ≡ (0, Some x) ∷ [] → MayRest fit tag_of parked v x
+      → v.spent ≡ false → v.announced ≡ false → c ≡ (0, Some x) ∷ [] → MayRest fit tag_of parked v x
       → Allows Rule slots id (v, c) word (λ _. granted) (λ _. Left fit tag_of parked (v, c))
-  gives_back slots id v x word c own held live carries rests =
+  gives_back slots id v x word c own held live silent carries rests =
       subst (λ (i : ℕ). Allows Rule slots id (v, c) i (λ _. granted) (λ _. Left fit tag_of parked (v, c))) (sym own) (λ s r count at low.
       let q = r.queued in
       let w : View = left_view v in
@@ -253,7 +228,7 @@ module _ {V : Type 0} (fit : V → Type 0) (tag_of : V → Tag) (parked : V → 
             ∙ q.core.own_pending j u y.1 live' raised')
             (at_set s.views id j w u e);
       } in
-      let k = leaves fit tag_of parked clh_discipline disciplined n tag (flag v.node) granted id v w x c rest s r at live (like v w refl
-      refl refl refl refl refl refl)
+      let k = leaves fit tag_of parked clh_discipline disciplined ch n tag (flag v.node) granted id v w x c rest s r
+      (flag_not_waiting v.node) at live (like v w refl refl refl refl refl refl refl refl) refl silent
       (ap (is_holder false) held) cut.1 refl refl carries rests core in
       (w, gives, k.0, k.1, (slice_index s.words (flag v.node), k.2)))

@@ -1,5 +1,5 @@
 -- What each call of a CLH lock did: its steps on words, the view that its token then has, and the event.
-use Rattle.std.specs.Prelude.{◌≡◌, ◌≢◌, ℕ, Bool, [], ◌∷◌, Some}
+use Rattle.std.specs.Prelude.{◌≡◌, ◌≢◌, ℕ, Bool, [], ◌∷◌, Some, None}
 use Rattle.atomic_table.specs.Table.{takes}
 use Rattle.atomic_table.specs.declared.badge.Badge.{Badge}
 use Rattle.lock_rules.specs.Holders.{held_view}
@@ -7,16 +7,22 @@ use Rattle.lock_rules.specs.Tag.{Tag}
 use Rattle.lock_rules.specs.Tokens.{view_of}
 use Rattle.lock_rules.specs.declared.held.Held.{Held}
 use Rattle.lock_rules.specs.declared.view.View.{View}
-use Rattle.lock_tables.specs.Happened.{Seated, took_view}
+use Rattle.lock_rules.specs.declared.view.Waiters.{Waiters}
+use Rattle.lock_rules.specs.declared.view.Waiters.TheVariants.{Queue, Count}
+use Rattle.lock_tables.specs.Counting.{is_announced, Counted, HasAnnounced, HasWithdrawn}
+use Rattle.lock_tables.specs.Happened.{Seated, announced_view, took_view}
 use Rattle.lock_tables.specs.Queue.{Takes}
 use Rattle.clh_lock.specs.Kinds.{ClhStep, others_wait, Raised, Entered, Missed, Tested, Left}
-use Rattle.clh_lock.specs.Rule.{flag, granted}
+use Rattle.clh_lock.specs.Rule.{flag, granted, clh_discipline}
 
 module _ {V : Type 0} (fit : V → Type 0) (tag_of : V → Tag) (parked : V → Bool) where
-  -- the store of own flag, and behind it the swap of `tail`, which found the node to watch
+  -- in a counted lock the addition to `waiting`; behind it the store of own flag, and behind that the swap of `tail`, which found the
+  -- node to watch
   pub record HasEntered (before after : Badge View) : Type 0 where
+    pub announced : HasAnnounced clh_discipline fit tag_of parked (view_of before).waiters (view_of before, [])
+        (announced_view (view_of before), [])
     pub between : Seated V
-    pub stored : Raised fit tag_of parked (view_of before, []) between
+    pub stored : Raised fit tag_of parked (announced_view (view_of before), []) between
     pub found : ℕ
     pub swapped : Entered fit tag_of parked between found (view_of after, [])
 
@@ -26,16 +32,24 @@ module _ {V : Type 0} (fit : V → Type 0) (tag_of : V → Tag) (parked : V → 
     pub other : found ≢ granted
     pub step : Missed fit tag_of parked (view_of before, []) found (view_of after, [])
 
-  -- a load of the predecessor's flag that showed it granted; the value that was at home is the holder's
+  -- a load of the predecessor's flag that showed it granted; the value that was at home is the holder's. Behind it, in a counted lock, the
+  -- subtraction from `waiting`
   pub record HasTaken (before : Badge View) (after : Held V) : Type 0 where
     pub step : ClhStep fit tag_of parked Takes (takes 0 (Some after.value)) (flag (view_of before).predecessor) granted granted
-        (view_of before, []) (took_view (view_of before)) (held_view after, (0, Some after.value) ∷ [])
+        (view_of before, []) (took_view (view_of before)) (took_view (view_of before), (0, Some after.value) ∷ [])
+    pub withdrawn : HasWithdrawn clh_discipline fit tag_of parked (view_of before).waiters (took_view (view_of before), (0, None) ∷ [])
+        (held_view after, (0, None) ∷ [])
 
-  -- a load of `tail`; the answer is yes exactly where it was not the holder's own node
-  pub record HasAsked (before now : Held V) (answer : Bool) : Type 0 where
-    pub found : ℕ
-    pub told : answer ≡ others_wait (held_view before) found
-    pub step : Tested fit tag_of parked before.seat.seat.me found now.seat.seat.me
+  -- a load of `tail`, with a yes exactly where it was not the holder's own node; in a counted lock a load of `waiting`, with a yes exactly
+  -- where it was not 0
+  abbrev pub HasAskedBy : Waiters → Held V → Held V → Bool → Type 0
+  HasAskedBy Queue before now answer = (found : ℕ) × (answer ≡ others_wait (held_view before) found)
+      × Tested fit tag_of parked before.seat.seat.me found now.seat.seat.me
+  HasAskedBy Count before now answer = (found : ℕ) × (answer ≡ is_announced found)
+      × Counted clh_discipline fit tag_of parked before.seat.seat.me found now.seat.seat.me
+
+  abbrev pub HasAsked : Held V → Held V → Bool → Type 0
+  HasAsked before now answer = HasAskedBy (held_view before).waiters before now answer
 
   -- the store of own flag; the holder's value is at home then, and the node that it watched is its own
   abbrev pub HasLeft : Held V → Badge View → Type 0

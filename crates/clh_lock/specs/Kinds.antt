@@ -1,4 +1,5 @@
--- The kinds of atomic step of a CLH lock: the word, what the step does to the view of its seat, and its event in the queue.
+-- The kinds of atomic step of a CLH lock, but for those on `waiting`: the word, what the step does to the view of its seat, and its event
+-- in the queue.
 use Rattle.std.specs.Prelude.{◌≡◌, ◌≢◌, ℕ, ◌+◌, ◌≤◌, Bool, true, false, ◌==◌, not, List, Option}
 use Rattle.atomic_table.specs.Table.{Act, keeps, gives}
 use Rattle.lock_rules.specs.Tag.{Tag}
@@ -11,15 +12,15 @@ use Rattle.clh_lock.specs.Rule.{tail, flag, pending, granted, queue_of, clh_disc
 
 -- the pass has stored its flag
 abbrev pub raised_view : View → View
-raised_view v = record v { raised = true }
+raised_view v = record v { steps = v.steps + 1; raised = true }
 
 -- the pass is queued behind the node that it found
 abbrev pub queued_view : View → ℕ → View
-queued_view v found = record v { phase = Queued; entries = v.entries + 1; predecessor = found; raised = false }
+queued_view v found = record v { phase = Queued; steps = v.steps + 1; entries = v.entries + 1; predecessor = found; raised = false }
 
 -- the pass is idle again, with the node that it watched
 abbrev pub left_view : View → View
-left_view v = record v { phase = Idle; node = v.predecessor; followed = false; raised = false }
+left_view v = record v { phase = Idle; steps = v.steps + 1; node = v.predecessor; followed = false; raised = false }
 
 -- `waiter` says yes where `tail` is not the holder's own node
 abbrev pub others_wait : View → ℕ → Bool

@@ -3,6 +3,7 @@ use Rattle.std.specs.Prelude.{◌≡◌, ℕ, ◌≤◌, Bool, true, List, [], s
 use Rattle.atomic_table.specs.Table.{State}
 use Rattle.lock_rules.specs.Tag.{Tag}
 use Rattle.lock_rules.specs.declared.view.View.{View}
+use Rattle.lock_rules.specs.declared.view.Waiters.{Waiters}
 use Rattle.lock_tables.specs.Numbers.{by_node}
 use Rattle.lock_tables.specs.Points.{IsAt, Has, HasOneSeat}
 use Rattle.lock_tables.specs.Queue.{IsHead}
@@ -26,5 +27,5 @@ pub record AreNodes (n : ℕ) (queue : List ℕ) (words : List ℕ) (views : Lis
 
 module _ {V : Type 0} (fit : V → Type 0) (tag_of : V → Tag) (parked : V → Bool) where
   abbrev pub RuleHasNodes : Type 0
-  RuleHasNodes = (n : ℕ) (tag : Tag) (s : State (Option V) View) → IsLock clh_discipline fit tag_of parked n tag s
+  RuleHasNodes = (c : Waiters) (n : ℕ) (tag : Tag) (s : State (Option V) View) → IsLock clh_discipline fit tag_of parked c n tag s
       → AreNodes n (queue_of s.words s.views) s.words s.views

@@ -1,4 +1,4 @@
-//! The kinds of step on the words of a CLH lock.
+//! The kinds of step on the words of a CLH lock, but for `waiting`.
 ghost use Rattle.clh_lock.specs.Kinds.{Raised, Entered, Polled, Tested, Left};
 
 use atomic_table::Play;

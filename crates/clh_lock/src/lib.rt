@@ -21,8 +21,11 @@
 //! slot behind the load that showed the flag granted, and put back before the store. Each step is a sequentially consistent operation
 //! on one word.
 //!
-//! `tail` and the flags stand on lines of their own in one `atomic_table`. `specs/Rule` says what holds of them, `specs/Kinds` has the
-//! kinds of step, and `specs/Nodes` what the rule says of the nodes.
+//! In a lock that counts its waiters, `begin` adds 1 to the word `waiting` before its other steps, a `poll` that takes subtracts 1 from it
+//! as its last step, and `waiter` loads it in place of `tail`. These three steps are those of `lock_tables`.
+//!
+//! `waiting`, `tail` and the flags stand on lines of their own in one `atomic_table`. `specs/Rule` says what holds of `tail` and the flags,
+//! `specs/Kinds` has the kinds of step, and `specs/Nodes` what the rule says of the nodes.
 #![tactic(auto)]
 
 mod kinds;

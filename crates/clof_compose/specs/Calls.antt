@@ -8,7 +8,7 @@ use Rattle.keep_local.specs.Turns.{Ends, IsDue}
 use Rattle.keep_local.specs.States.{TrailState, ShareState, IsTrail, IsShareOf, all_tests, all_turns, callers_in, tests_of}
 use Rattle.clof_compose.specs.Contexts.{IsContextOf}
 use Rattle.clof_compose.specs.Courses.{Course}
-use Rattle.clof_compose.specs.Meanings.{Climb, Descent}
+use Rattle.clof_compose.specs.Meanings.{Rest, Climb, Descent}
 use Rattle.clof_compose.specs.Roots.{root_tag}
 use Rattle.clof_compose.specs.declared.report.Report.{Report}
 use Rattle.clof_compose.specs.declared.root.Root.{Root}
@@ -27,13 +27,28 @@ pub record IsOpen (s : TrailState) (caller level : ℕ) : Type 0 where
   pub caller_is : turn.caller ≡ caller
   pub climbed : level ≤ turn.climb
 
--- the token waits higher, or it waits where it did by one load more, which did not show the word that it waits for
-abbrev pub HasClimbed : Climb → Climb → Type 0
-HasClimbed old new = (old.level < new.level) ⊎ ((new.level ≡ old.level) × (new.loads ≡ old.loads + 1) × (new.ready ≡ false))
+-- The basic pass made an entering step where the token waits. At the lowest level it is the context's own, and it made this one since
+-- it rested
+pub record HasEntered (level : ℕ) (rest : Rest) (climb : Climb) : Type 0 where
+  pub lowest : climb.level ≡ level → climb.entries ≡ rest.entries + 1
+  pub entered : 0 < climb.entries
 
--- the token leaves lower, or it leaves where it did by one load more, which did not show the word that it waits for
+-- the token waits higher, by an entering step there, or it waits where it did by one load more, which did not show the word that it waits
+-- for
+abbrev pub HasClimbed : Climb → Climb → Type 0
+HasClimbed old new = ((old.level < new.level) × (0 < new.entries))
+    ⊎ ((new.level ≡ old.level) × (new.loads ≡ old.loads + 1) × (new.ready ≡ false))
+
+-- The last load where the token leaves did not show the word that it waits for. At the lowest level this is the one load since the token
+-- held, but for that of `waiter` below the top
+pub record HasBegunToLeave (top level loads : ℕ) (descent : Descent) : Type 0 where
+  pub unready : descent.ready ≡ false
+  pub at_top : descent.level ≡ level → level ≡ top → descent.loads ≡ loads + 1
+  pub below_top : descent.level ≡ level → level < top → descent.loads ≡ loads + 2
+
+-- the token leaves lower, or it leaves where it did by one load more, and the last load there did not show the word that it waits for
 abbrev pub HasDescended : Descent → Descent → Type 0
-HasDescended old new = (new.level < old.level) ⊎ ((new.level ≡ old.level) × (new.loads ≡ old.loads + 1) × (new.ready ≡ false))
+HasDescended old new = ((new.level < old.level) ⊎ ((new.level ≡ old.level) × (new.loads ≡ old.loads + 1))) × (new.ready ≡ false)
 
 -- the bits below this level are the same
 abbrev pub SameBelow : ℕ → ℕ → ℕ → Type 0

@@ -26,9 +26,9 @@ module _ {Pass Held : Type 0} where
 module _ {P Pass Held : Type 0} where
   -- what the high lock's holder means, where there is one
   abbrev pub kept_stand : (Held → Stand (Root P)) → High Pass Held → Stand (Root P)
-  kept_stand stand (Idle p) = record { context = no_context; root = None }
+  kept_stand stand (Idle p) = record { context = no_context; loads = 0; root = None }
   kept_stand stand (Kept h) = stand h
-  kept_stand stand Away = record { context = no_context; root = None }
+  kept_stand stand Away = record { context = no_context; loads = 0; root = None }
 
   abbrev pub high_with_root : (Held → Root P → Held) → High Pass Held → Root P → High Pass Held
   high_with_root put (Idle p) r = Idle p

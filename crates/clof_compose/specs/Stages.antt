@@ -16,6 +16,7 @@ module _ {P Q Pass Held HQ : Type 0} where
   queue_climb low high level node number (queue.Low q) = record {
     context = level_context level node number (low q).place;
     level = level;
+    entries = (low q).entries;
     loads = (low q).loads;
     ready = (low q).ready;
   }

@@ -43,6 +43,7 @@ pub(crate) fn take_high<P: Payload, H: Composed<P>>(
     ensures queue { IfNot result (λ w. (holder_of w.0).place ≡ (holder_of low).place) }
     ensures climbs { IfNot result (λ w. IsClimbing level w.0.value.node (holder_of low).place.tag (H.Queue.climbs w.1)
         (H.Queue.climb w.1)) }
+    ensures entered { IfNot result (λ w. 0 < (H.Queue.climb w.1).entries) }
     ensures unasked { IfNot result (λ w. (holder_of w.0).tested ≡ Open) }
     ensures not_made { IfNot result (λ _. share.new ≡ share.old) }
     ensures held { IfGot result (λ h. (holder_of h).place ≡ (holder_of low).place) }

@@ -3,9 +3,11 @@ ghost use Rattle.std.specs.Prelude.{◌≡◌, ◌+◌, ◌≤◌, ℕ, IsSomeAn
 ghost use Rattle.std.specs.Borrow.{Lends, sem};
 ghost use Rattle.lock_rules.specs.Tag.{Tag};
 ghost use Rattle.lock_rules.specs.Steps.{IfNot, IfGot};
+ghost use Rattle.keep_local.specs.Shapes.{top_of};
 ghost use Rattle.clof_compose.specs.Contexts.{Context};
 ghost use Rattle.clof_compose.specs.Courses.{course_of};
-ghost use Rattle.clof_compose.specs.Calls.{MayTurn, HasOpened, MayRelease, HasClimbed, HasDescended, ClosesWith};
+ghost use Rattle.clof_compose.specs.Calls.{MayTurn, HasOpened, MayRelease, ClosesWith};
+ghost use Rattle.clof_compose.specs.Calls.{HasEntered, HasClimbed, HasBegunToLeave, HasDescended};
 ghost use Rattle.clof_compose.specs.Passes.{AreAll};
 ghost use Rattle.clof_compose.specs.Roots.{root_tag, IsFit, IsKept};
 ghost use Rattle.clof_compose.specs.declared.root.Root.{Root as TheRoot};
@@ -44,8 +46,8 @@ pub trait Composed<P: Payload>: Sized {
     ghost has: { Self → Context → Type 0 };
 
     /// Goes up from the lowest level until a basic lock answers `Not`, or a level's value has the high lock kept, or the top lock is
-    /// taken. Then the share's
-    /// caller opens a turn.
+    /// taken. Then the share's caller opens a turn. The answer is `Not` only where this call made an entering step at the level where the
+    /// pass is queued, which the token records.
     fn begin(&self, pass: Self::Pass, share: &mut Share) -> Step<Self::Queue, Self::Held>
         requires sound { sound self.now }
         requires own { has self.now (Self.Pass.rest pass).context }
@@ -53,6 +55,7 @@ pub trait Composed<P: Payload>: Sized {
         ensures queue { IfNot result (λ q. (Self.Queue.climb q).context ≡ (Self.Pass.rest pass).context) }
         ensures climbs { IfNot result (λ q. Self.Queue.climbs q) }
         ensures above { IfNot result (λ q. level self.now ≤ (Self.Queue.climb q).level) }
+        ensures entered { IfNot result (λ q. HasEntered (level self.now) (Self.Pass.rest pass) (Self.Queue.climb q)) }
         ensures not_made { IfNot result (λ _. share.new ≡ share.old) }
         ensures held { IfGot result (λ h. (Self.Held.stand h).context ≡ (Self.Pass.rest pass).context) }
         ensures stands { IfGot result (λ h. Self.Held.stands h) }
@@ -60,9 +63,9 @@ pub trait Composed<P: Payload>: Sized {
         ensures opened { IfGot result (λ h. IsSomeAnd (Self.Held.stand h).root (HasOpened P.calls P.tag (tag self.now)
             (level self.now) share.new)) };
 
-    /// Goes on from the level at which the pass is queued. The answer is `Not` only where it is queued higher now, or where the one load
-    /// of this call at that
-    /// level, which the token records, didn't show the word that the pass waits for.
+    /// Goes on from the level at which the pass is queued. The answer is `Not` only where it is queued higher now, by an entering step that
+    /// the token there records, or where the one load of this call at that level, which the token records, didn't show the word that the
+    /// pass waits for.
     fn poll(&self, queue: Self::Queue, share: &mut Share) -> Step<Self::Queue, Self::Held>
         requires sound { sound self.now }
         requires own { has self.now (Self.Queue.climb queue).context }
@@ -79,8 +82,8 @@ pub trait Composed<P: Payload>: Sized {
             (level self.now) share.new)) };
 
     /// Leaves the lock. At each level below the top that it comes to it asks whether somebody is queued behind, and notes the answer. It
-    /// keeps the high lock for
-    /// them where the level's threshold allows, and else releases the high lock first.
+    /// keeps the high lock for them where the level's threshold allows, and else releases the high lock first. The answer is `Not` only
+    /// where the last load at the level where the pass leaves, which the token records, didn't show the word that the pass waits for.
     fn begin_release(&self, held: Self::Held) -> Step<Self::Leave, Self::Pass>
         requires sound { sound self.now }
         requires own { has self.now (Self.Held.stand held).context }
@@ -90,14 +93,15 @@ pub trait Composed<P: Payload>: Sized {
         ensures leave { IfNot result (λ l. (Self.Leave.descent l).context ≡ (Self.Held.stand held).context) }
         ensures descends { IfNot result (λ l. Self.Leave.descends l) }
         ensures above { IfNot result (λ l. level self.now ≤ (Self.Leave.descent l).level) }
+        ensures waits { IfNot result (λ l. HasBegunToLeave (top_of (course_of (tag self.now)).shape) (level self.now)
+            (Self.Held.stand held).loads (Self.Leave.descent l)) }
         ensures noted { IfNot result (λ l. IsSomeAnd (Self.Held.stand held).root (ClosesWith (level self.now)
             (Self.Leave.descent l).report)) }
         ensures pass { IfGot result (λ p. (Self.Pass.rest p).context ≡ (Self.Held.stand held).context) }
         ensures tests { IfGot result (λ p. IsSomeAnd (Self.Held.stand held).root (ClosesWith (level self.now) (Self.Pass.rest p).report)) };
 
-    /// Goes on with a release. The answer is `Not` only where it leaves at a lower level now, or where the one load of this call at that
-    /// level, which the token
-    /// records, didn't show the word that the pass waits for.
+    /// Goes on with a release. The answer is `Not` only where it leaves at a lower level now or made one load at the level where it left,
+    /// and the last load at the level where it leaves, which the token records, didn't show the word that the pass waits for.
     fn poll_release(&self, leave: Self::Leave) -> Step<Self::Leave, Self::Pass>
         requires sound { sound self.now }
         requires own { has self.now (Self.Leave.descent leave).context }

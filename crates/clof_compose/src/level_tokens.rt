@@ -43,7 +43,11 @@ pub struct LevelLeave<P, L, Pass, Held, HL> {
 }
 
 impl<L: Placed> Resting for LevelPass<L> {
-    ghost rest = { λ p. record { context = level_context p.id.level p.id.node p.id.number (L.place p.low); report = p.report } };
+    ghost rest = { λ p. record {
+      context = level_context p.id.level p.id.node p.id.number (L.place p.low);
+      entries = L.entries p.low;
+      report = p.report;
+    } };
 
     fn tests(&self) -> u32 {
         self.report.tests
@@ -57,6 +61,7 @@ impl<L: Placed> Resting for LevelPass<L> {
 impl<P: Payload, Pass: Resting, Held: Standing<P>> Standing<P> for LevelHeld<P, Pass, Held> {
     ghost stand = { λ h. record {
       context = level_context h.id.level h.id.node h.id.number (holder_of h.low).place;
+      loads = (holder_of h.low).loads;
       root =
           (kept_stand Held.stand h.low.value.high).root;
     } };

@@ -38,6 +38,7 @@ pub(crate) fn go_up<P: Payload, H: Composed<P>, Q: Queueing>(
         ≡ level_context id.level id.node id.number (holder_of low).place) }
     ensures climbs { IfNot result (λ q. IsQueued H.Queue.climb H.Queue.climbs q.id.level q.stage) }
     ensures above { IfNot result (λ q. id.level < (queue_climb Q.waiting H.Queue.climb q.id.level q.id.node q.id.number q.stage).level) }
+    ensures entered { IfNot result (λ q. 0 < (queue_climb Q.waiting H.Queue.climb q.id.level q.id.node q.id.number q.stage).entries) }
     ensures not_made { IfNot result (λ _. share.new ≡ share.old) }
     ensures held { IfGot result (λ h. level_context h.id.level h.id.node h.id.number (holder_of h.low).place
         ≡ level_context id.level id.node id.number (holder_of low).place) }

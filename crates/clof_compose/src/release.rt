@@ -88,6 +88,7 @@ pub(crate) fn release_high<P: Payload, H: Composed<P>>(
     ensures context { IfNot result (λ w. (H.Leave.descent w.1).context ≡ (kept_stand H.Held.stand low.value.high).context) }
     ensures descends { IfNot result (λ w. H.Leave.descends w.1) }
     ensures above { IfNot result (λ w. H.level high.now ≤ (H.Leave.descent w.1).level) }
+    ensures unready { IfNot result (λ w. (H.Leave.descent w.1).ready ≡ false) }
     ensures noted { IfNot result (λ w. IsSomeAnd (kept_stand H.Held.stand low.value.high).root (ClosesWith (H.level high.now)
         (H.Leave.descent w.1).report)) }
     ensures kept_seat { IfGot result (λ w. w.0.seat ≡ low.seat) }
@@ -135,6 +136,7 @@ pub(crate) fn let_go<P: Payload, H: Composed<P>>(
     ensures seat { IfNot result (λ w. w.0.seat ≡ low.seat) }
     ensures descends { IfNot result (λ w. IsDescending level w.0.value.node w.0.value.said (own_tag low.value.node
         (kept_stand H.Held.stand low.value.high).context) (H.Leave.descends w.1) (H.Leave.descent w.1)) }
+    ensures unready { IfNot result (λ w. (H.Leave.descent w.1).ready ≡ false) }
     ensures said { IfNot result (λ w. w.0.value.said ≡ low.value.said) }
     ensures noted { IfNot result (λ w. IsSomeAnd (kept_stand H.Held.stand low.value.high).root (ClosesWith level
         (H.Leave.descent w.1).report)) }

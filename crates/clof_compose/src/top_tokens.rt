@@ -39,7 +39,7 @@ pub struct TopLeave<L> {
 }
 
 impl<L: Placed> Resting for TopPass<L> {
-    ghost rest = { λ p. record { context = top_context p.level (L.place p.low); report = p.report } };
+    ghost rest = { λ p. record { context = top_context p.level (L.place p.low); entries = L.entries p.low; report = p.report } };
 
     fn tests(&self) -> u32 {
         self.report.tests
@@ -54,6 +54,8 @@ impl<L: Queueing> Climbing for TopQueue<L> {
     ghost climb = { λ q. record {
       context = top_context q.level (L.waiting q.low).place;
       level = q.level;
+      entries =
+          (L.waiting q.low).entries;
       loads =
           (L.waiting q.low).loads;
       ready = (L.waiting q.low).ready;
@@ -67,7 +69,11 @@ impl<L: Queueing> Climbing for TopQueue<L> {
 }
 
 impl<P: Payload> Standing<P> for TopHeld<P> {
-    ghost stand = { λ h. record { context = top_context h.level (holder_of h.low).place; root = Some h.low.value } };
+    ghost stand = { λ h. record {
+      context = top_context h.level (holder_of h.low).place;
+      loads = (holder_of h.low).loads;
+      root = Some h.low.value;
+    } };
 
     ghost stands = { λ h. IsInHand P.calls h.low.value × ((holder_of h.low).tested ≡ Open) };
 

@@ -11,13 +11,19 @@ use drill_text::{KEEPS, LEVELS, LOCKS, MACHINE, sections, summary};
 use lock_plan::{Plan, PlanFault};
 use out_of_memory::OutOfMemory;
 use placed_runner::{Gate, spread};
-use planned_runner::{Manner, run};
+use planned_runner::{Manner, Sharing, run};
 use std::alloc::Global;
 use std::sync::Wait;
 use std::thread::Threads;
 use topo_tree::Tree;
 
-/// The text of the drill of a number: its callers work on threads, and what their keys hold then is told.
+/// How many threads the callers of a drill share, and how many commands of a caller one gives at a time. With a thread for each of the 64
+/// callers nine tenths of a drill went to waiting for callers that had the lock and weren't running.
+const DRILL_THREADS: u32 = 4;
+
+const DRILL_QUANTUM: u32 = 16;
+
+/// The text of the drill of a number: its callers share threads, and what their keys hold then is told.
 pub(crate) fn drill_text<R: Threads + Wait + Sync, G: Gate + Sync>(
     rt: &R,
     alloc: Global,
@@ -47,7 +53,11 @@ fn drilled<R: Threads + Wait + Sync, G: Gate + Sync>(
     let bytes = sections(alloc, number)?;
     let sections = spread(alloc, &tree, &bytes)?;
     let shape = shape_for(alloc, &tree, &plan, &sections)?;
-    let left = run(rt, alloc, &plan, &shape, &sections, Manner::Threads, gate)?;
+    let manner = Manner::Cohorts(Sharing {
+        threads: DRILL_THREADS,
+        quantum: DRILL_QUANTUM,
+    });
+    let left = run(rt, alloc, &plan, &shape, &sections, manner, gate)?;
     summary(alloc, number, &left.journal)
 }
 

@@ -1,5 +1,5 @@
 -- Slots that are filled and emptied in order.
-use Rattle.std.proofs.Common.{◌≡◌, ◌<◌, ℕ, List, [], ◌∷◌, ◌++◌, length, refl, ap, sym, ◌∙◌, subst, arith, Option, Some, None, length-append}
+use Rattle.std.proofs.Common.{◌≡◌, ◌<◌, ℕ, List, [], ◌∷◌, ◌++◌, length, refl, ap, sym, ◌∙◌, arith, Option, Some, length-append}
 use Rattle.std.specs.Prelude.{slice_get}
 use Rattle.lock_rules.specs.Tag.{Tag}
 use Rattle.cohort_desks.specs.Slots.{AreOwn, IsFull}

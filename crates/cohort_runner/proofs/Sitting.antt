@@ -7,7 +7,7 @@ use Rattle.std.proofs.lemmas.Option.{slice_get_within}
 use Rattle.lock_rules.specs.Tag.{Tag}
 use Rattle.cohort_queue.specs.States.{CohortState}
 use Rattle.cohort_desks.specs.declared.desk.Desk.{Desk}
-use Rattle.cohort_desks.specs.Desks.{HasTakenAt, IsDesk}
+use Rattle.cohort_desks.specs.Desks.{HasTakenAt}
 use Rattle.cohort_desks.specs.Halls.{IsCohortOf}
 use Rattle.cohort_desks.proofs.Items.{item_at}
 use Rattle.clof_compose.specs.Contexts.{Context}

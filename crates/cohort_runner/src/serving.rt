@@ -18,7 +18,7 @@ use threaded_runner::{Book, Job, give_next};
 fn goes_on<Q>(job: &Job<'_, Q>) -> bool
     ensures { result ≡ true → job.now.share.made < job.now.share.quota }
 {
-    !job.stopped && job.share.made() < job.share.quota()
+    !job.stopped && job.share.may_turn()
 }
 
 // Serves up to so many commands of a caller.

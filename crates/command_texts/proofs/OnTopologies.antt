@@ -4,7 +4,8 @@ use Rattle.std.specs.Prelude.{Result, IsOk}
 use Rattle.synth_text.specs.declared.description.Description.{Description}
 use Rattle.synth_text.specs.Descriptions.{Describes}
 use Rattle.command_texts.specs.declared.status.Status.{Status}
-use Rattle.command_texts.specs.declared.status.Status.TheVariants.{Ok as OkStatus, Usage, Malformed, Limit, ReadFault, WriteFault, OutOfMemory}
+use Rattle.command_texts.specs.declared.status.Status.TheVariants.{Ok as OkStatus, Usage, Malformed, Limit, ReadFault, WriteFault}
+use Rattle.command_texts.specs.declared.status.Status.TheVariants.{OutOfMemory}
 use Rattle.command_texts.specs.OnTopology.{RefusesOn}
 use Rattle.command_texts.specs.Ends.{EndsEarly, HasWritten}
 use Rattle.command_texts.specs.TopoText.{IsBuilt, TopoRefuses}

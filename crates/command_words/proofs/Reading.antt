@@ -19,7 +19,8 @@ some_among kind [] rows among = absurd among
 some_among kind (first ∷ kinds) rows among = refl
 
 -- the command refuses the words
-pub matched-refused : (command : App) (words : List Text) (kind : ErrorKind) → IsAmong kind (fault_of command words) → matched command words ≡ None
+pub matched-refused : (command : App) (words : List Text) (kind : ErrorKind) → IsAmong kind (fault_of command words)
+    → matched command words ≡ None
 unfolding matched
 matched-refused command words kind among = some_among kind (fault_of command words) (matches_of command words) among
 

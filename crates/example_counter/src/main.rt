@@ -8,7 +8,7 @@ ghost use Rattle.std.specs.Prelude.{◌≡◌, ◌<◌};
 ghost use Rattle.lock_rules.specs.Passes.{IsOf};
 
 use anyhow::Context;
-use lock_rules::{Basic, Pass, Placed, Plain};
+use lock_rules::{Basic, Pass, Placed, Plain, Waiters};
 use lock_threads::{Works, by_all};
 use std::alloc::Global;
 use std::sync::Wait;
@@ -57,7 +57,8 @@ fn add_by_all<R: Threads + Wait + Sync>(
 ) -> Option<u64>
     requires { 0 < threads }
 {
-    let Ok((lock, passes)) = Counter::make(alloc, (), threads, Plain { value: 0 }) else {
+    let Ok((lock, passes)) = Counter::make(alloc, Waiters::Queue, threads, Plain { value: 0 })
+    else {
         return None;
     };
     let adder = Adder {

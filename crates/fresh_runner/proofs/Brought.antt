@@ -1,10 +1,9 @@
 -- What callers bring, before they begin.
-use Rattle.std.proofs.Common.{◌≡◌, ℕ, ◌+◌, ◌≤◌, List, [], ◌∷◌, ◌++◌, length, refl, ap, sym, ◌∙◌, subst, arith, Some, vec_capacity}
+use Rattle.std.proofs.Common.{◌≡◌, ℕ, ◌+◌, List, [], ◌∷◌, ◌++◌, length, refl, ap, sym, ◌∙◌, subst, arith, Some}
 use Rattle.std.specs.Prelude.{slice_get, slice_index}
 use Rattle.std.specs.List.{enumerate_from}
 use Rattle.std.proofs.lemmas.Option.{slice_get_within}
 use Rattle.lock_rules.specs.Tag.{Tag}
-use Rattle.keep_local.specs.Shapes.{callers_of}
 use Rattle.keep_local.specs.States.{ShareState}
 use Rattle.clof_compose.specs.Contexts.{Context}
 use Rattle.clof_compose.specs.Courses.{Course, course_of}
@@ -49,8 +48,8 @@ shares_new course sections shares seens is k s e =
 
 module _ {P : Type 0} (rest : P → Rest) (has : Context → Type 0) (level : ℕ) (tag : Tag) where
   -- with blank marks for each share
-  pub are_lists : (count : ℕ) (sections : List (List ℕ)) (lists : Lists P) → AreAll (λ p. (rest p).context) has level tag count lists.passes.items
-      → count ≡ length sections → IsFreshDealt (course_of tag) sections lists.shares.items lists.seens.items
+  pub are_lists : (count : ℕ) (sections : List (List ℕ)) (lists : Lists P) → AreAll (λ p. (rest p).context) has level tag count
+      lists.passes.items → count ≡ length sections → IsFreshDealt (course_of tag) sections lists.shares.items lists.seens.items
       → length lists.marks.items ≡ length lists.shares.items
       → ((k : ℕ) (s : ShareState) (m : Marks) → slice_get lists.shares.items k ≡ Some s → slice_get lists.marks.items k ≡ Some m
       → IsBlank s.quota m)
@@ -132,9 +131,11 @@ module _ {P : Type 0} (rest : P → Rest) (has : Context → Type 0) (level : �
     -- and its account
     pub last_account : IsAccount (course_of tag) (length after.passes.items) a × (a.share.made ≡ 0)
     last_account =
-        let share = subst (λ k. share_at k a.share) as_shares (at_end share_at lists.shares.items after.shares.items a.share shares are.shares) in
+        let share = subst (λ k. share_at k a.share) as_shares (at_end share_at lists.shares.items after.shares.items a.share shares
+        are.shares) in
         let seen = subst (λ k. seen_at k a.seen) as_seens (at_end seen_at lists.seens.items after.seens.items a.seen seens are.seens) in
-        let blank = subst (λ k. marks_at k a.marks) as_marks (at_end marks_at lists.marks.items after.marks.items a.marks marks are.marks) in
+        let blank = subst (λ k. marks_at k a.marks) as_marks (at_end marks_at lists.marks.items after.marks.items a.marks marks are.marks)
+        in
         let made = share.1 in
         let quota = share.0.quota in
         let room = blank.room in (

@@ -1,5 +1,5 @@
 -- What comes back of a run.
-use Rattle.std.proofs.Common.{◌≡◌, ℕ, Bool, List, [], ◌∷◌, length, map, refl, ap, sym, ◌∙◌, subst, Option, Some}
+use Rattle.std.proofs.Common.{◌≡◌, ℕ, List, [], ◌∷◌, length, map, refl, ap, sym, ◌∙◌, subst, Option, Some}
 use Rattle.std.specs.Prelude.{slice_get}
 use Rattle.std.proofs.lemmas.List.{length-map}
 use Rattle.lock_rules.specs.Tag.{Tag}
@@ -21,7 +21,8 @@ use Rattle.fresh_runner.specs.declared.job.FreshJob.{FreshJob}
 abbrev pub job_in : {P : Type 0} → FreshJob P → Job P
 job_in j = record { pass = j.pass; share = j.account.share; commands = j.commands; stopped = j.stopped }
 
-pub in_jobs : {P A : Type 0} (f : Job P → A) (jobs : List (FreshJob P)) → map (λ (j : FreshJob P). f (job_in j)) jobs ≡ map f (map job_in jobs)
+pub in_jobs : {P A : Type 0} (f : Job P → A) (jobs : List (FreshJob P)) → map (λ (j : FreshJob P). f (job_in j)) jobs
+    ≡ map f (map job_in jobs)
 in_jobs f [] = refl
 in_jobs f (j ∷ jobs) = ap (λ rest. f (job_in j) ∷ rest) (in_jobs f jobs)
 
@@ -60,7 +61,8 @@ module _ {P : Type 0} (rest : P → Rest) (has : Context → Type 0) (level : �
     pub marked_back : (seens : List SeenState) → seens ≡ map (λ (j : FreshJob P). j.account.seen) jobs → (k : ℕ) (s : SeenState) (m : Marks)
         → slice_get seens k ≡ Some s → slice_get marks k ≡ Some m → m.turns.items ≡ places_of k s.list
     marked_back seens those k s m here there =
-        let one = stands_for (λ (j : FreshJob P). j.account.seen) jobs k s (ap (λ (l : List SeenState). slice_get l k) (sym those) ∙ here) in
+        let one = stands_for (λ (j : FreshJob P). j.account.seen) jobs k s (ap (λ (l : List SeenState). slice_get l k) (sym those)
+        ∙ here) in
         let other = stands_for (λ (j : FreshJob P). j.account.marks) jobs k m (ap (λ (l : List Marks). slice_get l k) (sym are) ∙ there) in
         let same = some_same other.0 one.0 (sym other.1 ∙ one.1) in
         ap (λ (n : Marks). n.turns.items) (sym other.2) ∙ (each k other.0 other.1).account_is.marks_are
@@ -70,7 +72,8 @@ module _ {P : Type 0} (rest : P → Rest) (has : Context → Type 0) (level : �
     pub as_many_back : (shares : List ShareState) → shares ≡ map (λ (j : FreshJob P). j.account.share) jobs → (k : ℕ) (s : ShareState)
         (m : Marks) → slice_get shares k ≡ Some s → slice_get marks k ≡ Some m → length m.turns.items ≡ s.made
     as_many_back shares those k s m here there =
-        let one = stands_for (λ (j : FreshJob P). j.account.share) jobs k s (ap (λ (l : List ShareState). slice_get l k) (sym those) ∙ here) in
+        let one = stands_for (λ (j : FreshJob P). j.account.share) jobs k s (ap (λ (l : List ShareState). slice_get l k) (sym those)
+        ∙ here) in
         let other = stands_for (λ (j : FreshJob P). j.account.marks) jobs k m (ap (λ (l : List Marks). slice_get l k) (sym are) ∙ there) in
         let same = some_same other.0 one.0 (sym other.1 ∙ one.1) in
         ap (λ (n : Marks). length n.turns.items) (sym other.2) ∙ (each k other.0 other.1).account_is.as_many

@@ -34,7 +34,8 @@ module _ (trail : TrailState) (log : Log) (shares : List ShareState) (seens : Li
     -- so the marks, which are as many, are the places of all calls
     pub are_marked : (calls : List ℕ) → calls ≡ callers_in trail.closed → All (λ (s : SeenState). IsPrefixOf s.list calls) seens
         → length seens ≡ length shares → length marks ≡ length shares
-        → ((k : ℕ) (s : SeenState) (m : Marks) → slice_get seens k ≡ Some s → slice_get marks k ≡ Some m → m.turns.items ≡ places_of k s.list)
+        → ((k : ℕ) (s : SeenState) (m : Marks) → slice_get seens k ≡ Some s → slice_get marks k ≡ Some m
+        → m.turns.items ≡ places_of k s.list)
         → ((k : ℕ) (s : ShareState) (m : Marks) → slice_get shares k ≡ Some s → slice_get marks k ≡ Some m → length m.turns.items ≡ s.made)
         → AreMarked (callers_in trail.closed) (length shares) marks
     are_marked calls called prefixes as_seens as_marks marked as_many = record {

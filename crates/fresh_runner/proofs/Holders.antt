@@ -1,11 +1,11 @@
 -- What a holder knows.
-use Rattle.std.proofs.Common.{◌≡◌, ℕ, ◌+◌, ◌^◌, ◌<◌, ◌++◌, [], ◌∷◌, List, length, map, ap, sym, ◌∙◌, subst, arith, Option, Some, None}
+use Rattle.std.proofs.Common.{◌≡◌, ℕ, ◌+◌, ◌^◌, ◌<◌, ◌++◌, [], ◌∷◌, List, length, ap, sym, ◌∙◌, subst, arith, Option, Some, None}
 use Rattle.std.proofs.Common.{length-append, refl, true}
 use Rattle.std.specs.Prelude.{All, IsSome, slice_get, ◌==◌}
 use Rattle.std.proofs.lemmas.Bool.{eq-eqb}
 use Rattle.std.proofs.lemmas.List.Sums.{sum_by-append, sum_by-cons}
 use Rattle.std.proofs.lemmas.List.{length-map}
-use Rattle.std.proofs.lemmas.List.Elements.{All-append, All-head, All-map, All-nil, All-tail, All-cons}
+use Rattle.std.proofs.lemmas.List.Elements.{All-head, All-nil, All-tail, All-cons}
 use Rattle.lock_rules.specs.Tag.{Tag}
 use Rattle.lock_rules.specs.Trees.{lists_in, tree_of_lists}
 use Rattle.lock_rules.proofs.Trees.{lists_in-tree_of_lists}
@@ -19,8 +19,7 @@ use Rattle.keep_local.proofs.Trails.{times_callers}
 use Rattle.clof_compose.specs.Calls.{HasOpened}
 use Rattle.clof_compose.specs.Courses.{course_of}
 use Rattle.clof_compose.specs.declared.root.Root.{Root}
-use Rattle.fresh_root.specs.Prefixes.{IsPrefixOf}
-use Rattle.fresh_root.specs.States.{FreshState, calls_while, fresh_calls, no_caller}
+use Rattle.fresh_root.specs.States.{calls_while, no_caller}
 use Rattle.mc_text.specs.Request.{WholeCommand}
 use Rattle.mc_text.specs.Reading.{commands_of}
 use Rattle.kv_history.specs.Log.{Log, IsNext, calls}
@@ -40,7 +39,8 @@ is_home None list callers e all =
     absurd (let less = below_all list [] no_caller (subst (λ (l : List ℕ). All (λ n. n < no_caller) l) (sym e) all) in omega (arith, less))
 is_home (Some p) list callers e all = (refl, e)
 
-known_below : (turns : List Turn) (n : ℕ) → n < 2 ^ 32 → All (λ (t : Turn). t.caller < n) turns → All (λ k. k < no_caller) (callers_in turns)
+known_below : (turns : List Turn) (n : ℕ) → n < 2 ^ 32 → All (λ (t : Turn). t.caller < n) turns → All (λ k. k < no_caller)
+    (callers_in turns)
 known_below [] n few all = All-nil (λ k. k < no_caller)
 known_below (t ∷ turns) n few all =
     let head = All-head (λ (u : Turn). u.caller < n) t turns all in
@@ -78,7 +78,8 @@ one_more caller turns t own =
 module _ (t : Tag) (level made : ℕ) (share : ShareState) (r : Root FreshBook)
     (opened : HasOpened fresh_book_calls fresh_book_tag t level share r) where
   home : IsSome r.payload.fresh.payload × (r.payload.fresh.list ≡ callers_in r.trail.closed)
-  home = is_home r.payload.fresh.payload r.payload.fresh.list (callers_in r.trail.closed) opened.calls_are (callers_below r.trail opened.trail)
+  home = is_home r.payload.fresh.payload r.payload.fresh.list (callers_in r.trail.closed) opened.calls_are (callers_below r.trail
+      opened.trail)
 
   all_are : all_turns r.trail ≡ r.trail.closed ++ opened.is_open.turn ∷ []
   all_are = ap (λ (o : Option Turn). r.trail.closed ++ option_list o) opened.is_open.now

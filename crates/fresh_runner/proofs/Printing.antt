@@ -10,11 +10,9 @@ use Rattle.keep_local.specs.declared.turn.Turn.{Turn}
 use Rattle.keep_local.specs.Shapes.{top_of}
 use Rattle.keep_local.specs.States.{TrailState, callers_in}
 use Rattle.keep_local.specs.Turns.{IsLawful, last_turn}
-use Rattle.mc_text.specs.Reading.{commands_of}
-use Rattle.kv_history.specs.Log.{Log, EachHasSection, calls}
-use Rattle.placed_runner.specs.Printed.{IsRun}
+use Rattle.kv_history.specs.Log.{Log, EachHasSection}
 use Rattle.placed_runner.specs.Sections.{Placed}
-use Rattle.placed_runner.specs.Text.{Hold, commands_behind, run_text, text_of, turns_behind, turns_text}
+use Rattle.placed_runner.specs.Text.{Hold, commands_behind, run_text, text_of, turns_text}
 use Rattle.placed_runner.specs.Views.{section_view}
 use Rattle.placed_runner.specs.declared.sections.Section.{Section}
 use Rattle.placed_runner.proofs.Printed.{count-held, hold_of, turns_are}

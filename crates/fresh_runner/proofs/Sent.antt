@@ -1,5 +1,4 @@
 -- What may go to another thread.
-use denote.RattleType.{RattleType}
 use denote.Ref.{NamedLft}
 use denote.Param.Send.{IsSend, IsSync}
 use Rattle.threaded_runner.specs.contracts.book.Book as Book

@@ -1,5 +1,5 @@
 -- What is known of a root whose lock was taken apart.
-use Rattle.std.proofs.Common.{◌≡◌, ℕ, ◌∙◌, Bool, true, false, not, List, map, ap, sym, refl, subst}
+use Rattle.std.proofs.Common.{◌≡◌, ℕ, ◌∙◌, Bool, true, false, not, List, ap, sym, refl, subst}
 use Rattle.std.specs.Prelude.{IfSome, IsSome, ◌||◌}
 use Rattle.lock_rules.specs.Trees.{lists_in, tree_of_lists}
 use Rattle.lock_rules.specs.Tag.{Tag}

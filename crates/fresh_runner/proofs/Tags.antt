@@ -1,6 +1,5 @@
 -- What the tag of a lock tells of the Fresh at its root.
-use Rattle.std.proofs.Common.{◌≡◌, ℕ, true, ap, sym, ◌∙◌}
-use Rattle.atomic_table.specs.Seated.{TableId}
+use Rattle.std.proofs.Common.{◌≡◌, true, ap, sym, ◌∙◌}
 use Rattle.lock_rules.specs.Tag.{Tag}
 use Rattle.lock_rules.proofs.Trees.{list_in-tree_of}
 use Rattle.clof_compose.specs.Courses.{Course, course_of}

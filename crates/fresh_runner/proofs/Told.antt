@@ -32,7 +32,8 @@ fresh_dealt root r sections shares seens trail tag dealt tokens all blank =
       payload = sym tag i;
     } in
     record {
-      dealt = subst (λ (c : Course). IsDealt c sections shares) (told ∙ same ∙ ap book_course (sym (course (root_tag fresh_book_tag r) r refl)))
+      dealt = subst (λ (c : Course). IsDealt c sections shares) (told ∙ same ∙ ap book_course (sym (course (root_tag fresh_book_tag r) r
+          refl)))
           dealt;
       tokens = tokens_are (root_tag fresh_book_tag r) r refl ∙ tokens;
       seens_are = subst (λ (n : TableId). AreAll n (length sections) seens) (sym (fresh_is (root_tag fresh_book_tag r) r refl)) all;

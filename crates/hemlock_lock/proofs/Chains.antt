@@ -6,15 +6,16 @@ use mathlib.Core.Logic.{dite}
 use native.Mathlib.Decide.{ℕ_discrete}
 use lib.ListN.{get_elem?}
 use Rattle.atomic_table.proofs.Lists.{at_set, set_else}
+use Rattle.lock_rules.specs.Rows.{line}
 use Rattle.lock_rules.specs.Tag.{Tag}
-use Rattle.lock_rules.specs.declared.view.Phase.TheVariants.{Idle, Queued, Leaving}
+use Rattle.lock_rules.specs.declared.view.Phase.TheVariants.{Idle, Queued, Holding, Leaving}
 use Rattle.lock_rules.specs.declared.view.View.{View}
 use Rattle.lock_tables.specs.Rule.{is_busy, IsQueued}
 use Rattle.lock_tables.proofs.Lists.{set_at, at_below, there, no_true}
 use Rattle.lock_tables.proofs.Points.{no_other}
 use Rattle.lock_tables.proofs.Queues.{lives, one_seat_of}
 use Rattle.hemlock_lock.specs.Kinds.{own_name}
-use Rattle.hemlock_lock.specs.Rule.{tail, grant, IsLeaving, IsChained, hemlock_discipline}
+use Rattle.hemlock_lock.specs.Rule.{tail, grant, IsLeaving, IsChained, HasGrants, hemlock_discipline}
 
 pub no_seats : (l : List ℕ) → length l ≡ 0 → l ≡ []
 no_seats [] e = refl
@@ -84,6 +85,51 @@ leaver_stays views id v w name at number stays l = dite (ℕ_discrete l.seat id)
       is = (λ i. number i + 1) ∙ named;
     })
     (λ ne. record { seat = l.seat; view = l.view; at = set_else views id l.seat w ne ∙ l.at; leaves = l.leaves; is = l.is })
+
+module _ (n : ℕ) (words seats : List ℕ) (views : List View) (id : ℕ) (w : View) (core : HasGrants n words seats views) where
+  -- what holders owe, where the seat that stepped owes as it should
+  pub owing_set : (w.phase ≡ Holding → w.predecessor ≢ 0 → w.owes ≡ true)
+      → (j : ℕ) (u : View) → get_elem? (set views id w) j ≡ some u → u.phase ≡ Holding → u.predecessor ≢ 0 → u.owes ≡ true
+  owing_set owes j u e held some_name = ⊎_elim
+      (λ (t : (j ≡ id) × (w ≡ u)). ap (λ (x : View). x.owes) (sym t.1)
+      ∙ owes (ap (λ (x : View). x.phase) t.1 ∙ held) (λ z. some_name (ap (λ (x : View). x.predecessor) (sym t.1) ∙ z)))
+      (λ (t : (j ≢ id) × (get_elem? views j ≡ some u)). core.owing j u t.1 held some_name)
+      (at_set views id j w u e)
+
+  -- and who names none
+  pub nameless_set : (is_busy false w.phase ≡ false → w.predecessor ≡ 0)
+      → (j : ℕ) (u : View) → get_elem? (set views id w) j ≡ some u → is_busy false u.phase ≡ false → u.predecessor ≡ 0
+  nameless_set none j u e free = ⊎_elim
+      (λ (t : (j ≡ id) × (w ≡ u)). ap (λ (x : View). x.predecessor) (sym t.1) ∙ none (ap (λ (x : View). is_busy false x.phase) t.1 ∙ free))
+      (λ (t : (j ≢ id) × (get_elem? views j ≡ some u)). core.nameless j u t.1 free)
+      (at_set views id j w u e)
+
+  -- names and grants, where a step leaves all words at lines and its seat's names
+  pub same_grants : (words' : List ℕ) (v : View) → get_elem? views id ≡ some v
+      → ((k : ℕ) → slice_index words' (line k) ≡ slice_index words (line k))
+      → w.number ≡ v.number → w.predecessor ≡ v.predecessor
+      → (w.phase ≡ Queued → v.phase ≡ Queued) → is_busy false w.phase ≡ is_busy false v.phase
+      → (v.phase ≡ Leaving → own_name v ≡ core.named → w.phase ≡ Leaving)
+      → (w.phase ≡ Holding → w.predecessor ≢ 0 → w.owes ≡ true) → HasGrants n words' seats (set views id w)
+  same_grants words' v at same number predecessor queued busy leaves owes = record {
+    named = core.named;
+    chained = chained_stays core.named words words' seats views (set views id w) core.chained (same 0)
+        (λ _ j u _ e. was_set views id v w at number predecessor queued j u e);
+    given = λ ne. same core.named ∙ core.given ne;
+    kept = λ name some_name within apart. same name ∙ core.kept name some_name within apart;
+    leaver = λ ne. leaver_stays views id v w core.named at number leaves (core.leaver ne);
+    nameless = nameless_set (λ free. predecessor ∙ core.nameless id v at (sym busy ∙ free));
+    owing = owing_set owes;
+  }
+
+  -- the same, where its pass stands as it stood
+  pub calm_grants : (words' : List ℕ) (v : View) → get_elem? views id ≡ some v
+      → ((k : ℕ) → slice_index words' (line k) ≡ slice_index words (line k))
+      → w.number ≡ v.number → w.predecessor ≡ v.predecessor → w.phase ≡ v.phase → w.owes ≡ v.owes
+      → HasGrants n words' seats (set views id w)
+  calm_grants words' v at same number predecessor phase owes =
+      same_grants words' v at same number predecessor (λ e. sym phase ∙ e) (ap (is_busy false) phase) (λ l _. phase ∙ l)
+      (λ h some_name. owes ∙ core.owing id v at (sym phase ∙ h) (λ z. some_name (predecessor ∙ z)))
 
 module _ (n : ℕ) (tag : Tag) (words seats : List ℕ) (views : List View) (q : IsQueued hemlock_discipline n tag words seats views) where
   -- the name of a pass is at most n

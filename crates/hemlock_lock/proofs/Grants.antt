@@ -12,7 +12,7 @@ use Rattle.lock_rules.specs.declared.view.View.{View}
 use Rattle.lock_tables.specs.Laws.{number_at}
 use Rattle.lock_tables.specs.Points.{IsAt}
 use Rattle.lock_tables.specs.Queue.{IsIn, IsHead}
-use Rattle.lock_tables.specs.Rule.{is_busy, IsQueued}
+use Rattle.lock_tables.specs.Rule.{is_busy, is_holder, IsQueued}
 use Rattle.lock_tables.proofs.Lists.{number_is, mapped, mapped_at, at_below, there, no_true}
 use Rattle.lock_tables.proofs.Queues.{lives, one_seat_of, not_in}
 use Rattle.hemlock_lock.specs.Grants.{IsGranting, IsCleared, LeaveByGrants}
@@ -25,9 +25,15 @@ module _ (n : ℕ) (tag : Tag) (words seats : List ℕ) (views : List View) (q :
   queue : queue_of words views ≡ map (number_at views) seats
   queue = queue_is n tag words seats views q
 
+  -- the pass at a place of the queue is that of the seat there
+  placed_at : (i j : ℕ) (v : View) → get_elem? seats i ≡ some j → get_elem? views j ≡ some v
+      → slice_get (queue_of words views) i ≡ Some v.number
+  placed_at i j v e at = ap (λ (l : List ℕ). slice_get l i) queue ∙ mapped_at (number_at views) seats i j e
+      ∙ ap Some (number_is views j v at)
+
   -- the seat at the first place has the head
   head_at : (j : ℕ) (v : View) → get_elem? seats 0 ≡ some j → get_elem? views j ≡ some v → IsHead v.number (queue_of words views)
-  head_at j v e at = ap (λ (l : List ℕ). slice_get l 0) queue ∙ mapped_at (number_at views) seats 0 j e ∙ ap Some (number_is views j v at)
+  head_at = placed_at 0
 
   -- and the other way round
   at_head : (j : ℕ) (v : View) → IsAt views j v → IsHead v.number (queue_of words views) → get_elem? seats 0 ≡ some j
@@ -89,4 +95,7 @@ module _ (n : ℕ) (tag : Tag) (words seats : List ℕ) (views : List View) (q :
         (subst (IsIn v.number) queue e);
     leaves = λ j v at leaves. dite (ℕ_discrete (own_name v) q.core.named) (λ e. inl (granting j v at leaves e))
         (λ ne. inr (cleared j v at leaves ne));
+    followed = λ j v at held set.
+        let t = there seats 1 ((q.each_seat j v at.at).followed (ap (is_holder false) held) set) in
+        let p = q.each_place 1 t.0 t.1 in (p.view.number, placed_at 1 t.0 p.view t.1 p.at);
   }

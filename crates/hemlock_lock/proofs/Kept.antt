@@ -1,6 +1,6 @@
 -- Each kind of step of a Hemlock keeps the rule.
-use Rattle.std.proofs.Common.{◌≡◌, ◌≢◌, ℕ, zero, suc, ◌+◌, ◌<◌, Bool, true, false, not, ◌==◌, eq-eqb, refl, ap, sym, ◌∙◌, subst, ⊎_elim}
-use Rattle.std.proofs.Common.{arith, Option, Some, length-append}
+use Rattle.std.proofs.Common.{◌≡◌, ◌≢◌, ℕ, zero, suc, ◌+◌, ◌<◌, Bool, true, false, not, ◌==◌, eq-eqb, refl, ap, sym, ◌∙◌, subst, inl, inr}
+use Rattle.std.proofs.Common.{⊎_elim, arith, Option, Some, length-append}
 use Rattle.std.proofs.Common.{List, [], ◌∷◌, ◌++◌, length, set, slice_index}
 use mathlib.Core.Option.{some, some-injective, some-ne-none}
 use mathlib.Core.Logic.{dite}
@@ -9,27 +9,29 @@ use prog.Atomic.{either}
 use lib.ListN.{get_elem?}
 use Rattle.atomic_table.specs.Table.{State, Me, Act, keeps, gives, Allows, Valid, stepped, carried_after}
 use Rattle.atomic_table.proofs.Lists.{at_set, exchanged}
+use Rattle.lock_rules.specs.Rows.{line, waiting}
 use Rattle.lock_rules.specs.Tag.{Tag}
-use Rattle.lock_rules.specs.Views.{IsPlain, answer_of}
+use Rattle.lock_rules.specs.Views.{IsPlain, is_counted, answer_of}
 use Rattle.lock_rules.specs.declared.step.Answer.TheVariants.{No, Yes}
 use Rattle.lock_rules.specs.declared.view.Phase.TheVariants.{Idle, Queued, Holding, Leaving}
 use Rattle.lock_rules.specs.declared.view.View.{View}
+use Rattle.lock_rules.specs.declared.view.Waiters.{Waiters}
 use Rattle.lock_tables.specs.Happened.{MayRest, missed_view, tested_view}
-use Rattle.lock_tables.specs.Rule.{is_busy, is_holder, IsQueued, IsLock}
+use Rattle.lock_tables.specs.Rule.{is_busy, is_holder, is_leaving, IsQueued, IsLock}
 use Rattle.lock_tables.proofs.Lists.{set_at, at_end, at_below, head_cut, there, no_true, wrote_here, wrote_else}
-use Rattle.lock_tables.proofs.Queues.{IsLike, no_place, wrong_phase, one_seat_of}
+use Rattle.lock_tables.proofs.Queues.{like, no_place, wrong_phase, one_seat_of}
 use Rattle.lock_tables.proofs.Steps.{stays, loads, enters, enters_and_takes, takes_head, leaves}
 use Rattle.hemlock_lock.specs.Kinds.{own_name, queued_view, entered_view, granted_view, cleared_view, followed_view, left_view}
 use Rattle.hemlock_lock.specs.Kinds.{granting_view, done_view, others_wait}
 use Rattle.hemlock_lock.specs.Kinds.{Swapped, Polled, Cleared, Tested, Exchanged, Granted, Looked}
 use Rattle.hemlock_lock.specs.Rule.{tail, grant, HasGrants, hemlock_discipline}
-use Rattle.hemlock_lock.proofs.Chains.{no_seats, chained_stays, is_new, is_old, was_set, leaver_stays}
+use Rattle.hemlock_lock.proofs.Chains.{no_seats, is_new, is_old, leaver_stays, owing_set, nameless_set, same_grants, calm_grants}
 use Rattle.hemlock_lock.proofs.Chains.{name_within, busy_ungranted, last_seat, none_queued}
 use Rattle.hemlock_lock.proofs.Queue.{disciplined}
 
-like : (v w : View) → w.number ≡ v.number → w.from ≡ v.from → w.to ≡ v.to → w.joined ≡ v.joined → w.spent ≡ v.spent
-    → w.tag.tag ≡ v.tag.tag → w.count ≡ v.count → IsLike v w
-like v w a b c d e f g = record { number = a; from = b; to = c; joined = d; spent = e; tag = f; count = g }
+-- the words at lines aren't the one that counts waiters
+apart : (k : ℕ) → line k ≢ waiting
+apart k e = omega arith
 
 -- the word of a grant isn't `tail`, nor that of another's grant
 not_tail : (name : ℕ) → name ≢ 0 → grant name ≢ tail
@@ -55,48 +57,17 @@ other_phase v e f = let no : Idle ≡ Leaving = sym e ∙ f in absurd cc
 queued_stays : (v : View) → v.phase ≡ Queued → ¬ (v.phase ≡ Leaving)
 queued_stays v e f = let no : Queued ≡ Leaving = sym e ∙ f in absurd cc
 
-module _ {V : Type 0} (fit : V → Type 0) (tag_of : V → Tag) (parked : V → Bool) (n : ℕ) (tag : Tag) where
+module _ {V : Type 0} (fit : V → Type 0) (tag_of : V → Tag) (parked : V → Bool) (ch : Waiters) (n : ℕ) (tag : Tag) where
   abbrev pub Rule : State (Option V) View → Type 0
-  Rule = IsLock hemlock_discipline fit tag_of parked n tag
+  Rule = IsLock hemlock_discipline fit tag_of parked ch n tag
 
   abbrev Q : List ℕ → List ℕ → List View → Type 0
   Q = IsQueued hemlock_discipline n tag
 
-  -- what holders owe, where the seat that stepped owes as it should
-  owing_set : (words seats : List ℕ) (views : List View) (id : ℕ) (w : View) (q : Q words seats views)
-      → (w.phase ≡ Holding → w.predecessor ≢ 0 → w.owes ≡ true)
-      → (j : ℕ) (u : View) → get_elem? (set views id w) j ≡ some u → u.phase ≡ Holding → u.predecessor ≢ 0 → u.owes ≡ true
-  owing_set words seats views id w q owes j u e held some_name = ⊎_elim
-      (λ (t : (j ≡ id) × (w ≡ u)). ap (λ (x : View). x.owes) (sym t.1)
-      ∙ owes (ap (λ (x : View). x.phase) t.1 ∙ held) (λ z. some_name (ap (λ (x : View). x.predecessor) (sym t.1) ∙ z)))
-      (λ (t : (j ≢ id) × (get_elem? views j ≡ some u)). q.core.owing j u t.1 held some_name)
-      (at_set views id j w u e)
-
-  -- and who names none
-  nameless_set : (words seats : List ℕ) (views : List View) (id : ℕ) (w : View) (q : Q words seats views)
-      → (is_busy false w.phase ≡ false → w.predecessor ≡ 0)
-      → (j : ℕ) (u : View) → get_elem? (set views id w) j ≡ some u → is_busy false u.phase ≡ false → u.predecessor ≡ 0
-  nameless_set words seats views id w q none j u e free = ⊎_elim
-      (λ (t : (j ≡ id) × (w ≡ u)). ap (λ (x : View). x.predecessor) (sym t.1) ∙ none (ap (λ (x : View). is_busy false x.phase) t.1 ∙ free))
-      (λ (t : (j ≢ id) × (get_elem? views j ≡ some u)). q.core.nameless j u t.1 free)
-      (at_set views id j w u e)
-
-  -- names and grants, where a step leaves all words and its seat's names
-  same_grants : (words seats : List ℕ) (views : List View) (id : ℕ) (v w : View) (q : Q words seats views) → get_elem? views id ≡ some v
-      → w.number ≡ v.number → w.predecessor ≡ v.predecessor
-      → (w.phase ≡ Queued → v.phase ≡ Queued) → is_busy false w.phase ≡ is_busy false v.phase
-      → (v.phase ≡ Leaving → own_name v ≡ q.core.named → w.phase ≡ Leaving)
-      → (w.phase ≡ Holding → w.predecessor ≢ 0 → w.owes ≡ true) → HasGrants n words seats (set views id w)
-  same_grants words seats views id v w q at number predecessor queued busy leaves owes = record {
-    named = q.core.named;
-    chained = chained_stays q.core.named words words seats views (set views id w) q.core.chained refl
-        (λ _ j u _ e. was_set views id v w at number predecessor queued j u e);
-    given = q.core.given;
-    kept = q.core.kept;
-    leaver = λ ne. leaver_stays views id v w q.core.named at number leaves (q.core.leaver ne);
-    nameless = nameless_set words seats views id w q (λ free. predecessor ∙ q.core.nameless id v at (sym busy ∙ free));
-    owing = owing_set words seats views id w q owes;
-  }
+  -- names and grants, where a step leaves all words, its seat's names, and where its pass stands
+  calm : (s : State (Option V) View) (r : Rule s) (id : ℕ) (v w : View) → get_elem? s.views id ≡ some v → w.number ≡ v.number
+      → w.predecessor ≡ v.predecessor → w.phase ≡ v.phase → w.owes ≡ v.owes → HasGrants n s.words r.seats (set s.views id w)
+  calm s r id v w at = calm_grants n s.words r.seats s.views id w r.queued.core s.words v at (λ _. refl)
 
   -- a seat that is new in the queue is behind all others
   entered_grants : (words seats : List ℕ) (views : List View) (id : ℕ) (v : View) (q : Q words seats views) → get_elem? views id ≡ some v
@@ -142,8 +113,8 @@ module _ {V : Type 0} (fit : V → Type 0) (tag_of : V → Tag) (parked : V → 
         kept = λ name some_name within apart. wrote_else words tail (grant name) (own_name v) (not_tail name (λ z. omega arith))
             ∙ q.core.kept name some_name within apart;
         leaver = λ z. leaver_stays views id v w q.core.named at refl (λ l _. absurd (other_phase v idle l)) (q.core.leaver z);
-        nameless = nameless_set words seats views id w q (λ busy. absurd (no_true busy));
-        owing = owing_set words seats views id w q (λ h _. absurd (queued_not_held h));
+        nameless = nameless_set n words seats views id w q.core (λ busy. absurd (no_true busy));
+        owing = owing_set n words seats views id w q.core (λ h _. absurd (queued_not_held h));
       }
 
   -- a seat that found the queue empty is alone
@@ -170,33 +141,35 @@ module _ {V : Type 0} (fit : V → Type 0) (tag_of : V → Tag) (parked : V → 
         kept = λ name some_name within _. wrote_else words tail (grant name) (own_name v) (not_tail name (λ z. omega arith))
             ∙ q.core.kept name some_name within (λ e. omega arith);
         leaver = λ z. absurd (z refl);
-        nameless = nameless_set words seats views id w q (λ busy. absurd (no_true busy));
-        owing = owing_set words seats views id w q (λ _ z. absurd (z refl));
+        nameless = nameless_set n words seats views id w q.core (λ busy. absurd (no_true busy));
+        owing = owing_set n words seats views id w q.core (λ _ z. absurd (z refl));
       }
 
   swaps_own : (slots id : ℕ) (me : Me (Option V) View) → me.0.phase ≡ Idle → me.0.spent ≡ false
+      → me.0.announced ≡ is_counted me.0.waiters
       → Allows Rule slots id me tail (λ _. own_name me.0) (Swapped fit tag_of parked me)
-  swaps_own slots id me idle live s r count at low = dite (ℕ_discrete (slice_index s.words tail) 0)
+  swaps_own slots id me idle live told s r count at low = dite (ℕ_discrete (slice_index s.words tail) 0)
       (λ e.
       let v : View = me.0 in
       let w : View = entered_view v in
       let none = none_queued n tag s.words r.seats s.views r.queued e in
-      let k = enters_and_takes fit tag_of parked hemlock_discipline disciplined n tag tail (own_name v) id me w s r at live
-      (like v w refl refl refl refl refl refl refl) idle (no_seats r.seats none)
+      let k = enters_and_takes fit tag_of parked hemlock_discipline disciplined ch n tag tail (own_name v) id me w s r (apart 0) at live
+      (like v w refl refl refl refl refl refl refl refl) refl idle (no_seats r.seats none)
       refl (λ x. absurd (cc)) refl (alone_grants s.words r.seats s.views id v r.queued at idle none) in
       (w, k.0, k.1, k.2, (λ _. k.3, λ ne. absurd (ne e))))
       (λ ne.
       let v : View = me.0 in
       let w : View = queued_view v (slice_index s.words tail) in
-      let k = enters fit tag_of parked hemlock_discipline disciplined n tag tail (own_name v) id me w s r at live
-      (like v w refl refl refl refl refl refl refl) idle refl
+      let k = enters fit tag_of parked hemlock_discipline disciplined ch n tag tail (own_name v) id me w s r (apart 0) at live
+      (like v w refl refl refl refl refl refl refl refl) refl told idle refl
       (entered_grants s.words r.seats s.views id v r.queued at idle ne) in
       (w, keeps, k.0, k.1, (λ e. absurd (ne e), λ _. k.2)))
 
-  pub swaps : (slots id : ℕ) (me : Me (Option V) View) (own : ℕ) → me.0.phase ≡ Idle → me.0.spent ≡ false → own ≡ own_name me.0
+  pub swaps : (slots id : ℕ) (me : Me (Option V) View) (own : ℕ) → me.0.phase ≡ Idle → me.0.spent ≡ false
+      → me.0.announced ≡ is_counted me.0.waiters → own ≡ own_name me.0
       → Allows Rule slots id me tail (λ _. own) (Swapped fit tag_of parked me)
-  swaps slots id me own idle live is = subst (λ (x : ℕ). Allows Rule slots id me tail (λ _. x) (Swapped fit tag_of parked me)) (sym is)
-      (swaps_own slots id me idle live)
+  swaps slots id me own idle live told is = subst (λ (x : ℕ). Allows Rule slots id me tail (λ _. x) (Swapped fit tag_of parked me)) (sym is)
+      (swaps_own slots id me idle live told)
 
   -- where the grant of the predecessor is 1, the pass is the head
   granted_first : (words seats : List ℕ) (views : List View) (id : ℕ) (v : View) (q : Q words seats views) → get_elem? views id ≡ some v
@@ -222,20 +195,21 @@ module _ {V : Type 0} (fit : V → Type 0) (tag_of : V → Tag) (parked : V → 
       let q = r.queued in
       let p = (q.each_seat id v at).placed (ap (is_busy false) queued) in
       let held : ¬ (Holding ≡ Queued) = λ x. absurd cc in
-      let k = takes_head fit tag_of parked hemlock_discipline disciplined n tag (grant v.predecessor) id me w s r at live
-      (like v w refl refl refl refl refl refl refl) queued
+      let k = takes_head fit tag_of parked hemlock_discipline disciplined ch n tag (grant v.predecessor) id me w s r
+      (apart v.predecessor) at live
+      (like v w refl refl refl refl refl refl refl refl) refl queued
       (granted_first s.words r.seats s.views id v q at e p.0 p.1) refl (λ x. absurd (cc)) refl
-      (same_grants s.words r.seats s.views id v w q at refl refl (λ x. absurd (held x)) (sym (ap (is_busy false) queued))
-      (λ l _. absurd (queued_stays v queued l)) (λ _ _. refl)) in
+      (same_grants n s.words r.seats s.views id w q.core s.words v at (λ _. refl) refl refl (λ x. absurd (held x))
+      (sym (ap (is_busy false) queued)) (λ l _. absurd (queued_stays v queued l)) (λ _ _. refl)) in
       (w, k.0, k.1, k.2, (λ _. k.3, λ ne. absurd (ne e))))
       (λ ne.
       let v : View = me.0 in
       let w : View = missed_view v in
       let idle = wrong_phase (is_holder false) v Queued queued refl in
-      let k = loads fit tag_of parked hemlock_discipline disciplined n tag (grant v.predecessor) id me w s r at live
-      (like v w refl refl refl refl refl refl refl) refl refl
-      (λ h _. absurd (idle h)) (λ h _. absurd (idle h)) (same_grants s.words r.seats s.views id v w r.queued at refl refl (λ x. x) refl
-      (λ l _. l) (r.queued.core.owing id v at)) in
+      let k = loads fit tag_of parked hemlock_discipline disciplined ch n tag (grant v.predecessor) id me w s r
+      (apart v.predecessor) at live
+      (like v w refl refl refl refl refl refl refl refl) refl (inl refl) refl refl
+      (λ h _. absurd (idle h)) (λ h _. absurd (idle h)) (calm s r id v w at refl refl refl refl) in
       (w, keeps, k.0, k.1, (λ e. absurd (ne e), λ _. k.2)))
 
   pub polls : (slots id word : ℕ) (me : Me (Option V) View) → me.0.phase ≡ Queued → me.0.spent ≡ false → word ≡ grant me.0.predecessor
@@ -281,8 +255,8 @@ module _ {V : Type 0} (fit : V → Type 0) (tag_of : V → Tag) (parked : V → 
             (λ ne. wrote_else words (grant v.predecessor) (grant name) 0 (not_other name v.predecessor ne)
             ∙ q.core.kept name some_one within (λ e. ne (e ∙ sym here)));
         leaver = λ z. absurd (z refl);
-        nameless = nameless_set words seats views id w q (λ _. refl);
-        owing = owing_set words seats views id w q (λ _ z. absurd (z refl));
+        nameless = nameless_set n words seats views id w q.core (λ _. refl);
+        owing = owing_set n words seats views id w q.core (λ _ z. absurd (z refl));
       }
 
   clears_named : (slots id : ℕ) (me : Me (Option V) View) → me.0.phase ≡ Holding → me.0.spent ≡ false → me.0.predecessor ≢ 0
@@ -291,8 +265,9 @@ module _ {V : Type 0} (fit : V → Type 0) (tag_of : V → Tag) (parked : V → 
       let v : View = me.0 in
       let w : View = cleared_view v in
       let st = r.queued.each_seat id v at in
-      let k = stays fit tag_of parked hemlock_discipline disciplined n tag (grant v.predecessor) 0 id me w s r at live
-      (like v w refl refl refl refl refl refl refl) refl refl st.tested st.followed
+      let k = stays fit tag_of parked hemlock_discipline disciplined ch n tag (grant v.predecessor) 0 id me w s r
+      (apart v.predecessor) at live
+      (like v w refl refl refl refl refl refl refl refl) refl (inl refl) refl refl (r.told.each id v at).tested st.followed
       (cleared_grants s.words r.seats s.views id v r.queued at held (st.first (ap (is_holder false) held)) some_name) in
       (w, keeps, k.0, k.1, (slice_index s.words (grant v.predecessor), k.2))
 
@@ -311,19 +286,19 @@ module _ {V : Type 0} (fit : V → Type 0) (tag_of : V → Tag) (parked : V → 
       (λ one. absurd (other (q.core.chained.last 0 id v one first at)))
       (λ ne. let b = at_below seats 0 id first in omega arith)
 
-  pub waits : (slots id : ℕ) (me : Me (Option V) View) → me.0.phase ≡ Holding → me.0.spent ≡ false
+  pub waits : (slots id : ℕ) (me : Me (Option V) View) → me.0.phase ≡ Holding → me.0.spent ≡ false → me.0.announced ≡ false
       → Allows Rule slots id me tail (λ x. x) (Tested fit tag_of parked me)
-  waits slots id me held live s r count at low =
+  waits slots id me held live silent s r count at low =
       let v : View = me.0 in
       let found : ℕ = slice_index s.words tail in
       let w : View = tested_view v (others_wait v found) in
       let st = r.queued.each_seat id v at in
       let other : answer_of (others_wait v found) ≡ Yes → found ≢ own_name v = λ noted e. (
       let no : No ≡ Yes = sym (ap (λ (b : Bool). answer_of (not b)) (eq-eqb found (own_name v) e)) ∙ noted in absurd cc) in
-      let k = loads fit tag_of parked hemlock_discipline disciplined n tag tail id me w s r at live
-      (like v w refl refl refl refl refl refl refl) refl refl
-      (λ h noted. others_behind s.words r.seats s.views id v r.queued at (st.first h) (other noted)) st.followed
-      (same_grants s.words r.seats s.views id v w r.queued at refl refl (λ x. x) refl (λ l _. l) (r.queued.core.owing id v at)) in
+      let k = loads fit tag_of parked hemlock_discipline disciplined ch n tag tail id me w s r (apart 0) at live
+      (like v w refl refl refl refl refl refl refl refl) refl (inl refl) refl refl
+      (λ h noted. (silent, inl (others_behind s.words r.seats s.views id v r.queued at (st.first h) (other noted)))) st.followed
+      (calm s r id v w at refl refl refl refl) in
       (w, keeps, k.0, k.1, k.2)
 
   -- where `tail` names the head, it is alone
@@ -363,8 +338,8 @@ module _ {V : Type 0} (fit : V → Type 0) (tag_of : V → Tag) (parked : V → 
         kept = λ name some_name within _. wrote_else words tail (grant name) 0 (not_tail name (λ z. omega arith))
             ∙ q.core.kept name some_name within (λ e. omega arith);
         leaver = λ z. absurd (z refl);
-        nameless = nameless_set words seats views id w q (λ _. clear);
-        owing = owing_set words seats views id w q (λ _ z. absurd (z clear));
+        nameless = nameless_set n words seats views id w q.core (λ _. clear);
+        owing = owing_set n words seats views id w q.core (λ _ z. absurd (z clear));
       }
 
   -- what a step of the seat may do where it makes the word `now`
@@ -378,10 +353,11 @@ module _ {V : Type 0} (fit : V → Type 0) (tag_of : V → Tag) (parked : V → 
   names_none words seats views id v q at held plain = dite (ℕ_discrete v.predecessor 0) (λ z. z)
       (λ ne. absurd (no_true (sym (q.core.owing id v at held ne) ∙ plain.paid)))
 
-  pub exchanges : (slots id : ℕ) (v : View) (x : V) (own : ℕ) (c : List (ℕ × Option V)) → v.phase ≡ Holding → IsPlain v → own ≡ own_name v
+  pub exchanges : (slots id : ℕ) (v : View) (x : V) (own : ℕ) (c : List (ℕ × Option V)) → v.phase ≡ Holding → IsPlain v
+      → v.announced ≡ false → own ≡ own_name v
       → c ≡ (0, Some x) ∷ [] → MayRest fit tag_of parked v x
       → Allows Rule slots id (v, c) tail (λ found. either (found == own) 0 found) (Exchanged fit tag_of parked (v, c))
-  exchanges slots id v x own c held plain is carries rests s r count at low =
+  exchanges slots id v x own c held plain silent is carries rests s r count at low =
       let live = plain.unspent in
       let clear = names_none s.words r.seats s.views id v r.queued at held plain in
       let st = r.queued.each_seat id v at in
@@ -390,16 +366,16 @@ module _ {V : Type 0} (fit : V → Type 0) (tag_of : V → Tag) (parked : V → 
       (λ e.
       let w : View = left_view v in
       let alone = head_alone s.words r.seats s.views id v r.queued at live first (e ∙ is) in
-      let k = leaves fit tag_of parked hemlock_discipline disciplined n tag tail 0 id v w x c [] s r at live
-      (like v w refl refl refl refl refl refl refl) (ap (is_holder false) held) alone refl refl carries rests
+      let k = leaves fit tag_of parked hemlock_discipline disciplined ch n tag tail 0 id v w x c [] s r (apart 0) at live
+      (like v w refl refl refl refl refl refl refl refl) refl silent (ap (is_holder false) held) alone refl refl carries rests
       (left_grants s.words r.seats s.views id v r.queued at first clear) in
       (w, gives, k.0, k.1, (λ _. k.2, λ ne. absurd (ne (e ∙ is)))))
       (λ ne.
       let w : View = followed_view v in
       let more = others_behind s.words r.seats s.views id v r.queued at first (λ e. ne (e ∙ sym is)) in
-      let k = loads fit tag_of parked hemlock_discipline disciplined n tag tail id (v, c) w s r at live
-      (like v w refl refl refl refl refl refl refl) refl refl st.tested (λ _ _. more)
-      (same_grants s.words r.seats s.views id v w r.queued at refl refl (λ y. y) refl (λ l _. l) (r.queued.core.owing id v at)) in
+      let k = loads fit tag_of parked hemlock_discipline disciplined ch n tag tail id (v, c) w s r (apart 0) at live
+      (like v w refl refl refl refl refl refl refl refl) refl (inl refl) refl refl (r.told.each id v at).tested (λ _ _. more)
+      (calm s r id v w at refl refl refl refl) in
       (w, keeps, k.0, k.1, (λ e. absurd (ne (e ∙ sym is)), λ _. k.2)))
 
   -- where the head leaves to the next
@@ -434,31 +410,34 @@ module _ {V : Type 0} (fit : V → Type 0) (tag_of : V → Tag) (parked : V → 
         kept = λ name some_name below apart. wrote_else words (grant (own_name v)) (grant name) 1 (not_other name (own_name v) apart)
             ∙ q.core.kept name some_name below (λ e. omega arith);
         leaver = λ _. record { seat = id; view = w; at = set_at views id v w at; leaves = refl; is = refl };
-        nameless = nameless_set words seats views id w q (λ _. clear);
-        owing = owing_set words seats views id w q (λ _ z. absurd (z clear));
+        nameless = nameless_set n words seats views id w q.core (λ _. clear);
+        owing = owing_set n words seats views id w q.core (λ _ z. absurd (z clear));
       }
 
-  grants_named : (slots id : ℕ) (v : View) (x : V) (c : List (ℕ × Option V)) → v.phase ≡ Holding → IsPlain v → v.followed ≡ true
+  grants_named : (slots id : ℕ) (v : View) (x : V) (c : List (ℕ × Option V)) → v.phase ≡ Holding → IsPlain v
+      → v.announced ≡ false → v.followed ≡ true
       → c ≡ (0, Some x) ∷ [] → MayRest fit tag_of parked v x
       → Allows Rule slots id (v, c) (grant (own_name v)) (λ _. 1) (λ _. Granted fit tag_of parked (v, c))
-  grants_named slots id v x c held plain followed carries rests s r count at low =
+  grants_named slots id v x c held plain silent followed carries rests s r count at low =
       let live = plain.unspent in
       let clear = names_none s.words r.seats s.views id v r.queued at held plain in
       let w : View = granting_view v in
       let st = r.queued.each_seat id v at in
       let holds = ap (is_holder false) held in
       let cut = head_cut r.seats id (st.first holds) in
-      let k = leaves fit tag_of parked hemlock_discipline disciplined n tag (grant (own_name v)) 1 id v w x c cut.0 s r at live
-      (like v w refl refl refl refl refl refl refl) holds cut.1 refl refl carries rests
+      let k = leaves fit tag_of parked hemlock_discipline disciplined ch n tag (grant (own_name v)) 1 id v w x c cut.0 s r
+      (apart (own_name v)) at live
+      (like v w refl refl refl refl refl refl refl refl) refl silent holds cut.1 refl refl carries rests
       (granting_grants s.words r.seats cut.0 s.views id v r.queued at live cut.1 (st.followed holds followed) clear) in
       (w, gives, k.0, k.1, (slice_index s.words (grant (own_name v)), k.2))
 
-  pub grants : (slots id word : ℕ) (v : View) (x : V) (c : List (ℕ × Option V)) → v.phase ≡ Holding → IsPlain v → v.followed ≡ true
+  pub grants : (slots id word : ℕ) (v : View) (x : V) (c : List (ℕ × Option V)) → v.phase ≡ Holding → IsPlain v
+      → v.announced ≡ false → v.followed ≡ true
       → c ≡ (0, Some x) ∷ [] → MayRest fit tag_of parked v x → word ≡ grant (own_name v)
       → Allows Rule slots id (v, c) word (λ _. 1) (λ _. Granted fit tag_of parked (v, c))
-  grants slots id word v x c held plain followed carries rests is =
+  grants slots id word v x c held plain silent followed carries rests is =
       subst (λ (y : ℕ). Allows Rule slots id (v, c) y (λ _. 1) (λ _. Granted fit tag_of parked (v, c))) (sym is)
-      (grants_named slots id v x c held plain followed carries rests)
+      (grants_named slots id v x c held plain silent followed carries rests)
 
   looks_named : (slots id : ℕ) (me : Me (Option V) View) → me.0.phase ≡ Leaving → me.0.spent ≡ false
       → Allows Rule slots id me (grant (own_name me.0)) (λ x. x) (Looked fit tag_of parked me)
@@ -470,21 +449,21 @@ module _ {V : Type 0} (fit : V → Type 0) (tag_of : V → Tag) (parked : V → 
       let gone : own_name v ≢ r.queued.core.named = λ x. (
       let one : slice_index s.words (grant (own_name v)) ≡ 1 = ap (λ (y : ℕ). slice_index s.words (grant y)) x
       ∙ r.queued.core.given (λ z. omega arith) in omega arith) in
-      let k = loads fit tag_of parked hemlock_discipline disciplined n tag (grant (own_name v)) id me w s r at live
-      (like v w refl refl refl refl refl refl refl)
+      let k = loads fit tag_of parked hemlock_discipline disciplined ch n tag (grant (own_name v)) id me w s r (apart (own_name v)) at live
+      (like v w refl refl refl refl refl refl refl refl) refl
+      (inr (refl, (r.told.each id v at).leaving (ap is_leaving leaving)))
       (sym (ap (is_busy false) leaving)) (sym (ap (is_holder false) leaving)) (λ h _. absurd (no_true (sym h)))
       (λ h _. absurd (no_true (sym h)))
-      (same_grants s.words r.seats s.views id v w r.queued at refl refl (λ x. absurd (idle x)) (sym (ap (is_busy false) leaving))
-      (λ _ x. absurd (gone x)) (λ h _. absurd (idle_not_held h))) in
+      (same_grants n s.words r.seats s.views id w r.queued.core s.words v at (λ _. refl) refl refl (λ x. absurd (idle x))
+      (sym (ap (is_busy false) leaving)) (λ _ x. absurd (gone x)) (λ h _. absurd (idle_not_held h))) in
       (w, keeps, k.0, k.1, (λ _. k.2, λ ne. absurd (ne e))))
       (λ ne.
       let v : View = me.0 in
       let w : View = missed_view v in
       let idle = wrong_phase (is_holder false) v Leaving leaving refl in
-      let k = loads fit tag_of parked hemlock_discipline disciplined n tag (grant (own_name v)) id me w s r at live
-      (like v w refl refl refl refl refl refl refl) refl refl
-      (λ h _. absurd (idle h)) (λ h _. absurd (idle h)) (same_grants s.words r.seats s.views id v w r.queued at refl refl (λ x. x) refl
-      (λ l _. l) (r.queued.core.owing id v at)) in
+      let k = loads fit tag_of parked hemlock_discipline disciplined ch n tag (grant (own_name v)) id me w s r (apart (own_name v)) at live
+      (like v w refl refl refl refl refl refl refl refl) refl (inl refl) refl refl
+      (λ h _. absurd (idle h)) (λ h _. absurd (idle h)) (calm s r id v w at refl refl refl refl) in
       (w, keeps, k.0, k.1, (λ e. absurd (ne e), λ _. k.2)))
 
   pub looks : (slots id word : ℕ) (me : Me (Option V) View) → me.0.phase ≡ Leaving → me.0.spent ≡ false → word ≡ grant (own_name me.0)

@@ -11,7 +11,7 @@ use native.Mathlib.Decide.{ℕ_discrete}
 use lib.ListN.{get_elem?}
 use borrow.Author.Tests.{eqb-true}
 use Rattle.atomic_table.proofs.Lists.{set_else, at_longer}
-use Rattle.lock_rules.specs.Rows.{row_of}
+use Rattle.lock_rules.specs.Rows.{line, row_of, waiting}
 use Rattle.lock_rules.specs.Tag.{Tag}
 use Rattle.lock_rules.specs.Views.{first_view, without_next, next_split, joined_view, spent_view}
 use Rattle.lock_rules.specs.declared.view.Algorithm.TheVariants.{Hemlock}
@@ -19,11 +19,11 @@ use Rattle.lock_rules.specs.declared.view.Phase.TheVariants.{Idle, Holding, Leav
 use Rattle.lock_rules.specs.declared.view.View.{View}
 use Rattle.lock_tables.specs.Laws.{IsDisciplined, number_at}
 use Rattle.lock_tables.specs.Rule.{is_busy, busy, IsQueued}
-use Rattle.lock_tables.proofs.Lists.{number_is, at_below, at_end, there}
+use Rattle.lock_tables.proofs.Lists.{number_is, at_below, at_end, there, wrote_else}
 use Rattle.lock_tables.proofs.Queues.{WasAt, lives, one_seat_of, after_split, after_join, placed_before_split, placed_before_join}
 use Rattle.hemlock_lock.specs.Kinds.{own_name}
 use Rattle.hemlock_lock.specs.Rule.{tail, grant, named_by, ungranted, passes_to, queue_of, IsLeaving, hemlock_discipline}
-use Rattle.hemlock_lock.proofs.Chains.{WasNamed, no_seats, chained_stays, leaver_stays, busy_ungranted, last_seat}
+use Rattle.hemlock_lock.proofs.Chains.{WasNamed, no_seats, chained_stays, leaver_stays, calm_grants, busy_ungranted, last_seat}
 
 -- the name that the view of an unspent seat has, where its pass has one seat
 named_by_is : (views : List View) (j : ℕ) (v : View) → get_elem? views j ≡ some v → v.spent ≡ false
@@ -199,7 +199,8 @@ words_are_0 m i h = get_or-replicate m i 0 0 h
 pub disciplined : IsDisciplined hemlock_discipline
 disciplined = record {
   opens_long = λ n. length-replicate (row_of Hemlock n) 0;
-  opens = λ n tag some_pass few. record {
+  opens_unannounced = λ n. words_are_0 (row_of Hemlock n) waiting (omega arith);
+  opens = λ ch n tag some_pass few. record {
     named = 0;
     chained = record {
       none_last = λ _. words_are_0 (row_of Hemlock n) tail (omega arith);
@@ -213,12 +214,15 @@ disciplined = record {
     kept = λ name _ within _. words_are_0 (row_of Hemlock n) (grant name) (omega arith);
     leaver = λ ne. absurd (ne refl);
     nameless = λ j v at _. ⊎_elim (λ (t : get_elem? [] j ≡ some v). absurd (some-ne-none v (sym t)))
-        (λ (t : (j ≡ 0) × (first_view Hemlock n tag ≡ v)). ap (λ (x : View). x.predecessor) (sym t.1))
-        (at_end [] (first_view Hemlock n tag) v j at);
+        (λ (t : (j ≡ 0) × (first_view Hemlock ch n tag ≡ v)). ap (λ (x : View). x.predecessor) (sym t.1))
+        (at_end [] (first_view Hemlock ch n tag) v j at);
     owing = λ j v at _ some_name. ⊎_elim (λ (t : get_elem? [] j ≡ some v). absurd (some-ne-none v (sym t)))
-        (λ (t : (j ≡ 0) × (first_view Hemlock n tag ≡ v)). absurd (some_name (ap (λ (x : View). x.predecessor) (sym t.1))))
-        (at_end [] (first_view Hemlock n tag) v j at);
+        (λ (t : (j ≡ 0) × (first_view Hemlock ch n tag ≡ v)). absurd (some_name (ap (λ (x : View). x.predecessor) (sym t.1))))
+        (at_end [] (first_view Hemlock ch n tag) v j at);
   };
+  notes = λ n words seats views x id v w at noted core. calm_grants n words seats views id w core (set words waiting x) v at
+      (λ k. wrote_else words waiting (line k) x (λ e. omega arith)) (ap (λ (u : View). u.number) noted)
+      (ap (λ (u : View). u.predecessor) noted) (ap (λ (u : View). u.phase) noted) (ap (λ (u : View). u.owes) noted);
   splits = λ n tag words seats views id v q at live more. record {
     named = q.core.named;
     chained = chained_stays q.core.named words words seats views (set views id (without_next v) ++ next_split v ∷ []) q.core.chained refl

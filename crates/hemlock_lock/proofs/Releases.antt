@@ -1,4 +1,4 @@
--- What a release did, from its steps.
+-- What a release and `waiter` did, from their steps.
 use Rattle.std.proofs.Common.{◌≡◌, ◌≢◌, ℕ, Bool, [], ap, sym, ◌∙◌, subst}
 use Rattle.atomic_table.specs.Table.{rest}
 use Rattle.atomic_table.specs.declared.badge.Badge.{Badge}
@@ -7,11 +7,18 @@ use Rattle.lock_rules.specs.Tag.{Tag}
 use Rattle.lock_rules.specs.Tokens.{view_of}
 use Rattle.lock_rules.specs.declared.held.Held.{Held}
 use Rattle.lock_rules.specs.declared.view.View.{View}
+use Rattle.lock_rules.specs.declared.view.Waiters.{Waiters}
 use Rattle.lock_tables.specs.Happened.{Seated}
-use Rattle.hemlock_lock.specs.Calls.{with_value, HasLeft, HasGranted, HasDone, HasWaited}
+use Rattle.hemlock_lock.specs.Calls.{with_value, Asks, HasAsked, HasLeft, HasGranted, HasDone, HasWaited}
 use Rattle.hemlock_lock.specs.Kinds.{own_name, followed_view, granting_view, Left, Followed, Granted, Done, Uncleared}
 
 module _ {V : Type 0} (fit : V → Type 0) (tag_of : V → Tag) (parked : V → Bool) where
+  -- `waiter` of a lock that learns of waiters in this way
+  pub asked_is : (ch : Waiters) (before now : Held V) (answer : Bool) → (held_view before).waiters ≡ ch
+      → Asks fit tag_of parked ch before now answer → HasAsked fit tag_of parked before now answer
+  asked_is ch before now answer chosen did =
+      subst (λ (x : Waiters). Asks fit tag_of parked x before now answer) (sym chosen) did
+
   -- the seat that put the value back, behind the exchange that is done
   pub left_is : (held : Held V) (badge : Badge View) (found own : ℕ) (me me' : Seated V) → me ≡ with_value (held_view held) held.value
       → own ≡ own_name (held_view held) → found ≡ own
@@ -25,11 +32,12 @@ module _ {V : Type 0} (fit : V → Type 0) (tag_of : V → Tag) (parked : V → 
   pub granted_is : (held : Held V) (found own : ℕ) (me me' me'' : Seated V) → me ≡ with_value (held_view held) held.value
       → own ≡ own_name (held_view held) → found ≢ own
       → Followed fit tag_of parked me found me' → Granted fit tag_of parked me' me''
-      → HasGranted fit tag_of parked held × (me'' ≡ (granting_view (held_view held), []))
+      → HasGranted fit tag_of parked held × (me'' ≡ (granting_view (followed_view (held_view held)), []))
   granted_is held found own me me' me'' before name other step store =
       let after : me' ≡ with_value (followed_view (held_view held)) held.value = step.0
       ∙ ap (λ (m : Seated V). (followed_view m.0, m.1)) before in
-      let last : me'' ≡ (granting_view (held_view held), []) = store.1.0 ∙ ap (λ (m : Seated V). (granting_view m.0, rest m.1)) after in (
+      let last : me'' ≡ (granting_view (followed_view (held_view held)), []) =
+      store.1.0 ∙ ap (λ (m : Seated V). (granting_view m.0, rest m.1)) after in (
         record {
           found = found;
           other = λ e. other (e ∙ sym name);

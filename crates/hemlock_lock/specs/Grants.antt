@@ -1,9 +1,10 @@
 -- What the rule of a Hemlock says of the passes that leave.
-use Rattle.std.specs.Prelude.{◌≡◌, ◌≢◌, ◌⊎◌, ℕ, Bool, List, [], slice_index, Option}
+use Rattle.std.specs.Prelude.{◌≡◌, ◌≢◌, ◌⊎◌, ℕ, Bool, true, List, [], slice_index, slice_get, Option, Some}
 use Rattle.atomic_table.specs.Table.{State}
 use Rattle.lock_rules.specs.Tag.{Tag}
-use Rattle.lock_rules.specs.declared.view.Phase.TheVariants.{Leaving}
+use Rattle.lock_rules.specs.declared.view.Phase.TheVariants.{Holding, Leaving}
 use Rattle.lock_rules.specs.declared.view.View.{View}
+use Rattle.lock_rules.specs.declared.view.Waiters.{Waiters}
 use Rattle.lock_tables.specs.Points.{IsAt}
 use Rattle.lock_tables.specs.Queue.{IsIn, IsHead}
 use Rattle.lock_tables.specs.Rule.{IsLock}
@@ -32,8 +33,11 @@ module _ (words : List ℕ) (views : List View) where
     -- a pass that is leaving isn't in the queue, and grants the lock to the head or is cleared
     pub out : (j : ℕ) (v : View) → IsAt views j v → v.phase ≡ Leaving → ¬ IsIn v.number (queue_of words views)
     pub leaves : (j : ℕ) (v : View) → IsAt views j v → v.phase ≡ Leaving → IsGranting v ⊎ IsCleared v
+    -- a holder whose exchange of `tail` found another has a pass behind it
+    pub followed : (j : ℕ) (v : View) → IsAt views j v → v.phase ≡ Holding → v.followed ≡ true
+        → (p : ℕ) × (slice_get (queue_of words views) 1 ≡ Some p)
 
 module _ {V : Type 0} (fit : V → Type 0) (tag_of : V → Tag) (parked : V → Bool) where
   abbrev pub RuleHasGrants : Type 0
-  RuleHasGrants = (n : ℕ) (tag : Tag) (s : State (Option V) View) → IsLock hemlock_discipline fit tag_of parked n tag s
+  RuleHasGrants = (c : Waiters) (n : ℕ) (tag : Tag) (s : State (Option V) View) → IsLock hemlock_discipline fit tag_of parked c n tag s
       → LeaveByGrants s.words s.views

@@ -16,11 +16,18 @@ own_name v = v.number + 1
 
 -- the pass is queued behind the one that it found
 abbrev pub queued_view : View → ℕ → View
-queued_view v found = record v { phase = Queued; entries = v.entries + 1; predecessor = found }
+queued_view v found = record v { phase = Queued; steps = v.steps + 1; entries = v.entries + 1; predecessor = found }
 
 -- the pass found none, and holds
 abbrev pub entered_view : View → View
-entered_view v = record v { phase = Holding; entries = v.entries + 1; predecessor = 0; tested = Open; followed = false }
+entered_view v = record v {
+  phase = Holding;
+  steps = v.steps + 1;
+  entries = v.entries + 1;
+  predecessor = 0;
+  tested = Open;
+  followed = false;
+}
 
 -- a load that showed the grant, by which the pass takes. It still names the one that it found, and owes it that the grant is cleared: such
 -- a view is not plain, so no token of a holder has it
@@ -29,23 +36,23 @@ granted_view v = record (took_view v) { owes = true }
 
 -- the pass no longer names the one that it found
 abbrev pub cleared_view : View → View
-cleared_view v = record v { predecessor = 0; owes = false }
+cleared_view v = record v { steps = v.steps + 1; predecessor = 0; owes = false }
 
 -- an exchange of `tail` found another
 abbrev pub followed_view : View → View
-followed_view v = record v { followed = true }
+followed_view v = record v { steps = v.steps + 1; followed = true }
 
 -- the pass left, and is idle
 abbrev pub left_view : View → View
-left_view v = record v { phase = Idle; followed = false }
+left_view v = record v { phase = Idle; steps = v.steps + 1; followed = false }
 
 -- the pass left, and its grant stands
 abbrev pub granting_view : View → View
-granting_view v = record v { phase = Leaving; followed = false }
+granting_view v = record v { phase = Leaving; steps = v.steps + 1; followed = false }
 
 -- a load that showed that the grant was cleared
 abbrev pub done_view : View → View
-done_view v = record v { phase = Idle; loads = v.loads + 1; ready = true }
+done_view v = record v { phase = Idle; steps = v.steps + 1; loads = v.loads + 1; ready = true }
 
 -- `waiter` says yes where `tail` names another
 abbrev pub others_wait : View → ℕ → Bool

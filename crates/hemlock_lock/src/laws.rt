@@ -15,7 +15,8 @@ impl Disciplined for HemlockWords {
 }
 
 /// A pass that is leaving isn't in the queue: either its grant is 1 and exactly the head names it, or its grant is 0 and no pass names
-/// it. Every other pass has the grant 0, and `tail` is 0 exactly where the queue is empty.
+/// it. Every other pass has the grant 0, and `tail` is 0 exactly where the queue is empty. A holder whose exchange of `tail` found another
+/// has a pass behind it.
 pub fn rule_has_grants<V: Cargo>()
     ensures { RuleHasGrants V.fit V.tag V.parked }
 {}

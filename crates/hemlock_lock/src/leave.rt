@@ -2,7 +2,7 @@
 ghost use Rattle.std.specs.Prelude.{◌≡◌, []};
 ghost use Rattle.lock_rules.specs.Rows.{IsRowOf};
 ghost use Rattle.lock_rules.specs.Tokens.{IsSeated, view_of, badge_waiting};
-ghost use Rattle.lock_rules.specs.Views.{IsPlain, mark_of};
+ghost use Rattle.lock_rules.specs.Views.{IsPlain, IsTold, mark_of};
 ghost use Rattle.lock_rules.specs.declared.view.Phase.TheVariants.{Leaving};
 
 use atomic_table::{Badge, Seat};
@@ -28,6 +28,7 @@ impl Leave {
     pub(crate) fn of<V>(seat: Seat<Option<V>, View>, mark: u64) -> Leave
         requires leaving { seat.me.0.phase ≡ Leaving }
         requires plain { IsPlain seat.me.0 }
+        requires told { IsTold seat.me.0 }
         requires row { IsRowOf seat.me.0 seat.table_id }
         requires empty { seat.me.1 ≡ [] }
         requires marked { mark ≡ mark_of seat.me.0 }

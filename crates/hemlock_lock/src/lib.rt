@@ -15,8 +15,12 @@
 //! ```
 //!
 //! The waiter test, by which a holder learns whether another pass is behind it, is that of Chehab and others, "CLoF: A Compositional
-//! Lock Framework for Multi-level NUMA Systems", SOSP 2021: `waiter`, `steps::load_tail`. The value is taken out of its slot behind the
-//! last step that enters, and put back before the first step that leaves. Each step is a sequentially consistent operation on one word.
+//! Lock Framework for Multi-level NUMA Systems", SOSP 2021: `waiter`, `steps::load_tail`. A lock made with `Waiters::Count`
+//! learns of waiters by a counter in place of `tail`: `begin` adds 1 to it before its other steps (`steps::announce`), the call that takes
+//! subtracts 1 as its last step (`steps::withdraw`), and `waiter` loads it (`steps::count_waiting`).
+//!
+//! The value is taken out of its slot behind the last step that enters, and put back before the first step that leaves. Each step is a
+//! sequentially consistent operation on one word.
 //!
 //! `tail` and the grants stand on lines of their own in one `atomic_table`. `specs/Rule` says what holds of them, `specs/Kinds` has the
 //! kinds of step, `specs/Calls` what each call did, and `specs/Grants` what follows of the passes that leave.

@@ -4,12 +4,13 @@ ghost use Rattle.crossbeam_utils.specs.Padded.{padded_value};
 ghost use Rattle.lock_rules.specs.Holders.{held_view, holder_of};
 ghost use Rattle.lock_rules.specs.Passes.{AreAll};
 ghost use Rattle.lock_rules.specs.Tokens.{view_of, badge_place, badge_waiting};
-ghost use Rattle.lock_rules.specs.Views.{IsPlain, lock_name, mark_of};
+ghost use Rattle.lock_rules.specs.Views.{IsPlain, is_counted, lock_name, mark_of};
 ghost use Rattle.lock_rules.specs.declared.view.Algorithm.TheVariants.{Hemlock as hemlock_algorithm};
 ghost use Rattle.lock_rules.specs.declared.view.Phase.TheVariants.{Idle, Queued, Holding, Leaving};
-ghost use Rattle.lock_tables.specs.Happened.{MayRest};
+ghost use Rattle.lock_tables.specs.Counting.{Counted, HasAnnounced, HasWithdrawn};
+ghost use Rattle.lock_tables.specs.Happened.{MayRest, announced_view, withdrawn_view};
 ghost use Rattle.lock_tables.specs.Seats.{IsOwn, IsSized, seat_as};
-ghost use Rattle.hemlock_lock.specs.Rule.{grant};
+ghost use Rattle.hemlock_lock.specs.Rule.{grant, hemlock_discipline};
 ghost use Rattle.hemlock_lock.specs.Kinds.{own_name, TookAtOnce, Entered, Took, Missed, Cleared, Tested, Left, Followed, Granted, Done};
 ghost use Rattle.hemlock_lock.specs.Kinds.{Uncleared};
 
@@ -21,17 +22,22 @@ use crate::laws::HemlockWords;
 use crate::leave::Leave;
 use atomic_table::Seat;
 use crossbeam_utils::CachePadded;
-use lock_rules::{Cargo, Held, Pass, Queue, Refused, View};
-use lock_tables::{LockTable, into_value, join_passes, new_table, put, split_passes, take};
+use lock_rules::{Cargo, Held, Pass, Queue, Refused, View, Waiters};
+use lock_tables::{
+    LockTable, announce, count_waiting, into_value, join_passes, new_table, put, split_passes,
+    take, withdraw,
+};
 use std::alloc::Global;
 
 /// The word `tail`, a grant for each pass, each on a line of its own, and the slot.
 #[derive(Drop)]
 pub(crate) struct Words<V: Cargo> {
     table: CachePadded<LockTable<V, HemlockWords>>,
+    pub(crate) waiters: Waiters,
     ghost sized: { IsSized hemlock_algorithm (padded_value table).shared.key.passes (padded_value table).shared.table_id },
     ghost used: { 0 < (padded_value table).shared.key.passes },
     ghost few: { (padded_value table).shared.key.passes < 2 ^ 32 },
+    ghost chosen: { (padded_value table).shared.key.waiters ≡ waiters },
 }
 
 const TAIL: usize = 16;
@@ -48,6 +54,7 @@ impl<V: Cargo> Words<V> {
     /// The words of a new lock with the value at home, and its passes.
     pub(crate) fn make(
         alloc: Global,
+        waiters: Waiters,
         passes: u32,
         value: V,
     ) -> Result<(Words<V>, Vec<Pass>), Refused<V>>
@@ -55,9 +62,10 @@ impl<V: Cargo> Words<V> {
         requires fit { V.fit value }
         requires unparked { V.parked value ≡ false }
         ensures count { IfOk result (λ m. (padded_value m.0.table).shared.key.passes ≡ passes) }
+        ensures waiters { IfOk result (λ m. (padded_value m.0.table).shared.key.waiters ≡ waiters) }
         ensures value { IfOk result (λ m. (padded_value m.0.table).shared.key.value.value ≡ value) }
         ensures passes { IfOk result (λ m. AreAll (λ p. badge_place p.badge)
-            (lock_name hemlock_algorithm (padded_value m.0.table).shared.table_id) (V.tag value) passes m.1.items) }
+            (lock_name hemlock_algorithm waiters (padded_value m.0.table).shared.table_id) (V.tag value) passes m.1.items) }
         ensures refused { IfErr result (λ r. r.value ≡ value) }
     {
         let Ok(room) = Vec::with_capacity(alloc, passes as usize) else {
@@ -66,21 +74,22 @@ impl<V: Cargo> Words<V> {
         let Ok(words) = vec![in alloc; 0; 16 * (passes as usize + 2)] else {
             return Err(Refused { value });
         };
-        let (table, seat) = new_table::<V, HemlockWords>(alloc, &words, passes, value)?;
+        let (table, seat) = new_table::<V, HemlockWords>(alloc, &words, waiters, passes, value)?;
         let list = split_passes(&table.shared, seat, passes, room);
         let table = CachePadded::new(table);
-        Ok((Words { table }, list))
+        Ok((Words { table, waiters }, list))
     }
 
     /// The value of a lock whose passes came back.
     pub(crate) fn close(self, passes: Vec<Pass>) -> V
-        requires all { AreAll (λ p. badge_place p.badge) (lock_name hemlock_algorithm (padded_value self.table).shared.table_id)
+        requires all { AreAll (λ p. badge_place p.badge) (lock_name hemlock_algorithm (padded_value self.table).shared.key.waiters
+            (padded_value self.table).shared.table_id)
             (V.tag (padded_value self.table).shared.key.value.value) (padded_value self.table).shared.key.passes passes.items }
         ensures fit { V.fit result }
         ensures tagged { V.tag result ≡ V.tag (padded_value self.table).shared.key.value.value }
         ensures unparked { V.parked result ≡ false }
     {
-        let Words { table } = self;
+        let Words { table, .. } = self;
         let table = table.into_inner();
         let seat = join_passes(&table.shared, passes);
         into_value(table, seat)
@@ -93,6 +102,8 @@ impl<V: Cargo> Words<V> {
         ensures table { result.0.table_id ≡ (padded_value self.now.table).shared.table_id }
         ensures seat { result.0.table_id ≡ pass.badge.table_id }
         ensures view { result.0.me ≡ (view_of pass.badge, []) }
+        ensures silent { result.0.me.0.announced ≡ false }
+        ensures chosen { result.0.me.0.waiters ≡ (padded_value self.now.table).shared.key.waiters }
         ensures number { result.1 ≡ result.0.me.0.number }
         ensures marked { result.1 ≡ mark_of result.0.me.0 }
         ensures plain { IsPlain result.0.me.0 }
@@ -108,6 +119,8 @@ impl<V: Cargo> Words<V> {
         ensures table { result.0.table_id ≡ (padded_value self.now.table).shared.table_id }
         ensures seat { result.0.table_id ≡ queue.badge.table_id }
         ensures view { result.0.me ≡ (view_of queue.badge, []) }
+        ensures told { result.0.me.0.announced ≡ is_counted result.0.me.0.waiters }
+        ensures chosen { result.0.me.0.waiters ≡ (padded_value self.now.table).shared.key.waiters }
         ensures number { result.1 ≡ result.0.me.0.number }
         ensures marked { result.1 ≡ mark_of result.0.me.0 }
         ensures named { result.2 ≡ result.0.me.0.predecessor }
@@ -151,6 +164,7 @@ impl<V: Cargo> Words<V> {
         ensures table { result.0.table_id ≡ (padded_value self.now.table).shared.table_id }
         ensures seat { result.0.table_id ≡ leave.badge.table_id }
         ensures view { result.0.me ≡ (view_of leave.badge, []) }
+        ensures silent { result.0.me.0.announced ≡ false }
         ensures number { result.1 ≡ result.0.me.0.number }
         ensures marked { result.1 ≡ mark_of result.0.me.0 }
         ensures within { result.1 < (padded_value self.now.table).shared.key.passes }
@@ -159,11 +173,53 @@ impl<V: Cargo> Words<V> {
         leave.into_parts()
     }
 
+    /// Announces the pass, before its other steps, where the lock counts its waiters.
+    pub(crate) fn announce(&self, seat: &mut Seat<Option<V>, View>)
+        requires table { seat.old.table_id ≡ (padded_value self.now.table).shared.table_id }
+        requires chosen { seat.old.me.0.waiters ≡ (padded_value self.now.table).shared.key.waiters }
+        requires idle { seat.old.me.0.phase ≡ Idle }
+        requires unspent { seat.old.me.0.spent ≡ false }
+        requires silent { seat.old.me.0.announced ≡ false }
+        ensures table { seat.new.table_id ≡ seat.old.table_id }
+        ensures plain { IsPlain seat.old.me.0 → IsPlain seat.new.me.0 }
+        ensures did { HasAnnounced hemlock_discipline V.fit V.tag V.parked seat.old.me.0.waiters seat.old.me seat.new.me }
+        ensures seat { seat.new.me ≡ (announced_view seat.old.me.0, seat.old.me.1) }
+    {
+        announce(&self.table.shared, self.waiters, seat);
+    }
+
+    /// Takes the announcement back, as the last step of a call that has taken.
+    pub(crate) fn withdraw(&self, seat: &mut Seat<Option<V>, View>)
+        requires table { seat.old.table_id ≡ (padded_value self.now.table).shared.table_id }
+        requires chosen { seat.old.me.0.waiters ≡ (padded_value self.now.table).shared.key.waiters }
+        requires holds { seat.old.me.0.phase ≡ Holding }
+        requires unspent { seat.old.me.0.spent ≡ false }
+        requires told { seat.old.me.0.announced ≡ is_counted seat.old.me.0.waiters }
+        ensures table { seat.new.table_id ≡ seat.old.table_id }
+        ensures did { HasWithdrawn hemlock_discipline V.fit V.tag V.parked seat.old.me.0.waiters seat.old.me seat.new.me }
+        ensures seat { seat.new.me ≡ (withdrawn_view seat.old.me.0, seat.old.me.1) }
+    {
+        withdraw(&self.table.shared, self.waiters, seat);
+    }
+
+    /// Loads how many passes are announced.
+    pub(crate) fn count_waiting(&self, seat: &mut Seat<Option<V>, View>) -> u64
+        requires table { seat.old.table_id ≡ (padded_value self.now.table).shared.table_id }
+        requires holds { seat.old.me.0.phase ≡ Holding }
+        requires unspent { seat.old.me.0.spent ≡ false }
+        requires silent { seat.old.me.0.announced ≡ false }
+        ensures table { seat.new.table_id ≡ seat.old.table_id }
+        ensures step { Counted hemlock_discipline V.fit V.tag V.parked seat.old.me result seat.new.me }
+    {
+        count_waiting(&self.table.shared, seat)
+    }
+
     /// Swaps the own name into `tail`, by which the pass enters the queue. Where the word was 0, the pass takes the slot.
     pub(crate) fn swap_tail(&self, seat: &mut Seat<Option<V>, View>, own: u64) -> u64
         requires table { seat.old.table_id ≡ (padded_value self.now.table).shared.table_id }
         requires idle { seat.old.me.0.phase ≡ Idle }
         requires unspent { seat.old.me.0.spent ≡ false }
+        requires announced { seat.old.me.0.announced ≡ is_counted seat.old.me.0.waiters }
         requires name { own ≡ own_name seat.old.me.0 }
         ensures table { seat.new.table_id ≡ seat.old.table_id }
         ensures plain { IsPlain seat.old.me.0 → result ≢ 0 → IsPlain seat.new.me.0 }
@@ -215,6 +271,7 @@ impl<V: Cargo> Words<V> {
         requires table { seat.old.table_id ≡ (padded_value self.now.table).shared.table_id }
         requires holds { seat.old.me.0.phase ≡ Holding }
         requires unspent { seat.old.me.0.spent ≡ false }
+        requires silent { seat.old.me.0.announced ≡ false }
         ensures table { seat.new.table_id ≡ seat.old.table_id }
         ensures step { Tested V.fit V.tag V.parked seat.old.me result seat.new.me }
     {
@@ -227,6 +284,7 @@ impl<V: Cargo> Words<V> {
         requires table { seat.old.table_id ≡ (padded_value self.now.table).shared.table_id }
         requires holds { seat.old.me.0.phase ≡ Holding }
         requires plain { IsPlain seat.old.me.0 }
+        requires silent { seat.old.me.0.announced ≡ false }
         requires name { own ≡ own_name seat.old.me.0 }
         requires home { (x : V) × (seat.old.me.1 ≡ (0, Some x) ∷ []) × MayRest V.fit V.tag V.parked seat.old.me.0 x }
         ensures table { seat.new.table_id ≡ seat.old.table_id }
@@ -244,6 +302,7 @@ impl<V: Cargo> Words<V> {
         requires table { seat.old.table_id ≡ (padded_value self.now.table).shared.table_id }
         requires holds { seat.old.me.0.phase ≡ Holding }
         requires plain { IsPlain seat.old.me.0 }
+        requires silent { seat.old.me.0.announced ≡ false }
         requires followed { seat.old.me.0.followed ≡ true }
         requires name { own ≡ own_name seat.old.me.0 }
         requires within { own ≤ (padded_value self.now.table).shared.key.passes }

@@ -1,10 +1,12 @@
 -- Who holds, and who is queued.
-use Rattle.std.proofs.Common.{◌≡◌, ℕ, Bool, true, List, [], ◌∷◌, refl, ap, sym, ◌∙◌, Option, Some, None}
+use Rattle.std.proofs.Common.{◌≡◌, ◌⊎◌, ℕ, Bool, true, List, ap, sym, ◌∙◌, inl, inr, ⊎_elim, Option, Some}
 use Rattle.atomic_table.specs.Table.{State}
 use Rattle.lock_rules.specs.Tag.{Tag}
+use Rattle.lock_rules.specs.Views.{is_counted}
 use Rattle.lock_rules.specs.declared.view.Phase.{Phase}
 use Rattle.lock_rules.specs.declared.view.View.{View}
-use Rattle.lock_tables.specs.Points.{IsBasic, IsHomeValue}
+use Rattle.lock_rules.specs.declared.view.Waiters.{Waiters}
+use Rattle.lock_tables.specs.Points.{IsAnnounced, IsBasic, IsHomeValue, IsPassIn}
 use Rattle.lock_tables.specs.Queue.{IsHead}
 use Rattle.level_laws.specs.Laws.{AtMostOneHolds, ContextsAreApart}
 use Rattle.clof_compose.specs.Contexts.{Context}
@@ -20,14 +22,19 @@ one_head queue p q a b = let e : Some p ≡ Some q = sym a ∙ b in cc
 
 module _ {V : Type 0} (fit : V → Type 0) (tag_of : V → Tag) (parked : V → Bool) (holds : Phase → Bool) where
   pub one_holds : AtMostOneHolds fit tag_of parked holds
-  one_holds n tag queue s p q rule first second = one_head queue p q (rule.holder_first p first) (rule.holder_first q second)
+  one_holds c n tag queue s p q rule first second = one_head queue p q (rule.holder_first p first) (rule.holder_first q second)
 
-  -- a parked value at home has somebody queued, holder or not
-  pub parked_is_waited_for : (n : ℕ) (tag : Tag) (queue : List ℕ) (s : State (Option V) View) (x : V)
-      → IsBasic fit tag_of parked holds n tag queue s → IsHomeValue s.homes x → parked x ≡ true → (p : ℕ) × IsHead p queue
-  parked_is_waited_for n tag [] s x rule home is =
-      rule.relied_on x home (λ p holder. let e : None ≡ Some p = rule.holder_first p holder in absurd (cc)) is
-  parked_is_waited_for n tag (p ∷ ps) s x rule home is = (p, refl)
+  -- a parked value at home has nobody who holds, and somebody who is queued or announced
+  pub parked_is_waited_for : (c : Waiters) (n : ℕ) (tag : Tag) (queue : List ℕ) (s : State (Option V) View) (x : V)
+      → IsBasic fit tag_of parked holds c n tag queue s → IsHomeValue s.homes x → parked x ≡ true
+      → ((p : ℕ) → ¬ IsPassIn holds s.views p)
+      × (((p : ℕ) × IsHead p queue) ⊎ ((is_counted c ≡ true) × ((p : ℕ) × IsAnnounced s.views p)))
+  parked_is_waited_for c n tag queue s x rule home is = (
+    rule.alone x home,
+    ⊎_elim (λ (queued : (p : ℕ) × IsHead p queue). inl queued)
+        (λ (told : (p : ℕ) × IsAnnounced s.views p). inr (rule.uncounted told.1.seat told.1.view told.1.at told.1.announced, told))
+        (rule.relied_on x home is),
+  )
 
 module _ {P Pass Held B : Type 0} (rest : Pass → Rest) (stand : Held → Stand (Root P)) (tag : B → Tag) (has : Context → Type 0)
     (high_level : ℕ) (t : Tag) where

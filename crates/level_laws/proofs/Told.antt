@@ -1,6 +1,5 @@
 -- Where the turn of a receipt stands.
-use Rattle.std.proofs.Common.{◌≡◌, ℕ, suc, List, [], ◌∷◌, ◌++◌, length, refl, ◌∙◌, sym, ap, Some, None}
-use Rattle.std.specs.Prelude.{slice_get}
+use Rattle.std.proofs.Common.{◌≡◌, ℕ, List, [], ◌∷◌, ◌++◌, refl, ◌∙◌, ap}
 use Rattle.keep_local.specs.ReceiptRule.{AreFirst}
 use Rattle.keep_local.specs.States.{all_tests}
 use Rattle.keep_local.specs.declared.turn.Turn.{Turn}

@@ -1,10 +1,12 @@
 -- What a composed lock promises, over the rules of its basic locks and the values at home in them.
-use Rattle.std.specs.Prelude.{◌≡◌, ℕ, Bool, true, List, Option, length, slice_get, Some}
+use Rattle.std.specs.Prelude.{◌≡◌, ◌⊎◌, ℕ, Bool, true, List, Option, length, slice_get, Some}
 use Rattle.atomic_table.specs.Table.{State}
 use Rattle.lock_rules.specs.Tag.{Tag}
+use Rattle.lock_rules.specs.Views.{is_counted}
 use Rattle.lock_rules.specs.declared.view.Phase.{Phase}
 use Rattle.lock_rules.specs.declared.view.View.{View}
-use Rattle.lock_tables.specs.Points.{IsBasic, IsHomeValue, IsPassIn}
+use Rattle.lock_rules.specs.declared.view.Waiters.{Waiters}
+use Rattle.lock_tables.specs.Points.{IsAnnounced, IsBasic, IsHomeValue, IsPassIn}
 use Rattle.lock_tables.specs.Queue.{IsHead}
 use Rattle.keep_local.specs.declared.turn.Turn.{Turn}
 use Rattle.clof_compose.specs.Contexts.{Context}
@@ -17,8 +19,8 @@ use Rattle.clof_compose.specs.declared.root.Root.{Root}
 module _ {V : Type 0} (fit : V → Type 0) (tag_of : V → Tag) (parked : V → Bool) (holds : Phase → Bool) where
   -- two passes that hold a basic lock are one
   abbrev pub AtMostOneHolds : Type 0
-  AtMostOneHolds = (n : ℕ) (tag : Tag) (queue : List ℕ) (s : State (Option V) View) (p q : ℕ)
-      → IsBasic fit tag_of parked holds n tag queue s → IsPassIn holds s.views p → IsPassIn holds s.views q → p ≡ q
+  AtMostOneHolds = (c : Waiters) (n : ℕ) (tag : Tag) (queue : List ℕ) (s : State (Option V) View) (p q : ℕ)
+      → IsBasic fit tag_of parked holds c n tag queue s → IsPassIn holds s.views p → IsPassIn holds s.views q → p ≡ q
 
 module _ {P Pass Held B : Type 0} (rest : Pass → Rest) (stand : Held → Stand (Root P)) (tag : B → Tag) where
   -- nodes of a level whose values have the same context are one
@@ -30,12 +32,16 @@ module _ {P Pass Held B : Type 0} (rest : Pass → Rest) (stand : Held → Stand
 
 module _ {P Pass Held : Type 0} (calls : P → List ℕ) (tag : P → Tag) (rest : Pass → Rest) (stand : Held → Stand (Root P))
     (stands : Held → Type 0) (holds : Phase → Bool) where
-  -- a kept value at home has a queue that isn't empty
+  -- where a kept value is at home, nobody holds the lock, and a pass is queued or, in a lock that counts its waiters, announced: it has
+  -- begun and not yet taken
   abbrev pub KeptIsWaitedFor : Type 0
-  KeptIsWaitedFor = (n : ℕ) (lock_tag : Tag) (queue : List ℕ) (s : State (Option (Own P Pass Held)) View) (x : Own P Pass Held)
+  KeptIsWaitedFor = (c : Waiters) (n : ℕ) (lock_tag : Tag) (queue : List ℕ) (s : State (Option (Own P Pass Held)) View)
+      (x : Own P Pass Held)
       → IsBasic (λ o. IsOwnFit rest stand calls tag stands o.node o.kept o.said o.high) (λ o. own_tag_of rest stand o.node o.high)
-      (λ o. is_kept rest stand o.high) holds n lock_tag queue s
-      → IsHomeValue s.homes x → is_kept rest stand x.high ≡ true → (p : ℕ) × IsHead p queue
+      (λ o. is_kept rest stand o.high) holds c n lock_tag queue s
+      → IsHomeValue s.homes x → is_kept rest stand x.high ≡ true
+      → ((p : ℕ) → ¬ IsPassIn holds s.views p)
+      × (((p : ℕ) × IsHead p queue) ⊎ ((is_counted c ≡ true) × ((p : ℕ) × IsAnnounced s.views p)))
 
 -- the turn behind these closed ones has these tests
 pub record HasTestsBehind (before : List Turn) (tests : ℕ) (turns : List Turn) : Type 0 where

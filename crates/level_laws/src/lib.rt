@@ -29,7 +29,8 @@ pub fn contexts_are_apart<
     ensures { ContextsAreApart H.Pass.rest H.Held.stand B.tag (H.has _high.now) (H.level _high.now) (H.tag _high.now) }
 {}
 
-/// Where the value of a node is at home with its high lock kept, somebody is queued at the node's basic lock.
+/// Where the value of a node is at home with its high lock kept, nobody holds the node's basic lock, and somebody is queued there or, in a
+/// lock that counts its waiters, has begun and not yet taken.
 pub fn kept_is_waited_for<P: Payload, Pass: Resting, Held: Standing<P>>()
     ensures { (holds : Phase → Bool) → KeptIsWaitedFor P.calls P.tag Pass.rest Held.stand Held.stands holds }
 {}

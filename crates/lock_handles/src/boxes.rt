@@ -9,7 +9,7 @@ use crate::any::AnyCaller;
 use clh_lock::Clh;
 use hemlock_lock::Hemlock;
 use lock_callers::make_callers;
-use lock_rules::Plain;
+use lock_rules::{Plain, Waiters};
 use mcs_lock::Mcs;
 use std::alloc::Global;
 use ticket_lock::Ticket;
@@ -20,7 +20,7 @@ pub(crate) fn ticket_boxes(alloc: Global, count: u32) -> Option<Vec<Box<AnyCalle
     ensures count { IfSome result (λ made. length made.items ≡ count) }
     ensures callers { IfSome result (λ made. (lock : Tag) × All (λ b. b.value ≡ TheVariants.Ticket (idle_of lock)) made.items) }
 {
-    let mut callers = make_callers::<Ticket<Plain<()>>>(alloc, (), count)?;
+    let mut callers = make_callers::<Ticket<Plain<()>>>(alloc, Waiters::Queue, count)?;
     let mut boxes = Vec::new(alloc);
     while let Some(caller) = callers.pop() {
         let boxed = Box::new(alloc, AnyCaller::Ticket(caller)).ok()?;
@@ -35,7 +35,7 @@ pub(crate) fn mcs_boxes(alloc: Global, count: u32) -> Option<Vec<Box<AnyCaller>>
     ensures count { IfSome result (λ made. length made.items ≡ count) }
     ensures callers { IfSome result (λ made. (lock : Tag) × All (λ b. b.value ≡ TheVariants.Mcs (idle_of lock)) made.items) }
 {
-    let mut callers = make_callers::<Mcs<Plain<()>>>(alloc, (), count)?;
+    let mut callers = make_callers::<Mcs<Plain<()>>>(alloc, Waiters::Queue, count)?;
     let mut boxes = Vec::new(alloc);
     while let Some(caller) = callers.pop() {
         let boxed = Box::new(alloc, AnyCaller::Mcs(caller)).ok()?;
@@ -50,7 +50,7 @@ pub(crate) fn clh_boxes(alloc: Global, count: u32) -> Option<Vec<Box<AnyCaller>>
     ensures count { IfSome result (λ made. length made.items ≡ count) }
     ensures callers { IfSome result (λ made. (lock : Tag) × All (λ b. b.value ≡ TheVariants.Clh (idle_of lock)) made.items) }
 {
-    let mut callers = make_callers::<Clh<Plain<()>>>(alloc, (), count)?;
+    let mut callers = make_callers::<Clh<Plain<()>>>(alloc, Waiters::Queue, count)?;
     let mut boxes = Vec::new(alloc);
     while let Some(caller) = callers.pop() {
         let boxed = Box::new(alloc, AnyCaller::Clh(caller)).ok()?;
@@ -65,7 +65,7 @@ pub(crate) fn hemlock_boxes(alloc: Global, count: u32) -> Option<Vec<Box<AnyCall
     ensures count { IfSome result (λ made. length made.items ≡ count) }
     ensures callers { IfSome result (λ made. (lock : Tag) × All (λ b. b.value ≡ TheVariants.Hemlock (idle_of lock)) made.items) }
 {
-    let mut callers = make_callers::<Hemlock<Plain<()>>>(alloc, (), count)?;
+    let mut callers = make_callers::<Hemlock<Plain<()>>>(alloc, Waiters::Queue, count)?;
     let mut boxes = Vec::new(alloc);
     while let Some(caller) = callers.pop() {
         let boxed = Box::new(alloc, AnyCaller::Hemlock(caller)).ok()?;

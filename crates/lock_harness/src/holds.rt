@@ -6,7 +6,7 @@ ghost use Rattle.lock_rules.specs.declared.step.Answer.TheVariants.{Yes};
 
 use crate::parcel::Parcel;
 use crate::runs::{HoldsOften, run};
-use lock_rules::Basic;
+use lock_rules::{Basic, Pauses};
 use std::alloc::Global;
 use std::sync::Wait;
 use std::thread::Threads;
@@ -14,15 +14,37 @@ use std::thread::Threads;
 /// How often each thread holds the lock in the tests of the locks.
 pub const HOLDS: u32 = 100;
 
+/// How often the first holder of all asks whether another waits: until the threads that were started with it have come.
+const FIRST_ASKS: u32 = 10_000_000;
+
+/// Whether another waits, asked up to so many times.
+fn another_waits<B: Basic<Parcel>>(lock: &B, held: &mut B::Held, asks: u32) -> bool
+    requires own { IsOf (B.name lock.now) (B.tag lock.now) (B.Held.holder held.old).place }
+    ensures place { (B.Held.holder held.new).place ≡ (B.Held.holder held.old).place }
+    ensures value { (B.Held.holder held.new).value ≡ (B.Held.holder held.old).value }
+    ensures noted { result ≡ true → (B.Held.holder held.new).tested ≡ Yes }
+{
+    let mut pauses = Pauses::new();
+    for _ in 0..asks {
+        if lock.waiter(held) {
+            return true;
+        }
+        pauses.pause();
+    }
+    false
+}
+
 /// What a holder does with the value: it adds one to the number, and notes whether the value was parked. Where `parks` is true it parks
-/// the value again where `waiter`, which is asked only then, says that somebody is queued behind.
+/// the value again where `waiter`, which is asked only then, says that somebody waits behind; the first holder of all asks until it does.
 pub(crate) fn use_parcel<B: Basic<Parcel>>(lock: &B, held: &mut B::Held, parks: bool)
     requires own { IsOf (B.name lock.now) (B.tag lock.now) (B.Held.holder held.old).place }
     ensures place { (B.Held.holder held.new).place ≡ (B.Held.holder held.old).place }
     ensures relied_on { (B.Held.holder held.new).value.parked ≡ true → (B.Held.holder held.new).tested ≡ Yes }
 {
-    let parked = parks && lock.waiter(held);
+    let is_first = B::value(held).count == 0;
+    let parked = parks && another_waits(lock, held, if is_first { FIRST_ASKS } else { 1 });
     let parcel = B::value_mut(held);
+    parcel.met = parcel.met || (is_first && parked);
     parcel.unparkings = parcel.unparkings.wrapping_add(u64::from(parcel.parked));
     parcel.parkings = parcel.parkings.wrapping_add(u64::from(parked));
     parcel.parked = parked;

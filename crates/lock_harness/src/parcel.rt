@@ -14,19 +14,22 @@ pub struct Parcel {
     pub parkings: u64,
     /// How often they found it parked.
     pub unparkings: u64,
+    /// Whether the first holder of all, where it was asked to park, saw that another waits.
+    pub met: bool,
 }
 
 impl Parcel {
     /// A parcel with this number that nobody has parked.
     pub fn new(count: u64) -> Parcel
         ensures number { result.count ≡ count }
-        ensures unparked { (result.parked ≡ false) × (result.parkings ≡ 0) × (result.unparkings ≡ 0) }
+        ensures unparked { (result.parked ≡ false) × (result.parkings ≡ 0) × (result.unparkings ≡ 0) × (result.met ≡ false) }
     {
         Parcel {
             count,
             parked: false,
             parkings: 0,
             unparkings: 0,
+            met: false,
         }
     }
 }

@@ -10,7 +10,7 @@ use Rattle.topo_tree.specs.Naming.{depth_named}
 use Rattle.lock_select.specs.Nodes.{AreLevels, level_limit}
 use Rattle.lock_select.specs.Texts.{keep_limit, keep_of}
 use Rattle.lock_plan.specs.declared.kind.LockKind.{LockKind}
-use Rattle.lock_plan.specs.declared.kind.LockKind.TheVariants.{Tkt, Mcs, Clh, Hem}
+use Rattle.lock_plan.specs.declared.kind.LockKind.TheVariants.{Tkt, Mcs, Clh, Hem, TktC, McsC, ClhC, HemC}
 use Rattle.lock_plan.specs.declared.fault.PlanFault.{PlanFault}
 use Rattle.lock_plan.specs.declared.fault.PlanFault.TheVariants.{LevelUnknown, TooDeep, LevelOrder, LockUnknown, Lengths, KeepRange}
 use Rattle.lock_plan.specs.declared.plan.Plan.{Plan}
@@ -22,7 +22,11 @@ kind_named word =
     if bytes_eq word (codes "tkt") then Some Tkt
     else (if bytes_eq word (codes "mcs") then Some Mcs
     else (if bytes_eq word (codes "clh") then Some Clh
-    else (if bytes_eq word (codes "hem") then Some Hem else None)))
+    else (if bytes_eq word (codes "hem") then Some Hem
+    else (if bytes_eq word (codes "tktc") then Some TktC
+    else (if bytes_eq word (codes "mcsc") then Some McsC
+    else (if bytes_eq word (codes "clhc") then Some ClhC
+    else (if bytes_eq word (codes "hemc") then Some HemC else None)))))))
 
 -- ---- what is planned
 

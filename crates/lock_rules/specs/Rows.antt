@@ -7,6 +7,10 @@ use Rattle.lock_rules.specs.declared.view.View.{View}
 
 -- Words of one line may be close. Words of two lines stand at least 15 words apart, and a line's first words of two lines 16, which is
 -- 128 bytes.
+-- The word that counts the waiters of a counted lock, by itself before the first line
+abbrev pub waiting : ℕ
+waiting = 0
+
 -- The first word of the line k; 16 words stand before the first line
 abbrev pub line : ℕ → ℕ
 line k = 16 * (k + 1)

@@ -3,7 +3,7 @@ use Rattle.std.specs.Prelude.{◌≡◌, List, [], ◌∷◌, length}
 use Rattle.atomic_table.specs.declared.badge.Badge.{Badge}
 use Rattle.lock_rules.specs.Meanings.{Place, Waiting}
 use Rattle.lock_rules.specs.Rows.{IsRowOf}
-use Rattle.lock_rules.specs.Views.{IsPlain, spent_view, place_of, waiting_of}
+use Rattle.lock_rules.specs.Views.{IsPlain, IsTold, spent_view, place_of, waiting_of}
 use Rattle.lock_rules.specs.declared.view.Phase.{Phase}
 use Rattle.lock_rules.specs.declared.view.View.{View}
 
@@ -20,6 +20,7 @@ pub record IsSeated (phase : Phase) (b : Badge View) : Type 0 where
   pub one : length b.views ≡ 1
   pub stands : (view_of b).phase ≡ phase
   pub plain : IsPlain (view_of b)
+  pub told : IsTold (view_of b)
   pub row : IsRowOf (view_of b) b.table_id
 
 abbrev pub badge_place : Badge View → Place

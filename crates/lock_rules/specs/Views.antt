@@ -7,8 +7,11 @@ use Rattle.lock_rules.specs.declared.step.Answer.{Answer}
 use Rattle.lock_rules.specs.declared.step.Answer.TheVariants.{Open, No, Yes}
 use Rattle.lock_rules.specs.declared.view.Algorithm.{Algorithm}
 use Rattle.lock_rules.specs.declared.view.Algorithm.TheVariants.{Ticket, Mcs, Clh, Hemlock}
-use Rattle.lock_rules.specs.declared.view.Phase.TheVariants.{Idle}
+use Rattle.lock_rules.specs.declared.view.Phase.{Phase}
+use Rattle.lock_rules.specs.declared.view.Phase.TheVariants.{Idle, Queued, Holding, Leaving}
 use Rattle.lock_rules.specs.declared.view.View.{View}
+use Rattle.lock_rules.specs.declared.view.Waiters.{Waiters}
+use Rattle.lock_rules.specs.declared.view.Waiters.TheVariants.{Queue, Count}
 
 -- a seat that is not spent, with its own number alone, numbers that name passes and nodes of its lock, and no grant to clear
 pub record IsPlain (v : View) : Type 0 where
@@ -20,6 +23,21 @@ pub record IsPlain (v : View) : Type 0 where
   pub node_within : v.node ≤ v.count
   pub predecessor_within : v.predecessor ≤ v.count
   pub paid : v.owes ≡ false
+
+-- the lock counts its waiters
+abbrev pub is_counted : Waiters → Bool
+is_counted Queue = false
+is_counted Count = true
+
+-- the token of a pass in this phase is of one that is announced: in a counted lock those in the queue are, and no others
+abbrev pub announces : Phase → Waiters → Bool
+announces Idle c = false
+announces Queued c = is_counted c
+announces Holding c = false
+announces Leaving c = false
+
+abbrev pub IsTold : View → Type 0
+IsTold v = v.announced ≡ announces v.phase v.waiters
 
 -- the number by which the words of a lock name a pass
 abbrev pub mark_by : Algorithm → View → ℕ
@@ -42,17 +60,22 @@ algorithm_number Mcs = 1
 algorithm_number Clh = 2
 algorithm_number Hemlock = 3
 
+abbrev pub waiters_number : Waiters → ℕ
+waiters_number Queue = 0
+waiters_number Count = 1
+
 abbrev pub tree_of : List ℕ → Tag
 tree_of [] = leaf 0
 tree_of (n ∷ ns) = fork (leaf n) (tree_of ns)
 
--- the name of a lock: its algorithm, and what tells its table from all others
-unfoldable pub lock_name : Algorithm → TableId → Tag
-lock_name a z = fork (leaf (algorithm_number a)) (tree_of (z.words ∷ z.slots ∷ z.views_name ∷ z.atom ∷ z.block ∷ z.offset ∷ z.slot_names))
+-- the name of a lock: its algorithm, how it learns of waiters, and what tells its table from all others
+unfoldable pub lock_name : Algorithm → Waiters → TableId → Tag
+lock_name a c z = fork (leaf (algorithm_number a)) (fork (leaf (waiters_number c))
+    (tree_of (z.words ∷ z.slots ∷ z.views_name ∷ z.atom ∷ z.block ∷ z.offset ∷ z.slot_names)))
 
 -- what a view means at the table z
 abbrev pub place_of : TableId → View → Place
-place_of z v = record { lock = lock_name v.algorithm z; tag = v.tag.tag; number = v.number }
+place_of z v = record { lock = lock_name v.algorithm v.waiters z; tag = v.tag.tag; number = v.number }
 
 -- `preceded` is for MCS and Hemlock, whose predecessors are never 0: a predecessor of CLH may be the node 0, and a Ticket lock has none
 abbrev pub waiting_of : TableId → View → Waiting
@@ -66,9 +89,10 @@ waiting_of z v = record {
 }
 
 -- a seat whose pass is idle and whose view is as at the start
-abbrev pub fresh_view : Algorithm → ℕ → Tag → ℕ → ℕ → ℕ → Bool → View
-fresh_view algorithm count tag number from to spent = record {
+abbrev pub fresh_view : Algorithm → Waiters → ℕ → Tag → ℕ → ℕ → ℕ → Bool → View
+fresh_view algorithm waiters count tag number from to spent = record {
   algorithm = algorithm;
+  waiters = waiters;
   count = count;
   tag = record { tag = tag };
   number = number;
@@ -77,6 +101,8 @@ fresh_view algorithm count tag number from to spent = record {
   joined = [];
   spent = spent;
   phase = Idle;
+  steps = 0;
+  announced = false;
   entries = 0;
   loads = 0;
   ready = false;
@@ -94,19 +120,19 @@ fresh_view algorithm count tag number from to spent = record {
 }
 
 -- the first seat of a lock with n passes: the last pass, and the others not split off yet
-abbrev pub first_view : Algorithm → ℕ → Tag → View
-first_view a n tag = fresh_view a n tag (n - 1) 0 (n - 1) false
+abbrev pub first_view : Algorithm → Waiters → ℕ → Tag → View
+first_view a c n tag = fresh_view a c n tag (n - 1) 0 (n - 1) false
 
 -- the first seat without the pass that it gives up, and the seat of that pass
 abbrev pub without_next : View → View
 without_next v = record v { from = v.from + 1 }
 
 abbrev pub next_split : View → View
-next_split v = fresh_view v.algorithm v.count v.tag.tag v.from 0 0 false
+next_split v = fresh_view v.algorithm v.waiters v.count v.tag.tag v.from 0 0 false
 
 -- a seat that took over another's numbers and nodes, and what is left of the other
 abbrev pub joined_view : View → View → View
 joined_view v w = record v { joined = w.number ∷ w.joined ++ v.joined; nodes = w.node ∷ w.nodes ++ v.nodes }
 
 abbrev pub spent_view : View
-spent_view = fresh_view Ticket 0 (leaf 0) 0 0 0 true
+spent_view = fresh_view Ticket Queue 0 (leaf 0) 0 0 0 true

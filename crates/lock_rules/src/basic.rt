@@ -58,7 +58,8 @@ pub trait Basic<V: Cargo>: Sized {
         ensures passes { IfOk result (λ m. AreAll Self.Pass.place (name m.0) (tag m.0) (count m.0) m.1.items) }
         ensures refused { IfErr result (λ r. r.value ≡ value) };
 
-    /// Enters the queue. The answer is `Not` only where this call made an entering step, which the token records.
+    /// Enters the queue; a lock that counts its waiters is told first. The answer is `Not` only where this call made an entering step,
+    /// which the token records.
     fn begin(&self, pass: Self::Pass) -> Step<Self::Queue, Self::Held>
         requires own { IsOf (name self.now) (tag self.now) (Self.Pass.place pass) }
         ensures queue { IfNot result (λ q. (Self.Queue.waiting q).place ≡ Self.Pass.place pass) }
@@ -80,7 +81,8 @@ pub trait Basic<V: Cargo>: Sized {
         ensures tagged { IfGot result (λ h. V.tag (Self.Held.holder h).value ≡ tag self.now) }
         ensures untested { IfGot result (λ h. (Self.Held.holder h).tested ≡ Open) };
 
-    /// Whether another pass is queued behind the holder, by one load, which the token records. A yes stays true until the release.
+    /// Whether another pass waits, by one load, which the token records: one that is queued behind the holder or, in a lock that counts its
+    /// waiters, one that has begun and not yet taken. A yes stays true until the release.
     fn waiter(&self, held: &mut Self::Held) -> bool
         requires own { IsOf (name self.now) (tag self.now) (Self.Held.holder held.old).place }
         ensures place { (Self.Held.holder held.new).place ≡ (Self.Held.holder held.old).place }

@@ -16,7 +16,7 @@ pub trait Cargo: Drop {
 
     ghost said: { Self → Answer };
 
-    /// Whether the value relies on somebody who is queued behind its holder: it may be put back only then.
+    /// Whether the value relies on somebody who waits behind its holder: it may be put back only then.
     fn parked(&self) -> bool
         ensures { result ≡ parked self.now };
 }

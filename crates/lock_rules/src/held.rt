@@ -1,5 +1,5 @@
 //! The token of a holder, which is one for all four locks.
-ghost use Rattle.std.specs.Prelude.{◌≡◌, [], ◌∷◌, None};
+ghost use Rattle.std.specs.Prelude.{◌≡◌, [], ◌∷◌, None, false};
 ghost use Rattle.std.specs.Borrow.{Lends, sem};
 ghost use Rattle.lock_rules.specs.Rows.{IsRowOf};
 ghost use Rattle.lock_rules.specs.Views.{IsPlain, mark_of};
@@ -18,6 +18,7 @@ pub struct HeldSeat<V> {
     pub predecessor: u64,
     pub ghost holds: { seat.me.0.phase ≡ Holding },
     pub ghost plain: { IsPlain seat.me.0 },
+    pub ghost silent: { seat.me.0.announced ≡ false },
     pub ghost row: { IsRowOf seat.me.0 seat.table_id },
     pub ghost carries: { seat.me.1 ≡ (0, None) ∷ [] },
     pub ghost marked: { mark ≡ mark_of seat.me.0 },

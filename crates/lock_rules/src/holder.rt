@@ -1,5 +1,5 @@
 //! What the token of a holder means, how it is made of a seat, and the loan of its value.
-ghost use Rattle.std.specs.Prelude.{◌≡◌, [], ◌∷◌, None};
+ghost use Rattle.std.specs.Prelude.{◌≡◌, [], ◌∷◌, None, false};
 ghost use Rattle.lock_rules.specs.Holders.{holder_of, with_value};
 ghost use Rattle.lock_rules.specs.Rows.{IsRowOf};
 ghost use Rattle.lock_rules.specs.Views.{IsPlain, mark_of};
@@ -29,6 +29,7 @@ impl<V> Held<V> {
     pub fn of(seat: Seat<Option<V>, View>, value: V, mark: u64, predecessor: u64) -> Held<V>
         requires holds { seat.me.0.phase ≡ Holding }
         requires plain { IsPlain seat.me.0 }
+        requires silent { seat.me.0.announced ≡ false }
         requires row { IsRowOf seat.me.0 seat.table_id }
         requires carries { seat.me.1 ≡ (0, None) ∷ [] }
         requires marked { mark ≡ mark_of seat.me.0 }

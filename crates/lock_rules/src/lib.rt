@@ -33,4 +33,4 @@ pub use plain::Plain;
 pub use step::{Answer, Refused, Step};
 pub use token::{Departing, Holding, Placed, Queueing};
 pub use tokens::{Left, Pass, Queue};
-pub use view::{Algorithm, Opening, Phase, Tagged, View};
+pub use view::{Algorithm, Opening, Phase, Tagged, View, Waiters};

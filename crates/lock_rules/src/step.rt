@@ -13,7 +13,7 @@ pub struct Refused<V> {
     pub value: V,
 }
 
-/// What a holder learned of waiters, or what a value keeps of it: nothing yet, that nobody else is queued, or that somebody is.
+/// What a holder learned of waiters, or what a value keeps of it: nothing yet, that nobody else waits, or that somebody does.
 #[derive(Drop)]
 pub enum Answer {
     Open,

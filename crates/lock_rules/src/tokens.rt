@@ -3,7 +3,7 @@
 ghost use Rattle.std.specs.Prelude.{◌≡◌, []};
 ghost use Rattle.lock_rules.specs.Rows.{IsRowOf};
 ghost use Rattle.lock_rules.specs.Tokens.{IsSeated, view_of, badge_place, badge_waiting};
-ghost use Rattle.lock_rules.specs.Views.{IsPlain, mark_of};
+ghost use Rattle.lock_rules.specs.Views.{IsPlain, IsTold, mark_of};
 ghost use Rattle.lock_rules.specs.declared.view.Phase.TheVariants.{Idle, Queued};
 
 use crate::token::{Departing, Placed, Queueing};
@@ -58,6 +58,7 @@ impl Pass {
     pub fn of<V>(seat: Seat<Option<V>, View>, mark: u64) -> Pass
         requires idle { seat.me.0.phase ≡ Idle }
         requires plain { IsPlain seat.me.0 }
+        requires told { IsTold seat.me.0 }
         requires row { IsRowOf seat.me.0 seat.table_id }
         requires empty { seat.me.1 ≡ [] }
         requires marked { mark ≡ mark_of seat.me.0 }
@@ -84,6 +85,7 @@ impl Queue {
     pub fn of<V>(seat: Seat<Option<V>, View>, mark: u64, predecessor: u64) -> Queue
         requires queued { seat.me.0.phase ≡ Queued }
         requires plain { IsPlain seat.me.0 }
+        requires told { IsTold seat.me.0 }
         requires row { IsRowOf seat.me.0 seat.table_id }
         requires empty { seat.me.1 ≡ [] }
         requires marked { mark ≡ mark_of seat.me.0 }

@@ -15,6 +15,14 @@ pub enum Algorithm {
     Hemlock,
 }
 
+/// How a lock learns of waiters: from its queue, or from a count of the passes that have begun and not yet taken, which a holder may see
+/// before they are queued. A lock's name has its choice too.
+#[derive(Clone, Copy, Drop)]
+pub enum Waiters {
+    Queue,
+    Count,
+}
+
 /// Where a pass stands. A pass that is leaving has put the value back, and its lock still waits for the next pass.
 pub enum Phase {
     Idle,
@@ -38,8 +46,9 @@ impl Model for Tagged {
 /// and so a holder's token, of its own for each lock, a composition of a few levels is out of the checker's reach. A field that a lock
 /// doesn't use stays as it was at the start. Words name a pass by its number plus 1, so that 0 names none.
 pub struct View {
-    /// Of all locks: which lock it is, and how many passes it has. No step changes these.
+    /// Of all locks: which lock it is, how it learns of waiters, and how many passes it has. No step changes these.
     pub algorithm: Algorithm,
+    pub waiters: Waiters,
     pub count: u64,
     /// Of all locks: the tag of the lock's value. No step changes it.
     pub tag: Tagged,
@@ -53,6 +62,10 @@ pub struct View {
     pub spent: bool,
     /// Of all locks: where the pass stands.
     pub phase: Phase,
+    /// Of all locks: how many steps on words the view recorded.
+    pub steps: u64,
+    /// Of counted locks: the pass has raised the count of waiters, and not lowered it again.
+    pub announced: bool,
     /// Of all locks: how many entering steps the view recorded, the additions of Ticket and the swaps of the others.
     pub entries: u64,
     /// Of all locks: how many loads the view recorded.
@@ -82,9 +95,11 @@ pub struct View {
     pub owes: bool,
 }
 
-/// What the table of a lock is told when it is made: how many passes there are, and the opening value, as clauses see it.
+/// What the table of a lock is told when it is made: how many passes there are, how the lock learns of waiters, and the opening value, as
+/// clauses see it.
 #[derive(Drop)]
 pub struct Opening<V> {
     pub passes: u32,
+    pub waiters: Waiters,
     pub value: Snapshot<V>,
 }

@@ -1,14 +1,13 @@
 -- The contexts of a level and their parents, found by a walk over the callers.
-use Rattle.std.proofs.Common.{◌≡◌, ◌≢◌, ℕ, zero, suc, ◌+◌, ◌-◌, ◌<◌, ◌≤◌, ◌⊎◌, inl, inr, ⊎_elim, List, [], ◌∷◌, length, set, refl, ap, sym}
+use Rattle.std.proofs.Common.{◌≡◌, ◌≢◌, ℕ, zero, suc, ◌+◌, ◌<◌, ◌≤◌, ◌⊎◌, ⊎_elim, List, [], ◌∷◌, length, set, refl, ap, sym}
 use Rattle.std.proofs.Common.{◌∙◌, Bool, cond, eqb, eq-eqb, subst, arith, Some}
 use Rattle.std.proofs.lemmas.Bool.{ne_eqb}
-use Rattle.std.specs.Prelude.{slice_get, slice_index, ◌↔◌}
+use Rattle.std.specs.Prelude.{slice_get, ◌↔◌}
 use mathlib.Core.Logic.{dite}
 use native.Mathlib.Decide.{ℕ_discrete}
 use Rattle.keep_local.specs.declared.shape.Shape.{Shape}
 use Rattle.keep_local.specs.Shapes.{IsWellFormed, top_of, callers_of, node_of, HasNode}
 use Rattle.clof_compose.specs.Contexts.{AreContexts, IsContextOf}
-use Rattle.clof_compose.specs.Nodes.{IsInShape}
 
 -- of the first callers none has a node as great as `count`, and where `count` isn't 0 one of them has the node below it
 pub record IsCount (shape : Shape) (k callers count : ℕ) : Type 0 where

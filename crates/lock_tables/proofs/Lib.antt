@@ -3,6 +3,8 @@ pub mod Stands
 pub mod Points
 pub mod Lists
 pub mod Queues
+pub mod Told
 pub mod Steps
+pub mod Waiting
 pub mod Implied
 pub mod Seats

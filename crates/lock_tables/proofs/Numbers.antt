@@ -10,6 +10,7 @@ use Rattle.lock_rules.specs.Tag.{Tag}
 use Rattle.lock_rules.specs.Views.{IsPlain, first_view, without_next, next_split, joined_view, spent_view}
 use Rattle.lock_rules.specs.declared.view.Algorithm.{Algorithm}
 use Rattle.lock_rules.specs.declared.view.View.{View}
+use Rattle.lock_rules.specs.declared.view.Waiters.{Waiters}
 use Rattle.lock_tables.specs.Numbers.{Numbering, by_pass, by_node, passes_of, stands_in, HasNumbers}
 use Rattle.lock_rules.proofs.Sums.{sum_set, part_le, parts_le}
 
@@ -39,8 +40,8 @@ first_hit n k h = grind (arith, nat_tests)
 -- pass's number, and a seat
 -- that takes over another takes its numbers
 pub record IsDealt (m : Numbering) : Type 0 where
-  pub first_own : (a : Algorithm) (n : ℕ) (tag : Tag) → m.own (first_view a n tag) ≡ n - 1
-  pub first_taken : (a : Algorithm) (n : ℕ) (tag : Tag) → m.taken (first_view a n tag) ≡ []
+  pub first_own : (a : Algorithm) (ch : Waiters) (n : ℕ) (tag : Tag) → m.own (first_view a ch n tag) ≡ n - 1
+  pub first_taken : (a : Algorithm) (ch : Waiters) (n : ℕ) (tag : Tag) → m.taken (first_view a ch n tag) ≡ []
   pub left_own : (v : View) → m.own (without_next v) ≡ m.own v
   pub left_taken : (v : View) → m.taken (without_next v) ≡ m.taken v
   pub right_own : (v : View) → m.own (next_split v) ≡ v.from
@@ -50,8 +51,8 @@ pub record IsDealt (m : Numbering) : Type 0 where
 
 pub pass_dealt : IsDealt by_pass
 pass_dealt = record {
-  first_own = λ a n tag. refl;
-  first_taken = λ a n tag. refl;
+  first_own = λ a ch n tag. refl;
+  first_taken = λ a ch n tag. refl;
   left_own = λ v. refl;
   left_taken = λ v. refl;
   right_own = λ v. refl;
@@ -62,8 +63,8 @@ pass_dealt = record {
 
 pub node_dealt : IsDealt by_node
 node_dealt = record {
-  first_own = λ a n tag. refl;
-  first_taken = λ a n tag. refl;
+  first_own = λ a ch n tag. refl;
+  first_taken = λ a ch n tag. refl;
   left_own = λ v. refl;
   left_taken = λ v. refl;
   right_own = λ v. refl;
@@ -92,15 +93,16 @@ module _ (m : Numbering) where
 
   module _ (d : IsDealt m) where
     -- the first seat alone
-    pub stands_first : (a : Algorithm) (n : ℕ) (tag : Tag) (k : ℕ) → 0 < n
-        → sum_by (stands_in m k) (first_view a n tag ∷ []) ≡ cond (nat_lt k n) 1 0
-    stands_first a n tag k h =
-        let s = sum_by-cons (stands_in m k) (first_view a n tag) [] in
-        let f : stands_in m k (first_view a n tag) ≡ hits (n - 1) k + span 0 (n - 1) k + 0 = stands_unspent k (first_view a n tag) refl
-        ∙ (λ i. hits (d.first_own a n tag i) k + span 0 (n - 1) k + times k (d.first_taken a n tag i)) in
+    pub stands_first : (a : Algorithm) (ch : Waiters) (n : ℕ) (tag : Tag) (k : ℕ) → 0 < n
+        → sum_by (stands_in m k) (first_view a ch n tag ∷ []) ≡ cond (nat_lt k n) 1 0
+    stands_first a ch n tag k h =
+        let s = sum_by-cons (stands_in m k) (first_view a ch n tag) [] in
+        let f : stands_in m k (first_view a ch n tag) ≡ hits (n - 1) k + span 0 (n - 1) k + 0
+        = stands_unspent k (first_view a ch n tag) refl
+        ∙ (λ i. hits (d.first_own a ch n tag i) k + span 0 (n - 1) k + times k (d.first_taken a ch n tag i)) in
         let c : ℕ = cond (nat_lt k n) 1 0 in
         let g : hits (n - 1) k + span 0 (n - 1) k ≡ c = first_hit n k h in
-        let goal : sum_by (stands_in m k) (first_view a n tag ∷ []) ≡ c = omega (arith, s, f, g) in goal
+        let goal : sum_by (stands_in m k) (first_view a ch n tag ∷ []) ≡ c = omega (arith, s, f, g) in goal
 
     -- a seat gives up its next number to a new one
     pub stands_split : (views : List View) (id : ℕ) (v : View) (k : ℕ) → get_elem? views id ≡ some v → v.spent ≡ false → v.from < v.to
@@ -141,8 +143,8 @@ pub stands_step : (m : Numbering) (views : List View) (id : ℕ) (v w : View) (k
     → sum_by (stands_in m k) (set views id w) ≡ sum_by (stands_in m k) views
 stands_step m views id v w k at e = let s = sum_set (stands_in m k) views id v w at in omega (arith, s, e)
 
-pub numbers_first : (a : Algorithm) (n : ℕ) (tag : Tag) → 0 < n → HasNumbers n (first_view a n tag ∷ [])
-numbers_first a n tag h = record { in_all = omega arith; once = λ k. stands_first by_pass pass_dealt a n tag k h }
+pub numbers_first : (a : Algorithm) (ch : Waiters) (n : ℕ) (tag : Tag) → 0 < n → HasNumbers n (first_view a ch n tag ∷ [])
+numbers_first a ch n tag h = record { in_all = omega arith; once = λ k. stands_first by_pass pass_dealt a ch n tag k h }
 
 -- a step that leaves the passes of its seat
 pub numbers_step : (n : ℕ) (views : List View) (id : ℕ) (v w : View) → get_elem? views id ≡ some v → passes_of w ≡ passes_of v

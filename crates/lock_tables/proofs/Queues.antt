@@ -13,10 +13,10 @@ use Rattle.atomic_table.proofs.Lists.{at_set, set_else, at_longer, at_last}
 use Rattle.lock_rules.specs.Rows.{row_of}
 use Rattle.lock_rules.specs.Tag.{Tag}
 use Rattle.lock_rules.specs.Views.{IsPlain, first_view, without_next, next_split, joined_view, spent_view}
-use Rattle.lock_rules.specs.declared.step.Answer.TheVariants.{Yes}
 use Rattle.lock_rules.specs.declared.view.Phase.{Phase}
 use Rattle.lock_rules.specs.declared.view.Phase.TheVariants.{Idle, Queued, Holding, Leaving}
 use Rattle.lock_rules.specs.declared.view.View.{View}
+use Rattle.lock_rules.specs.declared.view.Waiters.{Waiters}
 use Rattle.lock_tables.specs.Numbers.{by_pass, passes_of, stands_in}
 use Rattle.lock_tables.specs.Queue.{IsIn}
 use Rattle.lock_tables.specs.Rule.{Discipline, is_holder, is_busy, busy, SeatStands, IsBusyAt, IsQueued}
@@ -34,6 +34,11 @@ pub record IsLike (v w : View) : Type 0 where
   pub spent : w.spent ≡ v.spent
   pub tag : w.tag.tag ≡ v.tag.tag
   pub count : w.count ≡ v.count
+  pub waiters : w.waiters ≡ v.waiters
+
+pub like : (v w : View) → w.number ≡ v.number → w.from ≡ v.from → w.to ≡ v.to → w.joined ≡ v.joined → w.spent ≡ v.spent
+    → w.tag.tag ≡ v.tag.tag → w.count ≡ v.count → w.waiters ≡ v.waiters → IsLike v w
+like v w a b c d e f g h = record { number = a; from = b; to = c; joined = d; spent = e; tag = f; count = g; waiters = h }
 
 like_size : (v w : View) → IsLike v w → passes_of w ≡ passes_of v
 like_size v w l = λ i. cond (l.spent i) 0 (1 + (l.to i - l.from i) + length (l.joined i))
@@ -134,9 +139,9 @@ module _ (d : Discipline) (n : ℕ) (tag : Tag) where
   pub stays : (words words' seats : List ℕ) (views : List View) (id : ℕ) (v w : View) (q : Q words seats views)
       → get_elem? views id ≡ some v → v.spent ≡ false → IsLike v w
       → length words' ≡ length words → are_busy w.phase ≡ are_busy v.phase → holds w.phase ≡ holds v.phase
-      → (holds w.phase ≡ true → w.tested ≡ Yes → 1 < length seats) → (holds w.phase ≡ true → w.followed ≡ true → 1 < length seats)
+      → (holds w.phase ≡ true → w.followed ≡ true → 1 < length seats)
       → d.Core n words' seats (set views id w) → Q words' seats (set views id w)
-  stays words words' seats views id v w q at live l same b h tested followed core =
+  stays words words' seats views id v w q at live l same b h followed core =
       let st = q.each_seat id v at in
       let c : busy d.lingers w ≡ busy d.lingers v = ap (λ (x : Bool). cond x 1 0) b in
       step words words' seats seats views id v w q at l same (omega (arith, c)) q.once
@@ -146,7 +151,6 @@ module _ (d : Discipline) (n : ℕ) (tag : Tag) where
         ended = λ e. absurd (lives_like v w l live e);
         placed = λ e. st.placed (sym b ∙ e);
         first = λ e. st.first (sym h ∙ e);
-        tested = tested;
         followed = followed;
       })
       (λ j u ne e. q.each_seat j u e)
@@ -177,7 +181,6 @@ module _ (d : Discipline) (n : ℕ) (tag : Tag) where
         ended = λ e. absurd (lives_like v w l live e);
         placed = λ _. (length seats, at_last seats id (length seats) refl);
         first = λ e. absurd (wrong_phase holds w Queued queued refl e);
-        tested = λ e _. absurd (wrong_phase holds w Queued queued refl e);
         followed = λ e _. absurd (wrong_phase holds w Queued queued refl e);
       })
       (λ j u ne e. let su = q.each_seat j u e in record {
@@ -186,7 +189,6 @@ module _ (d : Discipline) (n : ℕ) (tag : Tag) where
         ended = su.ended;
         placed = λ t. let p = su.placed t in (p.0, at_longer seats (id ∷ []) p.0 j p.1);
         first = λ t. at_longer seats (id ∷ []) 0 j (su.first t);
-        tested = λ t y. let m = su.tested t y in omega (arith, long, m);
         followed = λ t y. let m = su.followed t y in omega (arith, long, m);
       })
       (λ i j e. ⊎_elim (λ (f : get_elem? seats i ≡ some j). place_else views id w j (other i j f) (q.each_place i j f))
@@ -201,10 +203,9 @@ module _ (d : Discipline) (n : ℕ) (tag : Tag) where
   -- Take
   pub takes : (words words' seats : List ℕ) (views : List View) (id : ℕ) (v w : View) (q : Q words seats views)
       → get_elem? views id ≡ some v → v.spent ≡ false → IsLike v w
-      → length words' ≡ length words → v.phase ≡ Queued → get_elem? seats 0 ≡ some id → w.phase ≡ Holding → ¬ (w.tested ≡ Yes)
-      → w.followed ≡ false
+      → length words' ≡ length words → v.phase ≡ Queued → get_elem? seats 0 ≡ some id → w.phase ≡ Holding → w.followed ≡ false
       → d.Core n words' seats (set views id w) → Q words' seats (set views id w)
-  takes words words' seats views id v w q at live l same queued first held untested alone core =
+  takes words words' seats views id v w q at live l same queued first held alone core =
       let st = q.each_seat id v at in
       let b = busy_is v true (ap are_busy queued) in
       let b' = busy_is w true (ap are_busy held) in
@@ -215,7 +216,6 @@ module _ (d : Discipline) (n : ℕ) (tag : Tag) where
         ended = λ e. absurd (lives_like v w l live e);
         placed = λ _. (0, first);
         first = λ _. first;
-        tested = λ _ e. absurd (untested e);
         followed = λ _ e. absurd (no_true (sym e ∙ alone));
       })
       (λ j u ne e. q.each_seat j u e)
@@ -225,9 +225,9 @@ module _ (d : Discipline) (n : ℕ) (tag : Tag) where
   -- Enter and Take
   pub enters_and_takes : (words words' seats : List ℕ) (views : List View) (id : ℕ) (v w : View) (q : Q words seats views)
       → get_elem? views id ≡ some v → v.spent ≡ false → IsLike v w
-      → length words' ≡ length words → v.phase ≡ Idle → seats ≡ [] → w.phase ≡ Holding → ¬ (w.tested ≡ Yes) → w.followed ≡ false
+      → length words' ≡ length words → v.phase ≡ Idle → seats ≡ [] → w.phase ≡ Holding → w.followed ≡ false
       → d.Core n words' (id ∷ []) (set views id w) → Q words' (id ∷ []) (set views id w)
-  enters_and_takes words words' seats views id v w q at live l same idle empty held untested alone core =
+  enters_and_takes words words' seats views id v w q at live l same idle empty held alone core =
       let st = q.each_seat id v at in
       let b = busy_is v false (ap are_busy idle) in
       let b' = busy_is w true (ap are_busy held) in
@@ -241,7 +241,6 @@ module _ (d : Discipline) (n : ℕ) (tag : Tag) where
         ended = λ e. absurd (lives_like v w l live e);
         placed = λ _. (0, refl);
         first = λ _. refl;
-        tested = λ _ e. absurd (untested e);
         followed = λ _ e. absurd (no_true (sym e ∙ alone));
       })
       (λ j u ne e. let su = q.each_seat j u e in record {
@@ -250,7 +249,6 @@ module _ (d : Discipline) (n : ℕ) (tag : Tag) where
         ended = su.ended;
         placed = λ t. let p = su.placed t in absurd (none_there p.0 j p.1);
         first = λ t. absurd (none_there 0 j (su.first t));
-        tested = λ t _. absurd (none_there 0 j (su.first t));
         followed = λ t _. absurd (none_there 0 j (su.first t));
       })
       (λ i j e. let x = at_one id i j e in record {
@@ -286,7 +284,6 @@ module _ (d : Discipline) (n : ℕ) (tag : Tag) where
         ended = λ e. absurd (lives_like v w l live e);
         placed = λ e. absurd (no_true (sym e ∙ free));
         first = λ e. absurd (no_true (sym e ∙ idle));
-        tested = λ e _. absurd (no_true (sym e ∙ idle));
         followed = λ e _. absurd (no_true (sym e ∙ idle));
       })
       (λ j u ne e. let su = q.each_seat j u e in record {
@@ -295,7 +292,6 @@ module _ (d : Discipline) (n : ℕ) (tag : Tag) where
         ended = su.ended;
         placed = λ t. let p = su.placed t in behind_head id rest p.0 j ne (ap (λ (s : List ℕ). get_elem? s p.0) (sym cut) ∙ p.1);
         first = λ t. absurd (not_head j u ne e t);
-        tested = λ t _. absurd (not_head j u ne e t);
         followed = λ t _. absurd (not_head j u ne e t);
       })
       (λ i j e. place_else views id w j (other i j e) (q.each_place (suc i) j (later i j e)))
@@ -325,7 +321,6 @@ module _ (d : Discipline) (n : ℕ) (tag : Tag) where
               ended = st.ended;
               placed = st.placed;
               first = st.first;
-              tested = st.tested;
               followed = st.followed;
             }))
             (λ (t : (j ≢ id) × (get_elem? views j ≡ some u)). q.each_seat j u t.1)
@@ -336,7 +331,6 @@ module _ (d : Discipline) (n : ℕ) (tag : Tag) where
               ended = λ _. refl;
               placed = λ e'. absurd (no_true (sym e'));
               first = λ e'. absurd (no_true (sym e'));
-              tested = λ e' _. absurd (no_true (sym e'));
               followed = λ e' _. absurd (no_true (sym e'));
             }))
             (at_end (set views id w) new u j e);
@@ -369,7 +363,6 @@ module _ (d : Discipline) (n : ℕ) (tag : Tag) where
               ended = λ _. refl;
               placed = λ e'. absurd (no_true (sym e'));
               first = λ e'. absurd (no_true (sym e'));
-              tested = λ e' _. absurd (no_true (sym e'));
               followed = λ e' _. absurd (no_true (sym e'));
             }))
             (λ (t : (j ≢ other) × (get_elem? mid j ≡ some u)). ⊎_elim
@@ -380,7 +373,6 @@ module _ (d : Discipline) (n : ℕ) (tag : Tag) where
               ended = st.ended;
               placed = st.placed;
               first = st.first;
-              tested = st.tested;
               followed = st.followed;
             }))
             (λ (x : (j ≢ id) × (get_elem? views j ≡ some u)). q.each_seat j u x.1)
@@ -396,25 +388,24 @@ module _ (d : Discipline) (n : ℕ) (tag : Tag) where
       }
 
   -- the first seat alone
-  pub starts : (words : List ℕ) → 0 < n → n < 2 ^ 32 → length words ≡ row_of d.algorithm n
-      → d.Core n words [] (first_view d.algorithm n tag ∷ []) → Q words [] (first_view d.algorithm n tag ∷ [])
-  starts words some_pass few long core = record {
+  pub starts : (c : Waiters) (words : List ℕ) → 0 < n → n < 2 ^ 32 → length words ≡ row_of d.algorithm n
+      → d.Core n words [] (first_view d.algorithm c n tag ∷ []) → Q words [] (first_view d.algorithm c n tag ∷ [])
+  starts c words some_pass few long core = record {
     few = few;
     long = long;
-    numbers = numbers_first d.algorithm n tag some_pass;
+    numbers = numbers_first d.algorithm c n tag some_pass;
     busy_are = refl;
     once = λ i k j e. absurd (some-ne-none j (sym e));
     each_seat = λ j u e. ⊎_elim (λ (t : get_elem? [] j ≡ some u). absurd (some-ne-none u (sym t)))
-        (λ (t : (j ≡ 0) × (first_view d.algorithm n tag ≡ u)). subst (Stands [] j) t.1 (record {
+        (λ (t : (j ≡ 0) × (first_view d.algorithm c n tag ≡ u)). subst (Stands [] j) t.1 (record {
           tagged = λ _. refl;
           counted = λ _. refl;
           ended = λ _. refl;
           placed = λ e'. absurd (no_true (sym e'));
           first = λ e'. absurd (no_true (sym e'));
-          tested = λ e' _. absurd (no_true (sym e'));
           followed = λ e' _. absurd (no_true (sym e'));
         }))
-        (at_end [] (first_view d.algorithm n tag) u j e);
+        (at_end [] (first_view d.algorithm c n tag) u j e);
     each_place = λ i j e. absurd (some-ne-none j (sym e));
     core = core;
   }

@@ -5,3 +5,4 @@ pub mod Rule
 pub mod Happened
 pub mod Laws
 pub mod Seats
+pub mod Counting

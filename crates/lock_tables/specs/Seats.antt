@@ -22,4 +22,4 @@ seat_as s view carried = record s { me = (view, carried) }
 module _ {V : Type 0} where
   -- a place in the lock with this algorithm, table and key
   abbrev pub IsOwn : (V → Tag) → Algorithm → TableId → Opening V → Place → Type 0
-  IsOwn tag_of a z key place = IsOf (lock_name a z) (tag_of key.value.value) place
+  IsOwn tag_of a z key place = IsOf (lock_name a key.waiters z) (tag_of key.value.value) place

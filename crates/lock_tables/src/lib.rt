@@ -1,12 +1,14 @@
 //! The rule of the table of a queue lock, but for what is an algorithm's own, and how such a table is made, split into passes and closed.
 #![tactic(auto)]
 
+mod counting;
 mod cuts;
 mod rule;
 mod ruled;
 mod slot;
 mod table;
 
+pub use counting::{AddWaiting, LoadWaiting, SubtractWaiting, announce, count_waiting, withdraw};
 pub use cuts::{Cut, Glue};
 pub use rule::{Disciplined, QueueRule, rule_is_basic};
 pub use ruled::Ruled;

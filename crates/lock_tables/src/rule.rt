@@ -20,14 +20,16 @@ pub trait Disciplined: Sized {
 pub struct QueueRule<D>(PhantomData<D>);
 
 impl<V: Cargo, D: Disciplined> TableRule<Option<V>, View, Opening<V>> for QueueRule<D> {
-    ghost holds = { λ key. IsLock D.discipline V.fit V.tag V.parked key.passes (V.tag key.value.value) };
+    ghost holds = { λ key. IsLock D.discipline V.fit V.tag V.parked key.waiters key.passes (V.tag key.value.value) };
 
-    ghost first = { λ key. first_view D.discipline.algorithm key.passes (V.tag key.value.value) };
+    ghost first = { λ key. first_view D.discipline.algorithm key.waiters key.passes (V.tag key.value.value) };
 }
 
 /// The rule implies the rule of a basic lock: the queue has no repeats and consists of the passes that are queued or hold; a holder is its
-/// head; a value is at home or there is a holder; a parked value at home with no holder has a queue that isn't empty; a holder that tested
-/// yes has another pass behind it; one tag, and a fit value; each number below n has exactly one seat, and no other number has one.
+/// head; a value is at home or there is a holder, and not both; a parked value at home has a pass that is queued or announced; a holder
+/// that tested yes isn't announced, and another pass is behind it or announced; one choice, one tag, and a fit value; a counted lock's
+/// word `waiting` is the number of announced passes, and no pass of another lock is announced; each number below n has exactly one seat,
+/// and no other number has one.
 pub fn rule_is_basic<V: Cargo, D: Disciplined>()
     ensures { RuleIsBasic D.discipline V.fit V.tag V.parked }
 {

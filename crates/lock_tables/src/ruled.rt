@@ -2,6 +2,7 @@
 ghost use Rattle.std.specs.Prelude.{◌≡◌};
 ghost use Rattle.atomic_table.specs.Seated.{TableId};
 ghost use Rattle.lock_rules.specs.Views.{lock_name};
+ghost use Rattle.lock_rules.specs.declared.view.Waiters.{Waiters};
 ghost use Rattle.lock_tables.specs.Laws.{RuleIsBasic};
 
 use crate::rule::{Disciplined, rule_is_basic};
@@ -11,8 +12,10 @@ use lock_rules::{Basic, Cargo};
 pub trait Ruled<V: Cargo>: Basic<V> {
     type Algorithm: Disciplined;
 
-    // Its table.
+    // Its table, and how it learns of waiters.
     ghost table: { Self → TableId };
+
+    ghost waiters: { Self → Waiters };
 
     /// The rule of the table implies that of a basic lock.
     final fn is_basic()
@@ -22,5 +25,5 @@ pub trait Ruled<V: Cargo>: Basic<V> {
     }
 
     // The lock is named by its algorithm and its table.
-    ghost named: { (l : Self) → Self.Basic.name l ≡ lock_name Self.Algorithm.discipline.algorithm (table l) };
+    ghost named: { (l : Self) → Self.Basic.name l ≡ lock_name Self.Algorithm.discipline.algorithm (waiters l) (table l) };
 }

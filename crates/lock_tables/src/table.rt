@@ -10,7 +10,7 @@ ghost use Rattle.lock_tables.specs.Seats.{IsSized};
 use crate::cuts::{Cut, Glue};
 use crate::rule::{Disciplined, QueueRule};
 use atomic_table::{Seat, Shared, Table};
-use lock_rules::{Cargo, Opening, Pass, Refused, View};
+use lock_rules::{Cargo, Opening, Pass, Refused, View, Waiters};
 use std::alloc::{AllocFailed, Global};
 use std::snapshot::Snapshot;
 
@@ -24,6 +24,7 @@ pub type LockTable<V, D> = Table<Option<V>, View, Opening<V>, QueueRule<D>, Glob
 pub fn new_table<V: Cargo, D: Disciplined>(
     alloc: Global,
     words: &[u64],
+    waiters: Waiters,
     passes: u32,
     value: V,
 ) -> Result<(LockTable<V, D>, Seat<Option<V>, View>), Refused<V>>
@@ -33,14 +34,16 @@ pub fn new_table<V: Cargo, D: Disciplined>(
     requires unparked { V.parked value ≡ false }
     ensures size { IfOk result (λ t. IsSized D.discipline.algorithm passes t.0.shared.table_id) }
     ensures passes { IfOk result (λ t. t.0.shared.key.passes ≡ passes) }
+    ensures waiters { IfOk result (λ t. t.0.shared.key.waiters ≡ waiters) }
     ensures value { IfOk result (λ t. t.0.shared.key.value.value ≡ value) }
     ensures table { IfOk result (λ t. t.1.table_id ≡ t.0.shared.table_id) }
-    ensures seat { IfOk result (λ t. t.1.me ≡ (first_view D.discipline.algorithm passes (V.tag value), [])) }
+    ensures seat { IfOk result (λ t. t.1.me ≡ (first_view D.discipline.algorithm waiters passes (V.tag value), [])) }
     ensures refused { IfErr result (λ r. r.value ≡ value) }
 {
     D::is_disciplined();
     let about = Opening {
         passes,
+        waiters,
         value: Snapshot::of(&value),
     };
     let mut slots = Vec::new(alloc);
@@ -72,9 +75,9 @@ pub fn split_passes<V: Cargo, D: Disciplined>(
     requires some { 0 < passes }
     requires key { words.now.key.passes ≡ passes }
     requires table { seat.table_id ≡ words.now.table_id }
-    requires seat { seat.me ≡ (first_view D.discipline.algorithm passes (V.tag words.now.key.value.value), []) }
+    requires seat { seat.me ≡ (first_view D.discipline.algorithm words.now.key.waiters passes (V.tag words.now.key.value.value), []) }
     requires room { (room.items ≡ []) × (passes ≤ vec_capacity room) }
-    ensures { AreAll (λ p. badge_place p.badge) (lock_name D.discipline.algorithm words.now.table_id)
+    ensures { AreAll (λ p. badge_place p.badge) (lock_name D.discipline.algorithm words.now.key.waiters words.now.table_id)
         (V.tag words.now.key.value.value) passes result.items }
 {
     D::is_disciplined();
@@ -98,10 +101,11 @@ pub fn join_passes<V: Cargo, D: Disciplined>(
 ) -> Seat<Option<V>, View>
     requires size { IsSized D.discipline.algorithm words.now.key.passes words.now.table_id }
     requires some { 0 < words.now.key.passes }
-    requires all { AreAll (λ p. badge_place p.badge) (lock_name D.discipline.algorithm words.now.table_id)
+    requires all { AreAll (λ p. badge_place p.badge) (lock_name D.discipline.algorithm words.now.key.waiters words.now.table_id)
         (V.tag words.now.key.value.value) words.now.key.passes passes.items }
     ensures table { result.table_id ≡ words.now.table_id }
     ensures idle { result.me.0.phase ≡ Idle }
+    ensures silent { result.me.0.announced ≡ false }
     ensures all { passes_of result.me.0 ≡ words.now.key.passes }
 {
     D::is_disciplined();
@@ -124,6 +128,7 @@ pub fn into_value<V: Cargo, D: Disciplined>(
     requires table { seat.table_id ≡ table.shared.table_id }
     requires size { IsSized D.discipline.algorithm table.shared.key.passes table.shared.table_id }
     requires idle { seat.me.0.phase ≡ Idle }
+    requires silent { seat.me.0.announced ≡ false }
     requires all { passes_of seat.me.0 ≡ table.shared.key.passes }
     ensures fit { V.fit result }
     ensures tagged { V.tag result ≡ V.tag table.shared.key.value.value }

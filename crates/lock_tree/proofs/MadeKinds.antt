@@ -3,11 +3,16 @@ use Rattle.std.proofs.Common.{◌≡◌, ℕ, List, Some, ap, sym, ◌∙◌}
 use Rattle.std.specs.Prelude.{All, IfOk, Result, slice_get, Ok, Err}
 use Rattle.std.proofs.lemmas.List.Elements.{All-weaker}
 use Rattle.lock_plan.specs.declared.kind.LockKind.{LockKind}
+use Rattle.ticket_lock.specs.declared.lock.Ticket.{Ticket as TicketLock}
+use Rattle.mcs_lock.specs.declared.lock.Mcs.{Mcs as McsLock}
+use Rattle.clh_lock.specs.declared.lock.Clh.{Clh as ClhLock}
+use Rattle.hemlock_lock.specs.declared.lock.Hemlock.{Hemlock as HemlockLock}
 use Rattle.lock_tree.specs.Kinds.{IsOfKindAt, kind_of}
 use Rattle.lock_tree.specs.declared.kinds.Kinds.{Kinds}
 
 -- locks of the kind at a place of a list
-pub all_at : {A T M C H : Type 0} (lock : A → Kinds T M C H) (kinds : List LockKind) (level : ℕ) (kind : LockKind) (locks : List A)
+pub all_at : {A V : Type 0} (lock : A → Kinds (TicketLock V) (McsLock V) (ClhLock V) (HemlockLock V)) (kinds : List LockKind) (level : ℕ)
+    (kind : LockKind) (locks : List A)
     → slice_get kinds level ≡ Some kind → All (λ b. kind_of (lock b) ≡ kind) locks → All (λ b. IsOfKindAt kinds level (lock b)) locks
 all_at lock kinds level kind locks at are = All-weaker (λ b. kind_of (lock b) ≡ kind) (λ b. IsOfKindAt kinds level (lock b)) (λ b e. at
     ∙ ap Some (sym e)) locks are

@@ -1,25 +1,25 @@
 //! A basic lock whose kind is chosen when it is made.
 ghost use Rattle.std.specs.Prelude.{◌≡◌, ◌≢◌, ◌+◌, ◌<◌, true, false, IfOk, IfErr};
-ghost use Rattle.lock_plan.specs.declared.kind.LockKind.TheVariants.{Mcs as mcs_kind};
 ghost use Rattle.lock_rules.specs.Holders.{holder_of};
 ghost use Rattle.lock_rules.specs.Passes.{AreAll, IsOf};
 ghost use Rattle.lock_rules.specs.Steps.{IfNot, IfGot, IsNot, IsGot};
 ghost use Rattle.lock_rules.specs.Tokens.{view_of, badge_place, badge_waiting};
 ghost use Rattle.lock_rules.specs.declared.step.Answer.TheVariants.{Open, Yes};
-ghost use Rattle.lock_tree.specs.Kinds.{by_kind, kind_of, only_queues};
+ghost use Rattle.lock_rules.specs.declared.view.Algorithm.TheVariants.{Mcs as mcs_algorithm};
+ghost use Rattle.lock_tree.specs.Kinds.{algorithm_of, by_kind, kind_of, only_queues};
 ghost use Rattle.lock_tree.specs.Leaves.{AnyRests, any_waiting};
 
 use crate::any_leave::AnyLeave;
-use crate::kinds::Kinds;
+use crate::kinds::{Kinds, kind_with, parts_of};
 use clh_lock::Clh;
 use hemlock_lock::Hemlock;
 use lock_plan::LockKind;
-use lock_rules::{Basic, Cargo, Held, Pass, Queue, Refused, Step};
+use lock_rules::{Algorithm, Basic, Cargo, Held, Pass, Queue, Refused, Step};
 use mcs_lock::Mcs;
 use std::alloc::Global;
 use ticket_lock::Ticket;
 
-/// A lock of one of the four kinds.
+/// A lock of one of the four kinds, which learns of waiters in one of the two ways.
 #[derive(Drop)]
 pub struct AnyLock<V: Cargo> {
     lock: Kinds<Ticket<V>, Mcs<V>, Clh<V>, Hemlock<V>>,
@@ -31,10 +31,10 @@ impl<V: Cargo> AnyLock<V> {
         ensures { result ≡ kind_of self.now.lock }
     {
         match &self.lock {
-            Kinds::Ticket(_) => LockKind::Tkt,
-            Kinds::Mcs(_) => LockKind::Mcs,
-            Kinds::Clh(_) => LockKind::Clh,
-            Kinds::Hemlock(_) => LockKind::Hem,
+            Kinds::Ticket(lock) => kind_with(Algorithm::Ticket, lock.waiters()),
+            Kinds::Mcs(lock) => kind_with(Algorithm::Mcs, lock.waiters()),
+            Kinds::Clh(lock) => kind_with(Algorithm::Clh, lock.waiters()),
+            Kinds::Hemlock(lock) => kind_with(Algorithm::Hemlock, lock.waiters()),
         }
     }
 }
@@ -84,9 +84,10 @@ impl<V: Cargo> Basic<V> for AnyLock<V> {
             ⟦<Hemlock<V> as Basic<V>>⟧.count m.0.lock) m.1.items) }
         ensures refused { IfErr result (λ r. r.value ≡ value) }
     {
-        match recipe {
-            LockKind::Tkt => {
-                let (lock, list) = Ticket::make(alloc, (), passes, value)?;
+        let (algorithm, waiters) = parts_of(recipe);
+        match algorithm {
+            Algorithm::Ticket => {
+                let (lock, list) = Ticket::make(alloc, waiters, passes, value)?;
                 Ok((
                     AnyLock {
                         lock: Kinds::Ticket(lock),
@@ -94,8 +95,8 @@ impl<V: Cargo> Basic<V> for AnyLock<V> {
                     list,
                 ))
             }
-            LockKind::Mcs => {
-                let (lock, list) = Mcs::make(alloc, (), passes, value)?;
+            Algorithm::Mcs => {
+                let (lock, list) = Mcs::make(alloc, waiters, passes, value)?;
                 Ok((
                     AnyLock {
                         lock: Kinds::Mcs(lock),
@@ -103,8 +104,8 @@ impl<V: Cargo> Basic<V> for AnyLock<V> {
                     list,
                 ))
             }
-            LockKind::Clh => {
-                let (lock, list) = Clh::make(alloc, (), passes, value)?;
+            Algorithm::Clh => {
+                let (lock, list) = Clh::make(alloc, waiters, passes, value)?;
                 Ok((
                     AnyLock {
                         lock: Kinds::Clh(lock),
@@ -112,8 +113,8 @@ impl<V: Cargo> Basic<V> for AnyLock<V> {
                     list,
                 ))
             }
-            LockKind::Hem => {
-                let (lock, list) = Hemlock::make(alloc, (), passes, value)?;
+            Algorithm::Hemlock => {
+                let (lock, list) = Hemlock::make(alloc, waiters, passes, value)?;
                 Ok((
                     AnyLock {
                         lock: Kinds::Hemlock(lock),
@@ -129,8 +130,8 @@ impl<V: Cargo> Basic<V> for AnyLock<V> {
         requires own { IsOf (by_kind ⟦<Ticket<V> as Basic<V>>⟧.name ⟦<Mcs<V> as Basic<V>>⟧.name ⟦<Clh<V> as Basic<V>>⟧.name
             ⟦<Hemlock<V> as Basic<V>>⟧.name self.now.lock) (by_kind ⟦<Ticket<V> as Basic<V>>⟧.tag ⟦<Mcs<V> as Basic<V>>⟧.tag
             ⟦<Clh<V> as Basic<V>>⟧.tag ⟦<Hemlock<V> as Basic<V>>⟧.tag self.now.lock) (badge_place pass.badge) }
-        ensures only_queues { only_queues (kind_of self.now.lock) ≡ true → IsNot result }
-        ensures preceded { IfNot result (λ q. only_queues (kind_of self.now.lock) ≡ false → (badge_waiting q.badge).preceded ≡ true) }
+        ensures only_queues { only_queues (algorithm_of self.now.lock) ≡ true → IsNot result }
+        ensures preceded { IfNot result (λ q. only_queues (algorithm_of self.now.lock) ≡ false → (badge_waiting q.badge).preceded ≡ true) }
         ensures queue { IfNot result (λ q. (badge_waiting q.badge).place ≡ badge_place pass.badge) }
         ensures entered { IfNot result (λ q. (view_of q.badge).entries ≡ (view_of pass.badge).entries + 1) }
         ensures held { IfGot result (λ h. (holder_of h).place ≡ badge_place pass.badge) }
@@ -175,8 +176,8 @@ impl<V: Cargo> Basic<V> for AnyLock<V> {
             ⟦<Clh<V> as Basic<V>>⟧.tag ⟦<Hemlock<V> as Basic<V>>⟧.tag self.now.lock }
         requires relied_on { V.parked held.value ≡ true → (holder_of held).tested ≡ Yes }
         requires said { V.said held.value ≢ Open → V.said held.value ≡ (holder_of held).tested }
-        ensures leaves_at_once { only_queues (kind_of self.now.lock) ≡ true → IsGot result }
-        ensures behind { IfNot result (λ l. kind_of self.now.lock ≡ mcs_kind → (any_waiting l).followed ≡ true) }
+        ensures leaves_at_once { only_queues (algorithm_of self.now.lock) ≡ true → IsGot result }
+        ensures behind { IfNot result (λ l. algorithm_of self.now.lock ≡ mcs_algorithm → (any_waiting l).followed ≡ true) }
         ensures leave { IfNot result (λ l. (any_waiting l).place ≡ (holder_of held).place) }
         ensures loaded { IfNot result (λ l. (any_waiting l).loads ≡ (holder_of held).loads + 1) }
         ensures unready { IfNot result (λ l. (any_waiting l).ready ≡ false) }

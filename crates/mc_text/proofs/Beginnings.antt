@@ -1,5 +1,6 @@
 -- The whole command that a text begins with: the relation and the reading of it agree.
-use Rattle.std.proofs.Common.{◌≡◌, ℕ, ◌+◌, ◌<◌, ◌≤◌, Bool, true, false, List, ◌∷◌, ◌++◌, length, take, drop, Option, Some, None, option_map, option_and_then, inl, inr, refl, sym, ap, ◌∙◌, subst, arith}
+use Rattle.std.proofs.Common.{◌≡◌, ℕ, ◌+◌, ◌<◌, ◌≤◌, Bool, true, false, List, ◌∷◌, ◌++◌, length, take, drop, Option, Some, None, option_map}
+use Rattle.std.proofs.Common.{option_and_then, inl, inr, refl, sym, ap, ◌∙◌, subst, arith}
 use Rattle.std.proofs.lemmas.List.{length-append, length-take-le, length-drop, take-append-drop, take_at, drop_at}
 use Rattle.byte_text.specs.Cuts.{IsCutAt}
 use Rattle.byte_text.proofs.CutLaws.{CutsAt, cuts_of}

@@ -1,5 +1,6 @@
 -- Lines that are told by their first letter: each is a command by itself, and not `quit`.
-use Rattle.std.proofs.Common.{◌≡◌, ℕ, suc, Bool, true, false, List, [], ◌∷◌, ◌++◌, ◌+◌, ◌-◌, ◌==◌, ◌<◌, ◌≤◌, length, take, drop, nat_lt, cond, Option, Some, None, Ok, Err, inl, inr, refl, sym, ap, ◌∙◌, subst, codes, append_assoc, arith, tests}
+use Rattle.std.proofs.Common.{◌≡◌, ℕ, suc, Bool, true, false, List, [], ◌∷◌, ◌++◌, ◌+◌, ◌-◌, ◌==◌, ◌<◌, ◌≤◌, length, take, drop, nat_lt}
+use Rattle.std.proofs.Common.{cond, Option, Some, None, Ok, Err, inl, inr, refl, sym, ap, ◌∙◌, subst, codes, append_assoc, arith, tests}
 use Rattle.std.specs.List.{filter, slice_split, onto_first}
 use Rattle.std.specs.Option.{option_map_or}
 use Rattle.std.specs.Str.{bytes_eq}
@@ -201,7 +202,8 @@ first_word letter (part ∷ parts) =
     record {
       word = part;
       others = kept;
-      words_are = ap (λ (keep : Bool). cond {A = List (List ℕ)} keep ((letter ∷ part) ∷ kept) kept) (lt-ltb 0 (length (letter ∷ part)) long);
+      words_are =
+          ap (λ (keep : Bool). cond {A = List (List ℕ)} keep ((letter ∷ part) ∷ kept) kept) (lt-ltb 0 (length (letter ∷ part)) long);
     }
 
 begins_so : (letter : ℕ) (more : List ℕ) → (letter == 32) ≡ false → BeginsSo letter (words (letter ∷ more))

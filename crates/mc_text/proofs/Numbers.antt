@@ -1,5 +1,5 @@
 -- Numbers of any size, and of one digit.
-use Rattle.std.proofs.Common.{◌≡◌, ◌+◌, ◌-◌, ◌<◌, ◌≤◌, ℕ, true, List, [], ◌∷◌, Some, Ok, Err, refl, arith}
+use Rattle.std.proofs.Common.{◌≡◌, ◌+◌, ◌-◌, ◌<◌, ◌≤◌, ℕ, true, List, [], ◌∷◌, Some, Ok, Err, length, get_or, refl, arith}
 use Rattle.std.specs.Char.{digit_value}
 use Rattle.std.specs.Str.Parse.{IsNumeral}
 use Rattle.std.proofs.lemmas.Str.{digit_value_digit}
@@ -19,8 +19,15 @@ unfolding level_of
 level_none word lacks = rw (no_decimal word lacks) refl
 
 -- one digit is a number
-pub one_digit : (limit digit : ℕ) → 48 ≤ digit → digit ≤ 57 → 9 < limit → number_below limit (digit ∷ []) ≡ Some (digit - 48)
+one_digit : (limit digit : ℕ) → 48 ≤ digit → digit ≤ 57 → 9 < limit → number_below limit (digit ∷ []) ≡ Some (digit - 48)
 one_digit limit digit low high large =
     let value : digit_value digit + 48 ≡ digit = digit_value_digit digit (low, high) in
     let numeral : IsNumeral 10 (digit ∷ []) = (omega arith, (omega (arith, value), tt)) in
     below_limit limit (digit - 48) (digit ∷ []) numeral (omega (arith, value)) (omega arith)
+
+-- a word of one digit
+pub digit_word : (limit : ℕ) (word : List ℕ) → length word ≡ 1 → 48 ≤ get_or word 0 0 → get_or word 0 0 ≤ 57 → 9 < limit
+    → number_below limit word ≡ Some (get_or word 0 0 - 48)
+digit_word limit [] one low high large = absurd (omega arith)
+digit_word limit (digit ∷ []) one low high large = one_digit limit digit low high large
+digit_word limit (digit ∷ next ∷ others) one low high large = absurd (omega arith)

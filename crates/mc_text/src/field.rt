@@ -95,7 +95,6 @@ pub(crate) fn read_number32(word: &[u8]) -> Result<u32, LineFault>
 }
 
 // The number that a word writes, where it is at most `greatest`. Many numbers have one digit, which is read at once.
-#[tactic(auto, using(crate::proofs::Numbers::one_digit))]
 #[inline(always)]
 fn number_of(greatest: u64, word: &[u8]) -> Option<u64>
     requires { 9 ≤ greatest }

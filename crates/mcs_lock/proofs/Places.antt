@@ -1,7 +1,9 @@
 -- The seats of an MCS lock's queue, by their places.
-use Rattle.std.proofs.Common.{◌≡◌, ◌≢◌, ℕ, suc, ◌<◌, ◌≤◌, true, false, List, length, refl, ap, sym, ◌∙◌, inl, arith}
+use Rattle.std.proofs.Common.{◌≡◌, ◌≢◌, ℕ, zero, suc, ◌<◌, ◌≤◌, true, false, List, [], ◌∷◌, length, slice_index, refl}
+use Rattle.std.proofs.Common.{ap, sym, ◌∙◌, inl, arith}
 use mathlib.Core.Option.{some, some-injective}
 use lib.ListN.{get_elem?}
+use Rattle.lock_rules.specs.Rows.{waiting}
 use Rattle.lock_rules.specs.Tag.{Tag}
 use Rattle.lock_rules.specs.declared.view.Phase.TheVariants.{Queued}
 use Rattle.lock_rules.specs.declared.view.View.{View}
@@ -11,7 +13,21 @@ use Rattle.lock_tables.proofs.Numbers.{number_below, one_number}
 use Rattle.lock_tables.specs.Numbers.{by_pass}
 use Rattle.lock_tables.proofs.Stands.{has_stands}
 use Rattle.lock_tables.proofs.Queues.{lives, no_place, one_seat_of}
-use Rattle.mcs_lock.specs.Rule.{IsPlaced, NamesBehind, name, mcs_discipline}
+use Rattle.mcs_lock.specs.Rule.{tail, next, locked, name, IsPlaced, NamesBehind, mcs_discipline}
+
+-- words of passes, and of their names, are none that counts waiters
+pub tail_waiting : tail ≢ waiting
+tail_waiting e = absurd (omega arith)
+
+pub next_waiting : (p : ℕ) → next p ≢ waiting
+next_waiting p e = absurd (omega arith)
+
+pub locked_waiting : (p : ℕ) → locked p ≢ waiting
+locked_waiting p e = absurd (omega arith)
+
+pub none_left : (l : List ℕ) → length l ≡ 0 → l ≡ []
+none_left [] e = refl
+none_left (x ∷ xs) e = absurd (omega arith)
 
 -- a seat's view at a place is one
 pub one_view : (seats : List ℕ) (views : List View) (i : ℕ) (u v : View) → IsPlaced seats views i u → IsPlaced seats views i v → u ≡ v
@@ -115,3 +131,10 @@ module _ (n : ℕ) (tag : Tag) (words seats : List ℕ) (views : List View) (q :
   -- the seat at each place has a view
   pub placed_at : (i : ℕ) → i < length seats → (u : View) × IsPlaced seats views i u
   placed_at i h = let t = there seats i h in let b = q.each_place i t.0 t.1 in (b.view, record { seat = t.0; place = t.1; at = b.at })
+
+  -- where `tail` is 0, the queue is empty
+  pub no_seats : slice_index words tail ≡ 0 → seats ≡ []
+  no_seats e = none_left seats (elim (length seats) as (λ x. length seats ≡ x → x ≡ 0) [
+    | zero ↦ λ _. refl
+    | suc m ↦ λ f. let u = placed_at m (omega (arith, f)) in let z = q.core.last m u.0 u.1 f in absurd (omega (arith, z, e))
+  ] refl)

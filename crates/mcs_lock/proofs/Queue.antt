@@ -1,23 +1,26 @@
 -- The queue computed from words and views is that of the rule, and the rule holds at the start and where seats are cut and joined.
 use Rattle.std.proofs.Common.{◌≡◌, ◌≢◌, ℕ, zero, suc, ◌<◌, ◌≤◌, Bool, true, false, cond, ◌&&◌, ◌==◌, eq-eqb, List, [], ◌∷◌, ◌++◌, length}
-use Rattle.std.proofs.Common.{map, take, set, slice_index, replicate, refl, ap, sym, ◌∙◌, ⊎_elim, arith, length-append}
+use Rattle.std.proofs.Common.{map, take, set, slice_index, replicate, refl, ap, sym, ◌∙◌, subst, ⊎_elim, arith, length-append}
 use Rattle.std.proofs.Math.ListN.{length-set}
 use Rattle.std.proofs.lemmas.List.{map-append}
 use mathlib.Core.Option.{some, some-injective, some-ne-none}
 use lib.ListN.{get_elem?}
 use borrow.Author.Tests.{eqb-true}
+use Rattle.atomic_table.proofs.Lists.{at_set}
 use Rattle.lock_rules.specs.Tag.{Tag}
-use Rattle.lock_rules.specs.Rows.{row_of}
+use Rattle.lock_rules.specs.Rows.{row_of, waiting}
 use Rattle.lock_rules.specs.Views.{first_view, without_next, next_split, joined_view, spent_view}
 use Rattle.lock_rules.specs.declared.view.Algorithm.TheVariants.{Mcs}
 use Rattle.lock_rules.specs.declared.view.View.{View}
-use Rattle.lock_tables.specs.Laws.{IsDisciplined, number_at}
+use Rattle.lock_rules.specs.declared.view.Waiters.{Waiters}
+use Rattle.lock_tables.specs.Laws.{IsDisciplined, IsNoted, number_at}
 use Rattle.lock_tables.specs.Rule.{is_busy, IsQueued}
-use Rattle.lock_tables.proofs.Lists.{number_is, at_below, no_true, both_true}
+use Rattle.lock_tables.proofs.Lists.{number_is, at_below, no_true, both_true, wrote_else}
 use Rattle.lock_tables.proofs.Queues.{IsSame, WasAt, lives, few_seats, placed_before_split, placed_before_join, after_split, after_join}
 use Rattle.lock_tables.proofs.Queues.{one_seat_of}
 use Rattle.mcs_lock.specs.Rule.{tail, next, locked, name, before, passes_to, queue_of, IsPlaced, IsPrepared, IsLinked, mcs_discipline}
-use Rattle.mcs_lock.proofs.Places.{KeepsLinks, WasPlaced, still, names_still, names_as, busy_at, live_at, placed_at}
+use Rattle.mcs_lock.proofs.Places.{tail_waiting, next_waiting, locked_waiting, none_left, KeepsLinks, WasPlaced, still, names_still}
+use Rattle.mcs_lock.proofs.Places.{names_as, busy_at, live_at, placed_at}
 use Rattle.mcs_lock.proofs.Core.{core_from}
 
 -- the name of the pass before, read off the view that the seat j has
@@ -52,10 +55,6 @@ none_to : (words : List ℕ) (views : List View) (most : ℕ) → passes_to word
 none_to words views zero = refl
 none_to words views (suc most) = refl
 
-none_left : (l : List ℕ) → length l ≡ 0 → l ≡ []
-none_left [] e = refl
-none_left (x ∷ xs) e = absurd (omega arith)
-
 long_replicate : (k : ℕ) → length {A = ℕ} (replicate k 0) ≡ k
 long_replicate zero = refl
 long_replicate (suc k) = ap suc (long_replicate k)
@@ -69,12 +68,12 @@ index_replicate (suc k) (suc i) = index_replicate k i
 fresh_prepared : (words : List ℕ) (v : View) → v.unlinked ≡ false → v.raised ≡ false → IsPrepared words v
 fresh_prepared words v a b = record { unlinked = λ e. absurd (no_true (sym e ∙ a)); raised = λ e. absurd (no_true (sym e ∙ b)) }
 
-first_prepared : (n : ℕ) (tag : Tag) (words : List ℕ) (j : ℕ) (v : View) → get_elem? (first_view Mcs n tag ∷ []) j ≡ some v
-    → IsPrepared words v
-first_prepared n tag words zero v e = let s : first_view Mcs n tag ≡ v =
-    some-injective (first_view Mcs n tag) v e
+first_prepared : (c : Waiters) (n : ℕ) (tag : Tag) (words : List ℕ) (j : ℕ) (v : View)
+    → get_elem? (first_view Mcs c n tag ∷ []) j ≡ some v → IsPrepared words v
+first_prepared c n tag words zero v e = let s : first_view Mcs c n tag ≡ v =
+    some-injective (first_view Mcs c n tag) v e
     in fresh_prepared words v (ap (λ (x : View). x.unlinked) (sym s)) (ap (λ (x : View). x.raised) (sym s))
-first_prepared n tag words (suc j) v e = absurd (some-ne-none v (sym e))
+first_prepared c n tag words (suc j) v e = absurd (some-ne-none v (sym e))
 
 -- the name that `locked` at 1 lets through
 one_is : (words : List ℕ) (p x : ℕ) → slice_index words (locked p) ≡ 1 → cond (slice_index words (locked p) == 1) x 0 ≡ x
@@ -145,26 +144,71 @@ module _ (n : ℕ) (tag : Tag) (words seats : List ℕ) (views : List View) (q :
 same_links : (u v : View) → IsSame u v → KeepsLinks v u
 same_links u v s = record { number = s.number; predecessor = s.predecessor; linked = λ e. s.linked ∙ e; queued = λ e. sym s.phase ∙ e }
 
-same_prepared : (words : List ℕ) (u v : View) → IsSame u v → IsPrepared words v → IsPrepared words u
-same_prepared words u v s p = record {
-  unlinked = λ e. let r = p.unlinked (sym s.unlinked ∙ e) in (s.phase ∙ r.0, ap (λ (x : ℕ). slice_index words (next x)) s.number ∙ r.1);
-  raised = λ e. let r = p.raised (sym s.raised ∙ e) in (s.phase ∙ r.0, ap (λ (x : ℕ). slice_index words (locked x)) s.number ∙ r.1);
+-- the words that the links of the queue speak of
+record AreKept (words words' : List ℕ) : Type 0 where
+  pub tails : slice_index words' tail ≡ slice_index words tail
+  pub nexts : (p : ℕ) → slice_index words' (next p) ≡ slice_index words (next p)
+  pub lockeds : (p : ℕ) → slice_index words' (locked p) ≡ slice_index words (locked p)
+
+all_kept : (words : List ℕ) → AreKept words words
+all_kept words = record { tails = refl; nexts = λ p. refl; lockeds = λ p. refl }
+
+wrote_waiting : (words : List ℕ) (x : ℕ) → AreKept words (set words waiting x)
+wrote_waiting words x = record {
+  tails = wrote_else words waiting tail x tail_waiting;
+  nexts = λ p. wrote_else words waiting (next p) x (next_waiting p);
+  lockeds = λ p. wrote_else words waiting (locked p) x (locked_waiting p);
 }
 
+same_prepared : (words words' : List ℕ) (u v : View) → AreKept words words' → IsSame u v → IsPrepared words v → IsPrepared words' u
+same_prepared words words' u v k s p = record {
+  unlinked = λ e. let r = p.unlinked (sym s.unlinked ∙ e) in
+      (s.phase ∙ r.0, k.nexts u.number ∙ ap (λ (x : ℕ). slice_index words (next x)) s.number ∙ r.1);
+  raised = λ e. let r = p.raised (sym s.raised ∙ e) in
+      (s.phase ∙ r.0, k.lockeds u.number ∙ ap (λ (x : ℕ). slice_index words (locked x)) s.number ∙ r.1);
+}
+
+-- a view that differs in what it knows of steps and waiters
+noted_same : (v w : View) → IsNoted v w → IsSame w v
+noted_same v w e = record {
+  phase = ap (λ (x : View). x.phase) e;
+  number = ap (λ (x : View). x.number) e;
+  spent = ap (λ (x : View). x.spent) e;
+  ticket = ap (λ (x : View). x.ticket) e;
+  node = ap (λ (x : View). x.node) e;
+  predecessor = ap (λ (x : View). x.predecessor) e;
+  unlinked = ap (λ (x : View). x.unlinked) e;
+  raised = ap (λ (x : View). x.raised) e;
+  linked = ap (λ (x : View). x.linked) e;
+  successor = ap (λ (x : View). x.successor) e;
+  owes = ap (λ (x : View). x.owes) e;
+}
+
+-- each seat was there, where one has a view that differs so
+was_noted : (views : List View) (id : ℕ) (v w : View) → get_elem? views id ≡ some v → IsNoted v w → (j : ℕ) (u : View)
+    → get_elem? (set views id w) j ≡ some u → WasAt views j u
+was_noted views id v w at noted j u e = ⊎_elim
+    (λ (t : (j ≡ id) × (w ≡ u)). subst (WasAt views j) t.1
+    (record { view = v; at = ap (get_elem? views) t.0 ∙ at; same = noted_same v w noted }))
+    (λ (t : (j ≢ id) × (get_elem? views j ≡ some u)). record { view = u; at = t.1; same = noted_same u u refl })
+    (at_set views id j w u e)
+
 -- where the seats of the queue have views like they had
-core_same : (n : ℕ) (words seats : List ℕ) (views views' : List View) → IsLinked n words seats views → length views ≤ length views'
+core_same : (n : ℕ) (words words' seats : List ℕ) (views views' : List View) → AreKept words words' → IsLinked n words seats views
+    → length views ≤ length views'
     → ((i j : ℕ) (u : View) → get_elem? seats i ≡ some j → get_elem? views' j ≡ some u → WasAt views j u)
-    → ((j : ℕ) (u : View) → get_elem? views' j ≡ some u → u.spent ≡ false → IsPrepared words u)
-    → IsLinked n words seats views'
-core_same n words seats views views' k long was prepared =
+    → ((j : ℕ) (u : View) → get_elem? views' j ≡ some u → u.spent ≡ false → IsPrepared words' u)
+    → IsLinked n words' seats views'
+core_same n words words' seats views views' same k long was prepared =
     let placed = λ (i : ℕ) (u : View) (p : IsPlaced seats views' i u). let w =
     was i p.seat u p.place p.at in let r : IsPlaced seats views i w.view = record { seat = p.seat; place = p.place; at = w.at } in r in
     let before_it : (i : ℕ) (u : View) → IsPlaced seats views' i u → WasPlaced seats views i u
     = λ i u p. (let w = was i p.seat u p.place p.at
     in record { view = w.view; placed = placed i u p; keeps = same_links u w.view w.same }) in
-    core_from n words words seats views views' k refl long before_it (λ i u p. refl)
-    (λ i u p ne. names_still seats views views' i (slice_index words (next u.number)) (still seats views views' long before_it (suc i))
-    (k.links i u p ne))
+    core_from n words words' seats views views' k same.tails long before_it (λ i u p. same.lockeds u.number)
+    (λ i u p ne. names_still seats views views' i (slice_index words' (next u.number)) (still seats views views' long before_it (suc i))
+    (names_as seats views i (slice_index words (next u.number)) (slice_index words' (next u.number)) (sym (same.nexts u.number))
+    (k.links i u p (λ e. ne (same.nexts u.number ∙ e)))))
     (λ i u p ne.
     let w = was i p.seat u p.place p.at in
     let b = k.noted i w.view (placed i u p) (λ e. ne (w.same.successor ∙ e)) in
@@ -175,32 +219,40 @@ core_same n words seats views views' k long was prepared =
 pub disciplined : IsDisciplined mcs_discipline
 disciplined = record {
   opens_long = λ n. long_replicate (row_of Mcs n);
-  opens = λ n tag some_pass few. record {
+  opens_unannounced = λ n. index_replicate (row_of Mcs n) waiting;
+  opens = λ c n tag some_pass few. record {
     empty = λ _. index_replicate (row_of Mcs n) tail;
     last = λ i v p. absurd (some-ne-none p.seat (sym p.place));
     first = λ v p. absurd (some-ne-none p.seat (sym p.place));
     behind = λ i u v p. absurd (some-ne-none p.seat (sym p.place));
     links = λ i v p. absurd (some-ne-none p.seat (sym p.place));
     noted = λ i v p. absurd (some-ne-none p.seat (sym p.place));
-    prepared = λ j v e live. first_prepared n tag (replicate (row_of Mcs n) 0) j v e;
+    prepared = λ j v e live. first_prepared c n tag (replicate (row_of Mcs n) 0) j v e;
   };
-  splits = λ n tag words seats views id v q at live more. core_same n words seats views
-      (set views id (without_next v) ++ next_split v ∷ []) q.core
+  notes = λ n words seats views x id v w at noted k. core_same n words (set words waiting x) seats views (set views id w)
+      (wrote_waiting words x) k (let a = length-set views id w in omega (arith, a))
+      (λ i j u _ e. was_noted views id v w at noted j u e)
+      (λ j u e live. let t = was_noted views id v w at noted j u e in
+      same_prepared words (set words waiting x) u t.view (wrote_waiting words x) t.same
+      (k.prepared j t.view t.at (sym t.same.spent ∙ live)));
+  splits = λ n tag words seats views id v q at live more. core_same n words words seats views
+      (set views id (without_next v) ++ next_split v ∷ []) (all_kept words) q.core
       (let a = length-append (set views id (without_next v)) (next_split v ∷ []) in let b = length-set views id (without_next v)
       in omega (arith, a, b))
       (λ i j u e e'. placed_before_split mcs_discipline n tag words seats views q id v at i j u e e')
       (λ j u e live'. ⊎_elim
-      (λ (t : WasAt views j u). same_prepared words u t.view t.same (q.core.prepared j t.view t.at (sym t.same.spent ∙ live')))
+      (λ (t : WasAt views j u). same_prepared words words u t.view (all_kept words) t.same
+      (q.core.prepared j t.view t.at (sym t.same.spent ∙ live')))
       (λ (t : (j ≡ length views) × (next_split v ≡ u)). fresh_prepared words u (ap (λ (x : View). x.unlinked) (sym t.1))
       (ap (λ (x : View). x.raised) (sym t.1)))
       (after_split views id v at j u e));
-  joins = λ n tag words seats views id v other w q at live apart at' idle plain. core_same n words seats views
-      (set (set views id (joined_view v w)) other spent_view) q.core
+  joins = λ n tag words seats views id v other w q at live apart at' idle plain. core_same n words words seats views
+      (set (set views id (joined_view v w)) other spent_view) (all_kept words) q.core
       (let a = length-set (set views id (joined_view v w)) other spent_view in let b = length-set views id (joined_view v w)
       in omega (arith, a, b))
       (λ i j u e e'. placed_before_join mcs_discipline n tag words seats views q id v other w at at' apart idle i j u e e')
       (λ j u e live'. ⊎_elim
-      (λ (t : (j ≢ other) × WasAt views j u). same_prepared words u t.1.view t.1.same
+      (λ (t : (j ≢ other) × WasAt views j u). same_prepared words words u t.1.view (all_kept words) t.1.same
       (q.core.prepared j t.1.view t.1.at (sym t.1.same.spent ∙ live')))
       (λ (t : (j ≡ other) × (spent_view ≡ u)). fresh_prepared words u (ap (λ (x : View). x.unlinked) (sym t.1))
       (ap (λ (x : View). x.raised) (sym t.1)))

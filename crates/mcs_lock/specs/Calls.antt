@@ -1,5 +1,5 @@
 -- What each call of an MCS lock did: its steps on words, the view that its token then has, and the events.
-use Rattle.std.specs.Prelude.{◌≡◌, ◌≢◌, ◌⊎◌, ℕ, Bool, [], ◌∷◌, Some}
+use Rattle.std.specs.Prelude.{◌≡◌, ◌≢◌, ◌⊎◌, ℕ, Bool, [], ◌∷◌, Some, None}
 use Rattle.atomic_table.specs.Table.{takes}
 use Rattle.atomic_table.specs.declared.badge.Badge.{Badge}
 use Rattle.lock_rules.specs.Holders.{held_view}
@@ -7,16 +7,19 @@ use Rattle.lock_rules.specs.Tag.{Tag}
 use Rattle.lock_rules.specs.Tokens.{view_of}
 use Rattle.lock_rules.specs.declared.held.Held.{Held}
 use Rattle.lock_rules.specs.declared.view.View.{View}
-use Rattle.lock_tables.specs.Happened.{Seated, Stepped, took_view}
+use Rattle.lock_rules.specs.declared.view.Waiters.{Waiters}
+use Rattle.lock_rules.specs.declared.view.Waiters.TheVariants.{Queue, Count}
+use Rattle.lock_tables.specs.Counting.{is_announced, Counted, HasAnnounced, HasWithdrawn}
+use Rattle.lock_tables.specs.Happened.{Seated, Stepped, took_view, announced_view}
 use Rattle.lock_tables.specs.Queue.{Takes, EntersAndTakes}
 use Rattle.lock_tables.specs.Rule.{IsLock}
 use Rattle.mcs_lock.specs.Kinds.{cleared_view, raised_view, queued_view, entered_view, looked_view, others_wait, Cleared, Raised, Entered}
 use Rattle.mcs_lock.specs.Kinds.{Linked, Missed, Tested, Looked, Passed, Ended, Followed}
 use Rattle.mcs_lock.specs.Rule.{tail, locked, name, queue_of, mcs_discipline}
 
--- the view of a pass that has stored both words for its swap
+-- the view of a pass that is announced where the lock counts, and has stored both words for its swap
 abbrev pub ready_view : View → View
-ready_view v = raised_view (cleared_view v)
+ready_view v = raised_view (cleared_view (announced_view v))
 
 module _ {V : Type 0} where
   -- a holder that has put its value back
@@ -28,10 +31,13 @@ module _ {V : Type 0} where
   looked me found = (looked_view me.0 found, me.1)
 
 module _ {V : Type 0} (fit : V → Type 0) (tag_of : V → Tag) (parked : V → Bool) where
-  -- the stores of own `next` and of own `locked`
+  -- where the lock counts, the addition to `waiting`; then the stores of own `next` and of own `locked`
   pub record HasPrepared (before : Badge View) : Type 0 where
-    pub cleared : Cleared {V = V} fit tag_of parked (view_of before, []) (cleared_view (view_of before), [])
-    pub raised : Raised {V = V} fit tag_of parked (cleared_view (view_of before), []) (ready_view (view_of before), [])
+    pub announced : HasAnnounced {V = V} mcs_discipline fit tag_of parked (view_of before).waiters (view_of before, [])
+        (announced_view (view_of before), [])
+    pub cleared : Cleared {V = V} fit tag_of parked (announced_view (view_of before), [])
+        (cleared_view (announced_view (view_of before)), [])
+    pub raised : Raised {V = V} fit tag_of parked (cleared_view (announced_view (view_of before)), []) (ready_view (view_of before), [])
 
   -- the swap, which found a predecessor, and the store of its `next`
   pub record HasEntered (before after : Badge View) : Type 0 where
@@ -42,12 +48,19 @@ module _ {V : Type 0} (fit : V → Type 0) (tag_of : V → Tag) (parked : V → 
         (queued_view (ready_view (view_of before)) found, [])
     pub linked : Linked {V = V} fit tag_of parked (queued_view (ready_view (view_of before)) found, []) (view_of after, [])
 
+  -- where the lock counts, the subtraction from `waiting`, by a pass that has taken and has its value in hand
+  abbrev pub HasTold : View → Held V → Type 0
+  HasTold taken after =
+      HasWithdrawn mcs_discipline fit tag_of parked taken.waiters (taken, (0, None) ∷ []) (held_view after, (0, None) ∷ [])
+
   -- the swap, which found none; the value that was at home is the holder's
   pub record HasEnteredAndTaken (before : Badge View) (after : Held V) : Type 0 where
     pub prepared : HasPrepared before
     pub entered : Stepped (IsLock mcs_discipline fit tag_of parked) queue_of EntersAndTakes (takes 0 (Some after.value)) tail 0
         (name (view_of before).number)
-        (ready_view (view_of before), []) (entered_view (ready_view (view_of before))) (held_view after, (0, Some after.value) ∷ [])
+        (ready_view (view_of before), []) (entered_view (ready_view (view_of before)))
+        (entered_view (ready_view (view_of before)), (0, Some after.value) ∷ [])
+    pub told : HasTold (entered_view (ready_view (view_of before))) after
 
   -- a load of own `locked` that was not 0
   pub record HasMissed (before after : Badge View) : Type 0 where
@@ -56,16 +69,22 @@ module _ {V : Type 0} (fit : V → Type 0) (tag_of : V → Tag) (parked : V → 
     pub step : Missed {V = V} fit tag_of parked (view_of before, []) found (view_of after, [])
 
   -- a load of own `locked` that was 0; the value that was at home is the holder's
-  abbrev pub HasTaken : Badge View → Held V → Type 0
-  HasTaken before after =
-      Stepped (IsLock mcs_discipline fit tag_of parked) queue_of Takes (takes 0 (Some after.value)) (locked (view_of before).number) 0 0
-      (view_of before, []) (took_view (view_of before)) (held_view after, (0, Some after.value) ∷ [])
+  pub record HasTaken (before : Badge View) (after : Held V) : Type 0 where
+    pub step : Stepped (IsLock mcs_discipline fit tag_of parked) queue_of Takes (takes 0 (Some after.value))
+        (locked (view_of before).number) 0 0 (view_of before, []) (took_view (view_of before))
+        (took_view (view_of before), (0, Some after.value) ∷ [])
+    pub told : HasTold (took_view (view_of before)) after
 
-  -- a load of `tail`; the answer is yes exactly where it did not name the holder
-  pub record HasAsked (before now : Held V) (answer : Bool) : Type 0 where
-    pub found : ℕ
-    pub told : answer ≡ others_wait (held_view before) found
-    pub step : Tested fit tag_of parked before.seat.seat.me found now.seat.seat.me
+  -- a load of `tail`, with a yes exactly where it did not name the holder, or in a lock that counts a load of `waiting`, with a yes exactly
+  -- where it was not 0
+  abbrev pub HasAskedBy : Waiters → Held V → Held V → Bool → Type 0
+  HasAskedBy Queue before now answer = (found : ℕ) × (answer ≡ others_wait (held_view before) found)
+      × Tested fit tag_of parked before.seat.seat.me found now.seat.seat.me
+  HasAskedBy Count before now answer = (found : ℕ) × (answer ≡ is_announced found)
+      × Counted mcs_discipline fit tag_of parked before.seat.seat.me found now.seat.seat.me
+
+  abbrev pub HasAsked : Held V → Held V → Bool → Type 0
+  HasAsked before now answer = HasAskedBy (held_view before).waiters before now answer
 
   -- a load of own `next`, which named a successor, and the store of its `locked`
   pub record HasPassed (me : Seated V) (after : Badge View) : Type 0 where

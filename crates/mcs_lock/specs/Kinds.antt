@@ -12,17 +12,18 @@ use Rattle.mcs_lock.specs.Rule.{tail, next, locked, name, pass_named, queue_of, 
 
 -- the pass has stored 0 in its `next`
 abbrev pub cleared_view : View → View
-cleared_view v = record v { unlinked = true }
+cleared_view v = record v { steps = v.steps + 1; unlinked = true }
 
 -- the pass has stored 1 in its `locked`
 abbrev pub raised_view : View → View
-raised_view v = record v { raised = true }
+raised_view v = record v { steps = v.steps + 1; raised = true }
 
 -- the pass is queued behind the one that its swap found
 abbrev pub queued_view : View → ℕ → View
 queued_view v found =
     record v {
       phase = Queued;
+      steps = v.steps + 1;
       entries = v.entries + 1;
       predecessor = found;
       unlinked = false;
@@ -36,6 +37,7 @@ queued_view v found =
 abbrev pub entered_view : View → View
 entered_view v = record v {
   phase = Holding;
+  steps = v.steps + 1;
   entries = v.entries + 1;
   tested = Open;
   predecessor = 0;
@@ -48,19 +50,19 @@ entered_view v = record v {
 
 -- the pass has stored its link
 abbrev pub linked_view : View → View
-linked_view v = record v { linked = true }
+linked_view v = record v { steps = v.steps + 1; linked = true }
 
 -- the holder looked at its `next`
 abbrev pub looked_view : View → ℕ → View
-looked_view v found = record v { loads = v.loads + 1; ready = not (found == 0); successor = found }
+looked_view v found = record v { steps = v.steps + 1; loads = v.loads + 1; ready = not (found == 0); successor = found }
 
 -- the holder's exchange found another pass
 abbrev pub followed_view : View → View
-followed_view v = record v { phase = Leaving; followed = true }
+followed_view v = record v { phase = Leaving; steps = v.steps + 1; followed = true }
 
 -- the pass is idle again
 abbrev pub left_view : View → View
-left_view v = record v { phase = Idle; followed = false }
+left_view v = record v { phase = Idle; steps = v.steps + 1; followed = false }
 
 -- `waiter` says yes where `tail` names another than the holder
 abbrev pub others_wait : View → ℕ → Bool

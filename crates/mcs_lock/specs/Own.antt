@@ -21,6 +21,7 @@ pub record IsSeatOf {S V : Type 0} (own : ℕ) (z : TableId) (key : Opening V) (
   pub plain : IsPlain s.me.0
   pub row : IsRowOf s.me.0 s.table_id
   pub algorithm : s.me.0.algorithm ≡ Mcs
+  pub chosen : s.me.0.waiters ≡ key.waiters
   pub counted : s.me.0.count ≡ key.passes
   pub marked : own ≡ mark_of s.me.0
   pub number : own ≡ s.me.0.number
@@ -33,4 +34,5 @@ module _ {V P : Type 0} where
 
   -- all passes of the lock with this table
   abbrev pub AreMine : (V → Tag) → Shared (Option V) View (Opening V) P → List Pass → Type 0
-  AreMine tag_of s passes = AreAll (λ p. badge_place p.badge) (lock_name Mcs s.table_id) (tag_of s.key.value.value) s.key.passes passes
+  AreMine tag_of s passes =
+      AreAll (λ p. badge_place p.badge) (lock_name Mcs s.key.waiters s.table_id) (tag_of s.key.value.value) s.key.passes passes

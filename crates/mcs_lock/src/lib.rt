@@ -23,6 +23,9 @@
 //! step that found no predecessor or `locked` at 0, and put back before the steps of the release. Each step is a sequentially consistent
 //! operation on one word.
 //!
+//! A lock that counts its waiters has one word more, `waiting`, which `begin` raises by one before its other steps, the call that takes
+//! lowers by one behind the take, and `waiter` loads in place of the tail.
+//!
 //! The tail and the records stand on lines of their own in one `atomic_table`. `specs/Rule` says what holds of them, `specs/Kinds` has the
 //! kinds of step, `specs/Calls` what each call did.
 #![tactic(auto)]
@@ -38,6 +41,6 @@ pub use kinds::{
     CompareAndSwapTail, FetchAndStoreTail, LoadLocked, LoadNext, LoadTail, StoreLocked, StoreNext,
     StorePredecessorNext, StoreSuccessorLocked,
 };
-pub use laws::McsWords;
+pub use laws::{McsWords, rule_has_links};
 pub use leave::Leave;
 pub use lock::Mcs;

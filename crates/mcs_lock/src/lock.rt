@@ -1,12 +1,14 @@
 //! The lock and its calls.
-ghost use Rattle.std.specs.Prelude.{◌≡◌, ◌≢◌, ◌+◌, true, false, refl, ⊤};
+ghost use Rattle.std.specs.Prelude.{◌≡◌, ◌≢◌, ◌+◌, true, false, refl};
 ghost use Rattle.crossbeam_utils.specs.Padded.{padded_value};
 ghost use Rattle.lock_rules.specs.declared.view.Algorithm.TheVariants.{Mcs as mcs_algorithm};
 ghost use Rattle.lock_rules.specs.declared.step.Answer.TheVariants.{Open, Yes};
 ghost use Rattle.lock_rules.specs.Views.{lock_name, answer_of};
-ghost use Rattle.lock_rules.specs.Holders.{holder_of};
+ghost use Rattle.lock_rules.specs.Holders.{held_view, holder_of};
 ghost use Rattle.lock_rules.specs.Steps.{IfNot, IfGot};
 ghost use Rattle.lock_rules.specs.Tokens.{view_of, badge_place, badge_waiting};
+ghost use Rattle.lock_tables.specs.Happened.{counting};
+ghost use Rattle.mcs_lock.specs.Choice.{mcs_waiters};
 ghost use Rattle.mcs_lock.specs.Calls.{HasEntered, HasEnteredAndTaken, HasMissed, HasTaken, HasAsked};
 ghost use Rattle.mcs_lock.specs.Calls.{at_home, HasLeft, HasPassed, IsFollowed, HasWaited};
 ghost use Rattle.mcs_lock.specs.Own.{IsMine, AreMine};
@@ -15,7 +17,7 @@ ghost use Rattle.mcs_lock.specs.Leaves.{leave_waiting, HasHome};
 use crate::laws::McsWords;
 use crate::leave::Leave;
 use crate::steps::Words;
-use lock_rules::{Basic, Cargo, Held, Pass, Queue, Refused, Step};
+use lock_rules::{Basic, Cargo, Held, Pass, Queue, Refused, Step, Waiters};
 use lock_tables::Ruled;
 use std::alloc::Global;
 
@@ -25,8 +27,17 @@ pub struct Mcs<V: Cargo> {
     words: Words<V>,
 }
 
+impl<V: Cargo> Mcs<V> {
+    /// How it learns of waiters.
+    pub fn waiters(&self) -> Waiters
+        ensures { result ≡ mcs_waiters self.now }
+    {
+        self.words.waiters
+    }
+}
+
 impl<V: Cargo> Basic<V> for Mcs<V> {
-    type Recipe = ();
+    type Recipe = Waiters;
 
     type Pass = Pass;
 
@@ -36,21 +47,22 @@ impl<V: Cargo> Basic<V> for Mcs<V> {
 
     type Leave = Leave<V>;
 
-    ghost name = { λ l. lock_name mcs_algorithm (padded_value l.words.table).shared.table_id };
+    ghost name = { λ l. lock_name mcs_algorithm (padded_value l.words.table).shared.key.waiters
+        (padded_value l.words.table).shared.table_id };
 
     ghost tag = { λ l. V.tag (padded_value l.words.table).shared.key.value.value };
 
     ghost count = { λ l. (padded_value l.words.table).shared.key.passes };
 
-    ghost made = { λ _ _. ⊤ };
+    ghost made = { λ l waiters. mcs_waiters l ≡ waiters };
 
     fn make(
         alloc: Global,
-        _recipe: (),
+        waiters: Waiters,
         passes: u32,
         value: V,
     ) -> Result<(Mcs<V>, Vec<Pass>), Refused<V>> {
-        let (words, list) = Words::make(alloc, passes, value)?;
+        let (words, list) = Words::make(alloc, waiters, passes, value)?;
         Ok((Mcs { words }, list))
     }
 
@@ -66,13 +78,19 @@ impl<V: Cargo> Basic<V> for Mcs<V> {
         ensures fit { IfGot result (λ h. V.fit h.value) }
         ensures tagged { IfGot result (λ h. V.tag h.value ≡ V.tag (padded_value self.now.words.table).shared.key.value.value) }
         ensures untested { IfGot result (λ h. (holder_of h).tested ≡ Open) }
+        ensures steps { IfNot result (λ q. (view_of q.badge).steps
+            ≡ (view_of pass.badge).steps + counting (view_of pass.badge).waiters + 4) }
+        ensures steps_taking { IfGot result (λ h. (held_view h).steps
+            ≡ (view_of pass.badge).steps + counting (view_of pass.badge).waiters + 3 + counting (view_of pass.badge).waiters) }
     {
         let (mut seat, own) = self.words.pass_parts(pass);
+        self.words.announce(&mut seat, own);
         self.words.store_next(&mut seat, own);
         self.words.store_locked(&mut seat, own);
         let predecessor = self.words.fetch_and_store_tail(&mut seat, own);
         if predecessor == 0 {
             let value = self.words.take(&mut seat);
+            self.words.withdraw(&mut seat, own);
             return Step::Got(Held::of(seat, value, own, 0));
         }
         self.words
@@ -92,16 +110,20 @@ impl<V: Cargo> Basic<V> for Mcs<V> {
         ensures fit { IfGot result (λ h. V.fit h.value) }
         ensures tagged { IfGot result (λ h. V.tag h.value ≡ V.tag (padded_value self.now.words.table).shared.key.value.value) }
         ensures untested { IfGot result (λ h. (holder_of h).tested ≡ Open) }
+        ensures steps { IfNot result (λ q. (view_of q.badge).steps ≡ (view_of queue.badge).steps + 1) }
+        ensures steps_taking { IfGot result (λ h. (held_view h).steps
+            ≡ (view_of queue.badge).steps + 1 + counting (view_of queue.badge).waiters) }
     {
         let (mut seat, own, predecessor) = self.words.queue_parts(queue);
         if self.words.load_locked(&mut seat, own) != 0 {
             return Step::Not(Queue::of(seat, own, predecessor));
         }
         let value = self.words.take(&mut seat);
+        self.words.withdraw(&mut seat, own);
         Step::Got(Held::of(seat, value, own, predecessor))
     }
 
-    /// The answer is yes exactly where the loaded word isn't the holder's name.
+    /// The answer is yes exactly where the loaded `tail` isn't the holder's name or, in a lock that counts, the loaded number isn't 0.
     fn waiter(&self, held: &mut Held<V>) -> bool
         requires own { IsMine V.tag (padded_value self.now.words.table).shared (holder_of held.old).place }
         ensures asked { HasAsked V.fit V.tag V.parked held.old held.new result }
@@ -109,10 +131,13 @@ impl<V: Cargo> Basic<V> for Mcs<V> {
         ensures value { held.new.value ≡ held.old.value }
         ensures loaded { (holder_of held.new).loads ≡ (holder_of held.old).loads + 1 }
         ensures noted { (holder_of held.new).tested ≡ answer_of result }
+        ensures steps { (held_view held.new).steps ≡ (held_view held.old).steps + 1 }
     {
         let own = self.words.held_number(held);
-        let last = self.words.load_tail(&mut held.seat.seat, own);
-        last != own + 1
+        match self.words.waiters {
+            Waiters::Queue => self.words.load_tail(&mut held.seat.seat, own) != own + 1,
+            Waiters::Count => self.words.count_waiting(&mut held.seat.seat, own) != 0,
+        }
     }
 
     /// The value is put back. The answer is `Got` where the holder saw its successor, which it lets go on, or was alone in the queue.
@@ -130,6 +155,8 @@ impl<V: Cargo> Basic<V> for Mcs<V> {
         ensures behind { IfNot result (λ l. (leave_waiting l).followed ≡ true) }
         ensures rests { IfNot result (λ l. HasHome V.fit V.tag V.parked l) }
         ensures pass { IfGot result (λ p. badge_place p.badge ≡ (holder_of held).place) }
+        ensures steps { IfNot result (λ l. l.seat.me.0.steps ≡ (held_view held).steps + 2) }
+        ensures steps_leaving { IfGot result (λ p. (view_of p.badge).steps ≡ (held_view held).steps + 2) }
     {
         let (mut seat, value, own) = self.words.held_parts(held);
         self.words.put(&mut seat, own, value);
@@ -155,6 +182,8 @@ impl<V: Cargo> Basic<V> for Mcs<V> {
         ensures unready { IfNot result (λ l. (leave_waiting l).ready ≡ false) }
         ensures rests { IfNot result (λ l. HasHome V.fit V.tag V.parked l) }
         ensures pass { IfGot result (λ p. badge_place p.badge ≡ (leave_waiting leave).place) }
+        ensures steps { IfNot result (λ l. l.seat.me.0.steps ≡ leave.seat.me.0.steps + 1) }
+        ensures steps_leaving { IfGot result (λ p. (view_of p.badge).steps ≡ leave.seat.me.0.steps + 2) }
     {
         let (mut seat, number) = self.words.leave_parts(leave);
         let successor = self.words.load_next(&mut seat, number);
@@ -181,6 +210,8 @@ impl<V: Cargo> Ruled<V> for Mcs<V> {
     type Algorithm = McsWords;
 
     ghost table = { λ l. (padded_value l.words.table).shared.table_id };
+
+    ghost waiters = { λ l. (padded_value l.words.table).shared.key.waiters };
 
     ghost named = { λ l. refl };
 }

@@ -3,16 +3,18 @@ ghost use Rattle.std.specs.Prelude.{◌≡◌, ◌≢◌, ◌+◌, ◌-◌, ◌<
 ghost use Rattle.crossbeam_utils.specs.Padded.{padded_value};
 ghost use Rattle.lock_rules.specs.Holders.{holder_of};
 ghost use Rattle.lock_rules.specs.Tokens.{view_of, badge_place, badge_waiting};
+ghost use Rattle.lock_rules.specs.Views.{is_counted};
 ghost use Rattle.lock_rules.specs.declared.view.Algorithm.TheVariants.{Mcs as mcs_algorithm};
 ghost use Rattle.lock_rules.specs.declared.view.Phase.TheVariants.{Idle, Queued, Holding};
-ghost use Rattle.lock_tables.specs.Happened.{MayRest};
+ghost use Rattle.lock_tables.specs.Counting.{Counted, HasAnnounced, HasWithdrawn};
+ghost use Rattle.lock_tables.specs.Happened.{MayRest, announced_view, withdrawn_view};
 ghost use Rattle.lock_tables.specs.Rule.{is_holder};
 ghost use Rattle.lock_tables.specs.Seats.{IsSized, seat_as};
 ghost use Rattle.mcs_lock.specs.Kinds.{Cleared, Raised, EnteredAndTook, Entered, Linked, Took, Missed};
 ghost use Rattle.mcs_lock.specs.Kinds.{Tested, Looked, Passed, Ended, Followed};
 ghost use Rattle.mcs_lock.specs.Leaves.{leave_waiting};
 ghost use Rattle.mcs_lock.specs.Own.{IsSeatOf, IsMine, AreMine};
-ghost use Rattle.mcs_lock.specs.Rule.{next, locked, name, pass_named};
+ghost use Rattle.mcs_lock.specs.Rule.{next, locked, name, pass_named, mcs_discipline};
 
 use crate::kinds::{
     CompareAndSwapTail, FetchAndStoreTail, LoadLocked, LoadNext, LoadTail, StoreLocked, StoreNext,
@@ -22,14 +24,19 @@ use crate::laws::McsWords;
 use crate::leave::Leave;
 use atomic_table::Seat;
 use crossbeam_utils::CachePadded;
-use lock_rules::{Cargo, Held, Pass, Queue, Refused, View};
-use lock_tables::{LockTable, into_value, join_passes, new_table, put, split_passes, take};
+use lock_rules::{Cargo, Held, Pass, Queue, Refused, View, Waiters};
+use lock_tables::{
+    LockTable, announce, count_waiting, into_value, join_passes, new_table, put, split_passes,
+    take, withdraw,
+};
 use std::alloc::Global;
 
 /// The word `tail` on a line of its own, the words `next` and `locked` of each pass on one line, and the slot.
 #[derive(Drop)]
 pub(crate) struct Words<V: Cargo> {
     table: CachePadded<LockTable<V, McsWords>>,
+    pub(crate) waiters: Waiters,
+    ghost chosen: { (padded_value table).shared.key.waiters ≡ waiters },
     ghost sized: { IsSized mcs_algorithm (padded_value table).shared.key.passes (padded_value table).shared.table_id },
     ghost used: { 0 < (padded_value table).shared.key.passes },
     ghost few: { (padded_value table).shared.key.passes < 2 ^ 32 },
@@ -57,12 +64,14 @@ impl<V: Cargo> Words<V> {
     /// The words of a new lock with the value at home, and its passes.
     pub(crate) fn make(
         alloc: Global,
+        waiters: Waiters,
         passes: u32,
         value: V,
     ) -> Result<(Words<V>, Vec<Pass>), Refused<V>>
         requires some { 0 < passes }
         requires fit { V.fit value }
         requires unparked { V.parked value ≡ false }
+        ensures waiters { IfOk result (λ m. (padded_value m.0.table).shared.key.waiters ≡ waiters) }
         ensures count { IfOk result (λ m. (padded_value m.0.table).shared.key.passes ≡ passes) }
         ensures value { IfOk result (λ m. (padded_value m.0.table).shared.key.value.value ≡ value) }
         ensures passes { IfOk result (λ m. AreMine V.tag (padded_value m.0.table).shared m.1.items) }
@@ -74,10 +83,16 @@ impl<V: Cargo> Words<V> {
         let Ok(room) = Vec::with_capacity(alloc, passes as usize) else {
             return Err(Refused { value });
         };
-        let (table, seat) = new_table::<V, McsWords>(alloc, opening.as_slice(), passes, value)?;
+        let (table, seat) = new_table::<V, McsWords>(
+            alloc,
+            opening.as_slice(),
+            waiters,
+            passes,
+            value,
+        )?;
         let list = split_passes(&table.shared, seat, passes, room);
         let table = CachePadded::new(table);
-        Ok((Words { table }, list))
+        Ok((Words { table, waiters }, list))
     }
 
     /// The value of a lock whose passes came back.
@@ -87,7 +102,7 @@ impl<V: Cargo> Words<V> {
         ensures tagged { V.tag result ≡ V.tag (padded_value self.table).shared.key.value.value }
         ensures unparked { V.parked result ≡ false }
     {
-        let Words { table } = self;
+        let Words { table, .. } = self;
         let table = table.into_inner();
         let seat = join_passes(&table.shared, passes);
         into_value(table, seat)
@@ -99,6 +114,7 @@ impl<V: Cargo> Words<V> {
         ensures own { IsSeatOf result.1 (padded_value self.now.table).shared.table_id (padded_value self.now.table).shared.key result.0 }
         ensures table { result.0.table_id ≡ pass.badge.table_id }
         ensures view { result.0.me ≡ (view_of pass.badge, []) }
+        ensures silent { result.0.me.0.announced ≡ false }
     {
         pass.into_parts()
     }
@@ -109,6 +125,7 @@ impl<V: Cargo> Words<V> {
         ensures own { IsSeatOf result.1 (padded_value self.now.table).shared.table_id (padded_value self.now.table).shared.key result.0 }
         ensures table { result.0.table_id ≡ queue.badge.table_id }
         ensures view { result.0.me ≡ (view_of queue.badge, []) }
+        ensures announced { result.0.me.0.announced ≡ is_counted result.0.me.0.waiters }
         ensures predecessor { result.2 ≡ (view_of queue.badge).predecessor }
     {
         queue.into_parts()
@@ -144,6 +161,43 @@ impl<V: Cargo> Words<V> {
         (seat, mark)
     }
 
+    /// Where the lock counts, the pass is announced, before its other steps.
+    pub(crate) fn announce(&self, seat: &mut Seat<Option<V>, View>, _own: u64)
+        requires seat { IsSeatOf _own (padded_value self.now.table).shared.table_id (padded_value self.now.table).shared.key seat.old }
+        requires idle { seat.old.me.0.phase ≡ Idle }
+        requires silent { seat.old.me.0.announced ≡ false }
+        ensures seat { IsSeatOf _own (padded_value self.now.table).shared.table_id (padded_value self.now.table).shared.key seat.new }
+        ensures did { HasAnnounced mcs_discipline V.fit V.tag V.parked seat.old.me.0.waiters seat.old.me seat.new.me }
+        ensures view { seat.new.me ≡ (announced_view seat.old.me.0, seat.old.me.1) }
+    {
+        announce(&self.table.shared, self.waiters, seat);
+    }
+
+    /// Where the lock counts, the holder is no longer announced, as the last step of the call that took.
+    pub(crate) fn withdraw(&self, seat: &mut Seat<Option<V>, View>, _own: u64)
+        requires seat { IsSeatOf _own (padded_value self.now.table).shared.table_id (padded_value self.now.table).shared.key seat.old }
+        requires holds { seat.old.me.0.phase ≡ Holding }
+        requires announced { seat.old.me.0.announced ≡ is_counted seat.old.me.0.waiters }
+        requires taken { seat.old.me.1 ≡ (0, None) ∷ [] }
+        ensures seat { IsSeatOf _own (padded_value self.now.table).shared.table_id (padded_value self.now.table).shared.key seat.new }
+        ensures did { HasWithdrawn mcs_discipline V.fit V.tag V.parked seat.old.me.0.waiters seat.old.me seat.new.me }
+        ensures view { seat.new.me ≡ (withdrawn_view seat.old.me.0, seat.old.me.1) }
+    {
+        withdraw(&self.table.shared, self.waiters, seat);
+    }
+
+    /// How many passes are announced, for a holder of a lock that counts.
+    pub(crate) fn count_waiting(&self, seat: &mut Seat<Option<V>, View>, _own: u64) -> u64
+        requires seat { IsSeatOf _own (padded_value self.now.table).shared.table_id (padded_value self.now.table).shared.key seat.old }
+        requires holds { seat.old.me.0.phase ≡ Holding }
+        requires silent { seat.old.me.0.announced ≡ false }
+        requires counts { is_counted seat.old.me.0.waiters ≡ true }
+        ensures seat { IsSeatOf _own (padded_value self.now.table).shared.table_id (padded_value self.now.table).shared.key seat.new }
+        ensures step { Counted mcs_discipline V.fit V.tag V.parked seat.old.me result seat.new.me }
+    {
+        count_waiting(&self.table.shared, seat)
+    }
+
     /// `I->next := nil`, before the swap.
     pub(crate) fn store_next(&self, seat: &mut Seat<Option<V>, View>, own: u64)
         requires seat { IsSeatOf own (padded_value self.now.table).shared.table_id (padded_value self.now.table).shared.key seat.old }
@@ -170,6 +224,7 @@ impl<V: Cargo> Words<V> {
     pub(crate) fn fetch_and_store_tail(&self, seat: &mut Seat<Option<V>, View>, own: u64) -> u64
         requires seat { IsSeatOf own (padded_value self.now.table).shared.table_id (padded_value self.now.table).shared.key seat.old }
         requires idle { seat.old.me.0.phase ≡ Idle }
+        requires announced { seat.old.me.0.announced ≡ is_counted seat.old.me.0.waiters }
         requires cleared { seat.old.me.0.unlinked ≡ true }
         requires raised { seat.old.me.0.raised ≡ true }
         ensures seat { IsSeatOf own (padded_value self.now.table).shared.table_id (padded_value self.now.table).shared.key seat.new }
@@ -216,6 +271,8 @@ impl<V: Cargo> Words<V> {
     pub(crate) fn load_tail(&self, seat: &mut Seat<Option<V>, View>, _own: u64) -> u64
         requires seat { IsSeatOf _own (padded_value self.now.table).shared.table_id (padded_value self.now.table).shared.key seat.old }
         requires holds { seat.old.me.0.phase ≡ Holding }
+        requires silent { seat.old.me.0.announced ≡ false }
+        requires queues { is_counted seat.old.me.0.waiters ≡ false }
         ensures seat { IsSeatOf _own (padded_value self.now.table).shared.table_id (padded_value self.now.table).shared.key seat.new }
         ensures step { Tested V.fit V.tag V.parked seat.old.me result seat.new.me }
     {
@@ -241,6 +298,7 @@ impl<V: Cargo> Words<V> {
     )
         requires seat { IsSeatOf _own (padded_value self.now.table).shared.table_id (padded_value self.now.table).shared.key seat.old }
         requires holds { is_holder true seat.old.me.0.phase ≡ true }
+        requires silent { seat.old.me.0.announced ≡ false }
         requires successor { successor ≡ seat.old.me.0.successor }
         requires followed { successor ≢ 0 }
         requires within { successor ≤ seat.old.me.0.count }
@@ -258,6 +316,7 @@ impl<V: Cargo> Words<V> {
     pub(crate) fn compare_and_swap_tail(&self, seat: &mut Seat<Option<V>, View>, own: u64) -> u64
         requires seat { IsSeatOf own (padded_value self.now.table).shared.table_id (padded_value self.now.table).shared.key seat.old }
         requires holds { seat.old.me.0.phase ≡ Holding }
+        requires silent { seat.old.me.0.announced ≡ false }
         requires home { (x : V) × (seat.old.me.1 ≡ (0, Some x) ∷ []) × MayRest V.fit V.tag V.parked seat.old.me.0 x }
         ensures seat { IsSeatOf own (padded_value self.now.table).shared.table_id (padded_value self.now.table).shared.key seat.new }
         ensures ended { result ≡ name seat.old.me.0.number → Ended V.fit V.tag V.parked seat.old.me result seat.new.me }

@@ -1,5 +1,6 @@
 -- Texts between quotes.
-use Rattle.std.proofs.Common.{◌≡◌, ℕ, ◌+◌, ◌<◌, Bool, true, false, ◌&&◌, not, nat_lt, List, [], ◌∷◌, ◌++◌, length, get_or, take, drop, refl, sym, ap, ◌∙◌}
+use Rattle.std.proofs.Common.{◌≡◌, ℕ, ◌+◌, ◌<◌, Bool, true, false, ◌&&◌, not, nat_lt, List, [], ◌∷◌, ◌++◌, length, get_or, take, drop, refl}
+use Rattle.std.proofs.Common.{sym, ap, ◌∙◌}
 use Rattle.std.proofs.Common.{append_assoc, add-one, arith}
 use Rattle.std.specs.Prelude.{◌==◌, ◌-◌, codes, nat_eq}
 use Rattle.std.specs.Cmp.Lexicographic.{pointwise}
@@ -39,7 +40,8 @@ escaped_from text place within = rw (add-one, drop-cons text place 0) refl
 pub plain_more : (text : List ℕ) (place byte : ℕ) → place < length text → byte ≡ get_or text place 0 → escaped_byte byte ≡ byte ∷ []
     → take place text ++ escaped (drop place text) ≡ take (place + 1) text ++ escaped (drop (place + 1) text)
 plain_more text place byte within byte_is plain =
-    let one : escaped_byte (get_or text place 0) ≡ get_or text place 0 ∷ [] = ap escaped_byte (sym byte_is) ∙ plain ∙ ap (λ b. b ∷ []) byte_is in
+    let one : escaped_byte (get_or text place 0) ≡ get_or text place 0 ∷ [] =
+    ap escaped_byte (sym byte_is) ∙ plain ∙ ap (λ b. b ∷ []) byte_is in
     let behind = escaped (drop (place + 1) text) in
     ap (λ rest. take place text ++ rest) (escaped_from text place within ∙ ap (λ front. front ++ behind) one)
     ∙ sym (append_assoc (take place text) (get_or text place 0 ∷ []) behind)
@@ -57,7 +59,8 @@ other_at text place byte within byte_is so_far =
 pub escaped_line : (text line behind : List ℕ) → pointwise nat_eq (drop (length text - 2) text) (13 ∷ 10 ∷ []) ≡ true
     → line ≡ take (length text - 2) text → escaped text ++ behind ≡ escaped line ++ (codes "\\r\\n" ++ behind)
 escaped_line text line behind ends front =
-    let end : drop (length text - 2) text ≡ 13 ∷ 10 ∷ [] = (slice_eq-Decides Decides-eqb (drop (length text - 2) text) (13 ∷ 10 ∷ []) true (sym ends)).0 refl in
+    let end : drop (length text - 2) text ≡ 13 ∷ 10 ∷ [] =
+    (slice_eq-Decides Decides-eqb (drop (length text - 2) text) (13 ∷ 10 ∷ []) true (sym ends)).0 refl in
     let parts : text ≡ line ++ 13 ∷ 10 ∷ [] =
     sym (take-append-drop (length text - 2) text) ∙ ap (λ (back : List ℕ). take (length text - 2) text ++ back) end
     ∙ ap (λ (part : List ℕ). part ++ 13 ∷ 10 ∷ []) (sym front) in

@@ -31,8 +31,10 @@ numbers_more view xs place x d within is =
     ∙ ap (λ k. enumerate_from 0 (map view (take place xs)) ++ ((k, view x) ∷ [])) (size_so_far view xs place within)
 
 -- what is made of each element and its number
-pub mapped_more : {A B C : Type 0} (view : A → B) (f : ℕ × B → C) (xs : List A) (place : ℕ) (x d : A) → place < length xs → x ≡ get_or xs place d
-    → map f (enumerate_from 0 (map view (take (place + 1) xs))) ≡ map f (enumerate_from 0 (map view (take place xs))) ++ f (place, view x) ∷ []
+pub mapped_more : {A B C : Type 0} (view : A → B) (f : ℕ × B → C) (xs : List A) (place : ℕ) (x d : A) → place < length xs
+    → x ≡ get_or xs place d
+    → map f (enumerate_from 0 (map view (take (place + 1) xs)))
+    ≡ map f (enumerate_from 0 (map view (take place xs))) ++ f (place, view x) ∷ []
 mapped_more view f xs place x d within is =
     ap (map f) (numbers_more view xs place x d within is)
     ∙ map-append f (enumerate_from 0 (map view (take place xs))) ((place, view x) ∷ [])
@@ -40,7 +42,8 @@ mapped_more view f xs place x d within is =
 -- and the lists that are made so
 pub joined_more : {A B C : Type 0} (view : A → B) (f : ℕ × B → List C) (xs : List A) (place : ℕ) (x d : A) → place < length xs
     → x ≡ get_or xs place d
-    → flat_map f (enumerate_from 0 (map view (take (place + 1) xs))) ≡ flat_map f (enumerate_from 0 (map view (take place xs))) ++ f (place, view x)
+    → flat_map f (enumerate_from 0 (map view (take (place + 1) xs)))
+    ≡ flat_map f (enumerate_from 0 (map view (take place xs))) ++ f (place, view x)
 joined_more view f xs place x d within is =
     let so_far = enumerate_from 0 (map view (take place xs)) in
     ap (flat_map f) (numbers_more view xs place x d within is)

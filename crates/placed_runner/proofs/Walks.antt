@@ -48,7 +48,8 @@ reads_more described (first ∷ before) text rest behind section reads begins =
     (reads.0, reads.1, reads_more described before reads.0 rest behind section reads.2 begins)
 
 -- what stands behind a section is shorter than the text, by the section's bytes and two line ends at least
-pub begins_longer : (described : Description) (text : List ℕ) (section : Written) (behind : List ℕ) → BeginsWith described text section behind
+pub begins_longer : (described : Description) (text : List ℕ) (section : Written) (behind : List ℕ)
+    → BeginsWith described text section behind
     → length section.bytes + length behind < length text
 begins_longer described text section behind begins =
     let whole = length-append begins.line (10 ∷ (section.bytes ++ 10 ∷ behind)) in

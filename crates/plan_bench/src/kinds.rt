@@ -19,6 +19,10 @@ fn kind_named(word: &str) -> Option<LockKind> {
         "mcs" => Some(LockKind::Mcs),
         "clh" => Some(LockKind::Clh),
         "hem" => Some(LockKind::Hem),
+        "tktc" => Some(LockKind::TktC),
+        "mcsc" => Some(LockKind::McsC),
+        "clhc" => Some(LockKind::ClhC),
+        "hemc" => Some(LockKind::HemC),
         _ => None,
     }
 }

@@ -1,5 +1,6 @@
 -- A run's holds make its lines, and no others do.
-use Rattle.std.proofs.Common.{◌≡◌, ℕ, zero, suc, ◌+◌, ◌^◌, ◌<◌, ◌≤◌, true, List, [], ◌∷◌, ◌++◌, length, map, take, drop, Some, inl, inr, refl, sym, ap, ◌∙◌, subst, append_assoc, arith}
+use Rattle.std.proofs.Common.{◌≡◌, ℕ, zero, suc, ◌+◌, ◌^◌, ◌<◌, ◌≤◌, true, List, [], ◌∷◌, ◌++◌, length, map, take, drop, Some, inl, inr}
+use Rattle.std.proofs.Common.{refl, sym, ap, ◌∙◌, subst, append_assoc, arith}
 use Rattle.std.specs.Prelude.{slice_get}
 use Rattle.std.specs.List.{AllByRecursion, enumerate_from, flat_map}
 use Rattle.std.proofs.lemmas.List.{append-nil, length-append, length-drop, map-append, take-append-drop, take-append-le}
@@ -12,7 +13,8 @@ use Rattle.mc_text.specs.Request.{WholeCommand}
 use Rattle.kv_history.specs.Contents.{Contents}
 use Rattle.kv_history.specs.Answer.{replies_from, reply_of, store_after, store_from, store_of}
 use Rattle.placed_runner.specs.Sections.{Placed}
-use Rattle.placed_runner.specs.Text.{Hold, Told, caller_line, caller_lines, commands_behind, next_command, run_text, told, turn_line, turns_behind}
+use Rattle.placed_runner.specs.Text.{Hold, Told, caller_line, caller_lines, commands_behind, next_command, run_text, told, turn_line}
+use Rattle.placed_runner.specs.Text.{turns_behind}
 use Rattle.placed_runner.specs.Printed.{IsRun}
 use Rattle.placed_runner.proofs.Histories.{gives}
 use Rattle.placed_runner.proofs.Printed.{can_be_held}

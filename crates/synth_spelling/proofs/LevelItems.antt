@@ -24,7 +24,7 @@ use Rattle.synth_spelling.proofs.Words.{attributes_spelled, attributes_read_of}
 
 -- ---- numbers and names
 
-level_named : (o : Option Name) (kind : Kind) → level_name o ≡ Ok kind → NamesLevel o kind
+pub level_named : (o : Option Name) (kind : Kind) → level_name o ≡ Ok kind → NamesLevel o kind
 level_named None kind e = absurd cc
 level_named (Some (names.Group number)) kind e = ok_is Group kind e
 level_named (Some (names.Kind Machine)) kind e = absurd cc
@@ -41,7 +41,7 @@ level_named (Some (names.Kind Core)) kind e = let is : Core ≡ kind = ok_is Cor
 level_named (Some (names.Kind Pu)) kind e = let is : Pu ≡ kind = ok_is Pu kind e in (is, λ m. absurd cc)
 level_named (Some (names.Kind NumaNode)) kind e = let is : NumaNode ≡ kind = ok_is NumaNode kind e in (is, λ m. absurd cc)
 
-named_level : (o : Option Name) (kind : Kind) → NamesLevel o kind → level_name o ≡ Ok kind
+pub named_level : (o : Option Name) (kind : Kind) → NamesLevel o kind → level_name o ≡ Ok kind
 named_level None kind h = absurd h
 named_level (Some (names.Group number)) kind h = ap Ok h
 named_level (Some (names.Kind Machine)) kind h = absurd (h.1 (sym h.0))
@@ -68,7 +68,7 @@ arity_spelled k kind text arity e =
     let number = number_spelled 1 (2 ^ 32 - 1) read.0 text (or_flaw-ok flaws.Arity (number_in 1 (2 ^ 32 - 1) text) read.0 read.1) in
     (ap (λ (p : Kind × ℕ). p.0) same, subst (λ n. IsNumber 1 (2 ^ 32 - 1) n text) (ap (λ (p : Kind × ℕ). p.1) same) number)
 
-head_spelled : (untyped : Kind) (head : List ℕ) (kind : Kind) (arity : ℕ) → head_of untyped head ≡ Ok (kind, arity)
+pub head_spelled : (untyped : Kind) (head : List ℕ) (kind : Kind) (arity : ℕ) → head_of untyped head ≡ Ok (kind, arity)
     → SpellsHead untyped head kind arity
 unfolding head_of first_piece
 head_spelled untyped head kind arity e = by (cut (λ b. b == 58) head) (cuts_of 58 head) e
@@ -88,7 +88,7 @@ head_spelled untyped head kind arity e = by (cut (λ b. b == 58) head) (cuts_of 
           number = a.1;
         })
 
-head_read : (untyped : Kind) (head : List ℕ) (kind : Kind) (arity : ℕ) → SpellsHead untyped head kind arity
+pub head_read : (untyped : Kind) (head : List ℕ) (kind : Kind) (arity : ℕ) → SpellsHead untyped head kind arity
     → head_of untyped head ≡ Ok (kind, arity)
 unfolding head_of first_piece
 head_read untyped head kind arity (inl h) =
@@ -138,12 +138,12 @@ given_read kind (Some text) a h = enclosed_read kind text a h
 
 -- ---- level items
 
-front_of : (byte : ℕ) (text : List ℕ) (o : Option (List ℕ × List ℕ)) → CutsAt byte text o
+pub front_of : (byte : ℕ) (text : List ℕ) (o : Option (List ℕ × List ℕ)) → CutsAt byte text o
     → IsFront byte text (piece_or text o).0 (piece_or text o).1
 front_of byte text None lacks = (lacks, refl)
 front_of byte text (Some parts) cuts = cuts
 
-piece_of : (byte : ℕ) (text front : List ℕ) (given : Option (List ℕ)) → IsFront byte text front given
+pub piece_of : (byte : ℕ) (text front : List ℕ) (given : Option (List ℕ)) → IsFront byte text front given
     → piece_or text (cut (λ b. b == byte) text) ≡ (front, given)
 piece_of byte text front None h = rw (cut-from_lacks byte text h.0) (ap (λ (f : List ℕ). with_none f) h.1)
   where

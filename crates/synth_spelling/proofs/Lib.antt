@@ -4,3 +4,10 @@ pub mod Words
 pub mod LevelItems
 pub mod MemoryItems
 pub mod WholeTexts
+pub mod TogetherRules
+pub mod TogetherOrder
+pub mod Failing
+pub mod WordFlaws
+pub mod LevelFlaws
+pub mod MemoryFlaws
+pub mod Refusals

@@ -26,7 +26,7 @@ use Rattle.synth_spelling.proofs.LevelItems.{given_spelled, given_read}
 
 -- ---- names
 
-node_named : (o : Option Name) (kind : Kind) → node_name o ≡ Ok kind → (o ≡ Some (names.Kind NumaNode)) × (kind ≡ NumaNode)
+pub node_named : (o : Option Name) (kind : Kind) → node_name o ≡ Ok kind → (o ≡ Some (names.Kind NumaNode)) × (kind ≡ NumaNode)
 node_named None kind e = absurd cc
 node_named (Some (names.Group number)) kind e = absurd cc
 node_named (Some (names.Kind NumaNode)) kind e = (refl, sym (ok_is NumaNode kind e))
@@ -51,7 +51,7 @@ nothing_named = refl
 letter_not_white : (byte : ℕ) → is_ascii_alphanumeric byte ≡ true → is_white byte ≡ false
 letter_not_white byte letter = grind (arith, nat_tests)
 
-named_stops : (name rest : List ℕ) → name_of name ≡ Some (names.Kind NumaNode) → list_all is_ascii_alphanumeric name ≡ true
+pub named_stops : (name rest : List ℕ) → name_of name ≡ Some (names.Kind NumaNode) → list_all is_ascii_alphanumeric name ≡ true
     → Stops is_white (name ++ rest)
 named_stops [] rest named letters = let none : None ≡ Some (names.Kind NumaNode) = sym nothing_named ∙ named in absurd cc
 named_stops (byte ∷ name) rest named letters =
@@ -62,7 +62,7 @@ named_stops (byte ∷ name) rest named letters =
 
 -- ---- what follows the name
 
-opened_spelled : (text : List ℕ) (given : Option (List ℕ)) → opened text ≡ Ok given → Opens text given
+pub opened_spelled : (text : List ℕ) (given : Option (List ℕ)) → opened text ≡ Ok given → Opens text given
 opened_spelled text given e =
     elim (cases_Bool (list_all is_white text)) [
       | inl blank ↦ subst (Opens text) (ok_is None given (rw blank at e)) blank
@@ -78,7 +78,7 @@ opened_spelled text given e =
           | inr fails ↦ let wrong = rw fails at h in absurd cc
         ]
 
-opened_read : (text : List ℕ) (given : Option (List ℕ)) → Opens text given → opened text ≡ Ok given
+pub opened_read : (text : List ℕ) (given : Option (List ℕ)) → Opens text given → opened text ≡ Ok given
 opened_read text None h = rw h refl
 opened_read text (Some behind) h = rw h refl
 

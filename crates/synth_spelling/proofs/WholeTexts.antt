@@ -14,22 +14,23 @@ use Rattle.synth_text.proofs.Bound.{ok_is, bind_ok, placed-ok}
 use Rattle.synth_spelling.specs.Spelling.{SpellsItem, SpellItems, SpellsDescription}
 use Rattle.synth_spelling.proofs.LevelItems.{level_spelled, level_read}
 use Rattle.synth_spelling.proofs.MemoryItems.{memory_spelled, memory_read}
+use Rattle.synth_spelling.proofs.TogetherOrder.{rules_kept, kept_rules}
 
 -- a part with the place of its item
-abbrev at_place : ℕ → Part → Placed
+abbrev pub at_place : ℕ → Part → Placed
 at_place at part = record { at = at; part = part }
 
-item_spelled : (body : List ℕ) (is_memory : Bool) (behind : ℕ) (part : Part) → part_of body is_memory behind ≡ Ok part
+pub item_spelled : (body : List ℕ) (is_memory : Bool) (behind : ℕ) (part : Part) → part_of body is_memory behind ≡ Ok part
     → SpellsItem body is_memory behind part
 item_spelled body true behind part e = memory_spelled body part e
 item_spelled body false behind part e = level_spelled (untyped_kind behind) body part e
 
-item_read : (body : List ℕ) (is_memory : Bool) (behind : ℕ) (part : Part) → SpellsItem body is_memory behind part
+pub item_read : (body : List ℕ) (is_memory : Bool) (behind : ℕ) (part : Part) → SpellsItem body is_memory behind part
     → part_of body is_memory behind ≡ Ok part
 item_read body true behind part h = memory_read body part h
 item_read body false behind part h = level_read (untyped_kind behind) body part h
 
-items_spelled : (text : List ℕ) (items : List Item) (parts : List Placed) → parts_of text items ≡ Ok parts → SpellItems text items parts
+pub items_spelled : (text : List ℕ) (items : List Item) (parts : List Placed) → parts_of text items ≡ Ok parts → SpellItems text items parts
 items_spelled text [] parts e = subst (SpellItems text []) (ok_is [] parts e) tt
 items_spelled text (item ∷ items) parts e =
     let first = bind_ok (placed_part text item (level_items items)) (λ part. parts_of text items >>= λ others. Ok (part ∷ others)) parts e
@@ -42,7 +43,7 @@ items_spelled text (item ∷ items) parts e =
     subst (SpellItems text (item ∷ items)) (ok_is (first.0 ∷ rest.0) parts rest.2)
     (subst (λ (p : Placed). SpellItems text (item ∷ items) (p ∷ rest.0)) one (refl, here, items_spelled text items rest.0 rest.1))
 
-items_read : (text : List ℕ) (items : List Item) (parts : List Placed) → SpellItems text items parts → parts_of text items ≡ Ok parts
+pub items_read : (text : List ℕ) (items : List Item) (parts : List Placed) → SpellItems text items parts → parts_of text items ≡ Ok parts
 items_read text [] [] h = refl
 items_read text [] (part ∷ parts) h = absurd h
 items_read text (item ∷ items) [] h = absurd h
@@ -65,7 +66,7 @@ described_spelled text described h =
       parts = read.0;
       cut = h.cut;
       spelled = items_spelled text h.items read.0 read.1;
-      kept = kept.0;
+      kept = rules_kept read.0 kept.0;
       says = kept.1;
     }
 
@@ -73,5 +74,5 @@ pub described_read : (text : List ℕ) (described : Description) → SpellsDescr
 described_read text described h = record {
   items = h.items;
   cut = h.cut;
-  said = rw (items_read text h.items h.parts h.spelled, h.kept) (ap Ok h.says);
+  said = rw (items_read text h.items h.parts h.spelled, kept_rules h.parts h.kept) (ap Ok h.says);
 }

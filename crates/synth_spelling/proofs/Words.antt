@@ -58,13 +58,13 @@ use Rattle.synth_spelling.proofs.Values.{size_spelled, size_read, indexes_spelle
 
 -- ---- elements
 
-first : {X : Type 0} (x : X) (xs : List X) (y : X) → x ≡ y → Contains (x ∷ xs) y
+pub first : {X : Type 0} (x : X) (xs : List X) (y : X) → x ≡ y → Contains (x ∷ xs) y
 first x xs y is = (zero, omega arith, is)
 
-later : {X : Type 0} (x : X) (xs : List X) (y : X) → Contains xs y → Contains (x ∷ xs) y
+pub later : {X : Type 0} (x : X) (xs : List X) (y : X) → Contains xs y → Contains (x ∷ xs) y
 later x xs y (place, within, is) = (suc place, omega (arith, within), is)
 
-split : {X : Type 0} (x : X) (xs : List X) (y : X) → Contains (x ∷ xs) y → (x ≡ y) ⊎ Contains xs y
+pub split : {X : Type 0} (x : X) (xs : List X) (y : X) → Contains (x ∷ xs) y → (x ≡ y) ⊎ Contains xs y
 split x xs y (zero, within, is) = inl is
 split x xs y (suc place, within, is) = inr (place, omega (arith, within), is)
 
@@ -88,7 +88,7 @@ key_spelled word key e =
           ]
     ]
 
-entry_spelled : (word : List ℕ) (entry : Key × List ℕ) → entry_in word ≡ Some entry → word ≡ word_of entry.0 entry.1
+pub entry_spelled : (word : List ℕ) (entry : Key × List ℕ) → entry_in word ≡ Some entry → word ≡ word_of entry.0 entry.1
 unfolding entry_in
 entry_spelled word entry e = by (cut (λ b. b == 61) word) (cuts_of 61 word) e
   where
@@ -100,7 +100,7 @@ entry_spelled word entry e = by (cut (λ b. b == 61) word) (cuts_of 61 word) e
         cuts.parts ∙ ap (λ front. front ++ 61 ∷ parts.1) (key_spelled parts.0 m.0 m.1)
         ∙ ap (λ (p : Key × List ℕ). key_text p.0 ++ 61 ∷ p.1) same
 
-entry_read : (key : Key) (value : List ℕ) → entry_in (key_text key ++ 61 ∷ value) ≡ Some (key, value)
+pub entry_read : (key : Key) (value : List ℕ) → entry_in (key_text key ++ 61 ∷ value) ≡ Some (key, value)
 unfolding entry_in key_of
 entry_read keys.Size value = refl
 entry_read keys.Memory value = refl
@@ -250,12 +250,12 @@ some_given : (value : List ℕ) (o : Option Indexes) → indexes_of value ≡ o 
 some_given value None is e = absurd cc
 some_given value (Some given) is e = (given, indexes_spelled value given is)
 
-value_spelled : (key : Key) (value : List ℕ) → flaw_in_value key value ≡ None → IsValue key value
+pub value_spelled : (key : Key) (value : List ℕ) → flaw_in_value key value ≡ None → IsValue key value
 value_spelled keys.Size value e = some_bytes value (size_of value) refl e
 value_spelled keys.Memory value e = some_bytes value (size_of value) refl e
 value_spelled keys.Indexes value e = some_given value (indexes_of value) refl e
 
-value_read : (key : Key) (value : List ℕ) → IsValue key value → flaw_in_value key value ≡ None
+pub value_read : (key : Key) (value : List ℕ) → IsValue key value → flaw_in_value key value ≡ None
 value_read keys.Size value h = ap (flaw_unless flaws.Attribute) (size_read value h.0 h.1)
 value_read keys.Memory value h = ap (flaw_unless flaws.Attribute) (size_read value h.0 h.1)
 value_read keys.Indexes value h = ap (flaw_unless flaws.Indexes) (indexes_read value h.0 h.1)
@@ -265,11 +265,11 @@ unflawed : (test : Bool) (o : Option Flaw) (flaw : Flaw) → cond test o (Some f
 unflawed true o flaw e = (refl, e)
 unflawed false o flaw e = absurd cc
 
-nothing_of : {X : Type 0} (o : Option X) → not (is_some o) ≡ true → o ≡ None
+pub nothing_of : {X : Type 0} (o : Option X) → not (is_some o) ≡ true → o ≡ None
 nothing_of None e = refl
 nothing_of (Some x) e = absurd cc
 
-word_spelled : (kind : Kind) (before : List (List ℕ)) (word : List ℕ) → flaw_in_word kind before (entry_in word) ≡ None
+pub word_spelled : (kind : Kind) (before : List (List ℕ)) (word : List ℕ) → flaw_in_word kind before (entry_in word) ≡ None
     → IsWord kind before word
 word_spelled kind before word e = by (entry_in word) refl e
   where
@@ -288,7 +288,7 @@ word_spelled kind before word e = by (entry_in word) refl e
           valued = value_spelled entry.0 entry.1 u.1;
         }
 
-word_read : (kind : Kind) (before : List (List ℕ)) (word : List ℕ) → IsWord kind before word
+pub word_read : (kind : Kind) (before : List (List ℕ)) (word : List ℕ) → IsWord kind before word
     → flaw_in_word kind before (entry_in word) ≡ None
 word_read kind before word h =
     let is : entry_in word ≡ Some (h.key, h.value) = ap entry_in h.parts ∙ entry_read h.key h.value in

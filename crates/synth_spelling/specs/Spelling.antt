@@ -53,8 +53,9 @@ use Rattle.synth_text.specs.IndexTexts.{indexes_of}
 use Rattle.synth_text.specs.Attributes.{takes, words_of, no_attributes, attributes_in}
 use Rattle.synth_text.specs.Items.{AreItems, body_of}
 use Rattle.synth_text.specs.Parts.{untyped_kind, level_part, memory_part, level_of, memory_of}
-use Rattle.synth_text.specs.Rules.{description_of, broken}
+use Rattle.synth_text.specs.Rules.{description_of}
 use Rattle.synth_text.specs.Descriptions.{level_items, Describes}
+use Rattle.synth_spelling.specs.Together.{KeepRules}
 
 -- ---- heads
 
@@ -265,13 +266,13 @@ SpellItems text (item ∷ items) [] = ⊥
 SpellItems text (item ∷ items) (part ∷ parts) =
     (item.start ≡ part.at) × SpellsItem (body_of text item) item.is_memory (level_items items) part.part × SpellItems text items parts
 
--- a list of items with gaps between them, which spell parts that break no rule and make up the description
+-- a list of items with gaps between them, which spell parts that break no rule together and make up the description
 pub record SpellsDescription (text : List ℕ) (described : Description) : Type 0 where
   pub items : List Item
   pub parts : List Placed
   pub cut : AreItems text 0 items
   pub spelled : SpellItems text items parts
-  pub kept : broken parts ≡ None
+  pub kept : KeepRules parts
   pub says : description_of parts ≡ described
 
 -- ---- the laws

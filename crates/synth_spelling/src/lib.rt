@@ -4,4 +4,6 @@
 
 mod laws;
 
-pub use laws::{descriptions_are_spelled, items_are_spelled, values_are_spelled};
+pub use laws::{
+    descriptions_are_spelled, items_are_spelled, refusals_are_spelled, values_are_spelled,
+};

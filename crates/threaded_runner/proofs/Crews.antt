@@ -37,7 +37,8 @@ stands_for f (x ∷ xs) (suc k) b e = stands_for f xs k b e
 module _ {P : Type 0} (rest : P → Rest) (has : Context → Type 0) (level : ℕ) (tag : Tag) (count : ℕ) (jobs : List (Job P))
     (each : (k : ℕ) (j : Job P) → slice_get jobs k ≡ Some j → IsServed rest has level tag k j) (many : length jobs ≡ count) where
   -- the passes of served jobs are all passes
-  pub passes_back : (passes : List P) → passes ≡ map (λ (j : Job P). j.pass) jobs → AreAll (λ p. (rest p).context) has level tag count passes
+  pub passes_back : (passes : List P) → passes ≡ map (λ (j : Job P). j.pass) jobs → AreAll (λ p. (rest p).context) has level tag count
+      passes
   passes_back passes are = record {
     all = ap length are ∙ length-map jobs (λ (j : Job P). j.pass) ∙ many;
     each = λ k p e.

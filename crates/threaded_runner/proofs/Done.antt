@@ -1,10 +1,9 @@
 -- What is known of the turns once all shares came back.
-use Rattle.std.proofs.Common.{◌≡◌, ℕ, zero, suc, ◌<◌, false, true, not, Bool, List, [], ◌∷◌, ◌++◌, length, map, get_or, refl, ap, sym, ◌∙◌, subst, arith, Option, Some, None}
-use Rattle.std.proofs.Common.{length-append}
+use Rattle.std.proofs.Common.{◌≡◌, ℕ, zero, suc, ◌<◌, false, true, not, Bool, List, [], ◌∷◌, ◌++◌, length, map, get_or, refl, ap, sym, ◌∙◌}
+use Rattle.std.proofs.Common.{subst, arith, Option, Some, None, length-append}
 use Rattle.std.specs.Prelude.{All, option_map, slice_get, slice_index, ◌||◌}
 use Rattle.std.specs.List.{list_any}
 use Rattle.std.proofs.lemmas.List.{append-nil}
-use Rattle.std.proofs.lemmas.List.Elements.{All-nil}
 use Rattle.std.proofs.lemmas.Option.{get_or_from_slice_get, slice_get-get_or, slice_get-map, slice_get_within}
 use Rattle.atomic_table.specs.Seated.{TableId}
 use Rattle.lock_rules.specs.Tag.{Tag}
@@ -23,7 +22,7 @@ use Rattle.kv_history.specs.Log.{Log, EachHasSection, EachOwnFirst, NoneVoid, ca
 use Rattle.kv_history.proofs.Next.{count-own}
 use Rattle.placed_runner.specs.Printed.{IsRun}
 use Rattle.placed_runner.specs.Sections.{Placed}
-use Rattle.placed_runner.specs.Text.{Hold, one_lock, run_text, turns_text}
+use Rattle.placed_runner.specs.Text.{turns_text}
 use Rattle.placed_runner.specs.Views.{section_view}
 use Rattle.placed_runner.specs.declared.sections.Section.{Section}
 use Rattle.placed_runner.proofs.Printed.{is_run}
@@ -79,8 +78,9 @@ all_closed s closed = ap (λ (o : Option Turn). s.closed ++ option_list o) close
 -- what callers leave who have made all their turns, none of which found no memory
 pub finished : (root : Root Book) (shares : List ShareState) → IsFit book_calls root
     → root.trail.quotas ≡ map (λ (one : List ℕ). length (commands_of one)) root.payload.journal.sections → All (IsShareOf root.trail) shares
-    → AreDone root.trail.name root.trail.quotas shares → length shares ≡ length root.payload.journal.sections → EachOwnFirst root.payload.journal
-    → NoneVoid root.payload.journal.entries → root.trail.recorded ≡ true → IsFinished root.trail root.payload.journal
+    → AreDone root.trail.name root.trail.quotas shares → length shares ≡ length root.payload.journal.sections
+    → EachOwnFirst root.payload.journal → NoneVoid root.payload.journal.entries
+    → root.trail.recorded ≡ true → IsFinished root.trail root.payload.journal
 finished root shares fit quotas counted done many first whole recorded =
     let made = subst (EachMadeAll root.payload.journal.sections) (all_closed root.trail fit.settled.closed)
     (turns_made root.trail shares root.payload.journal.sections counted done many quotas) in

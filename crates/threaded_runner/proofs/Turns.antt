@@ -45,8 +45,10 @@ pub takes_next : (t : Tag) (level made : ℕ) (share : ShareState) (r : Root Boo
 takes_next t level made share r command opened more at =
     let is = course_is book_calls book_tag t r opened.tagged in
     let turn = opened.is_open.turn in
-    let all : all_turns r.trail ≡ r.trail.closed ++ turn ∷ [] = ap (λ (o : Option Turn). r.trail.closed ++ option_list o) opened.is_open.now in
-    let count = opened.share_is.made ∙ ap (turns_of share.caller) all ∙ one_more share.caller r.trail.closed turn opened.is_open.caller_is in
+    let all : all_turns r.trail ≡ r.trail.closed ++ turn ∷ [] = ap (λ (o : Option Turn). r.trail.closed ++ option_list o) opened.is_open.now
+    in
+    let count = opened.share_is.made ∙ ap (turns_of share.caller) all ∙ one_more share.caller r.trail.closed turn opened.is_open.caller_is
+    in
     let called : times share.caller (calls r.payload.journal) ≡ turns_of share.caller r.trail.closed =
     ap (times share.caller) opened.calls_are ∙ times_callers share.caller r.trail.closed in
     let here : made ≡ times share.caller (calls r.payload.journal) = omega (arith, count, called, more) in record {

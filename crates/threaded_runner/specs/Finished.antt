@@ -17,8 +17,9 @@ abbrev pub EachGaveAll : Log → Type 0
 EachGaveAll log =
     (caller : ℕ) (section : List ℕ) → slice_get log.sections caller ≡ Some section → own log.entries caller ≡ commands_of section
 
--- All turns are closed and lawful, and stand in memory, and the last one leaves at the top. They are of the callers of the journal's entries, in order, none of
--- which is void; each caller has made a turn for each command of its section, and its entries are these commands
+-- All turns are closed and lawful, and stand in memory, and the last one leaves at the top. They are of the callers of the journal's
+-- entries, in order, none of which is void; each caller has made a turn for each command of its section, and its entries are these
+-- commands
 pub record IsFinished (trail : TrailState) (log : Log) : Type 0 where
   pub recorded : trail.recorded ≡ true
   pub closed : trail.current ≡ None

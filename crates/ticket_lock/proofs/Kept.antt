@@ -1,6 +1,6 @@
 -- Each kind of step of a Ticket lock keeps the rule.
 use Rattle.std.proofs.Common.{◌≡◌, ◌≢◌, ℕ, suc, ◌+◌, ◌%◌, ◌^◌, ◌<◌, Bool, true, false, not, ◌==◌, eq-eqb, List, [], ◌∷◌, ◌++◌}
-use Rattle.std.proofs.Common.{length, set, slice_index, refl, ap, sym, ◌∙◌, ⊎_elim, arith, Option, Some, length-append}
+use Rattle.std.proofs.Common.{length, set, slice_index, refl, ap, sym, ◌∙◌, inl, ⊎_elim, arith, Option, Some, length-append}
 use mathlib.Core.Option.{some}
 use mathlib.Core.Logic.{dite}
 use native.Mathlib.Decide.{ℕ_discrete}
@@ -8,27 +8,24 @@ use lib.ListN.{get_elem?}
 use Rattle.atomic_table.specs.Table.{State, Me, keeps, gives, Allows}
 use Rattle.atomic_table.proofs.Lists.{at_set}
 use Rattle.lock_rules.specs.Tag.{Tag}
-use Rattle.lock_rules.specs.Views.{answer_of}
+use Rattle.lock_rules.specs.Views.{answer_of, is_counted}
 use Rattle.lock_rules.specs.declared.step.Answer.TheVariants.{No, Yes}
 use Rattle.lock_rules.specs.declared.view.Phase.TheVariants.{Idle, Queued, Holding}
 use Rattle.lock_rules.specs.declared.view.View.{View}
+use Rattle.lock_rules.specs.declared.view.Waiters.{Waiters}
 use Rattle.lock_tables.specs.Happened.{MayRest, missed_view, took_view, tested_view}
 use Rattle.lock_tables.specs.Rule.{is_busy, is_holder, IsQueued, IsLock}
 use Rattle.lock_tables.proofs.Lists.{at_end, at_below, head_cut, wrote_here, wrote_else}
-use Rattle.lock_tables.proofs.Queues.{IsLike, no_place, wrong_phase}
+use Rattle.lock_tables.proofs.Queues.{like, no_place, wrong_phase}
 use Rattle.lock_tables.proofs.Steps.{loads, enters, takes_head, leaves}
 use Rattle.ticket_lock.specs.Kinds.{after, queued_view, left_view, others_wait, Entered, Polled, Tested, Left}
 use Rattle.ticket_lock.specs.Rule.{next, serving, HasTickets, ticket_discipline}
 use Rattle.ticket_lock.proofs.Rounds.{next_ticket, one_place, first_ticket}
 use Rattle.ticket_lock.proofs.Queue.{disciplined, place_below}
 
-like : (v w : View) → w.number ≡ v.number → w.from ≡ v.from → w.to ≡ v.to → w.joined ≡ v.joined → w.spent ≡ v.spent
-    → w.tag.tag ≡ v.tag.tag → w.count ≡ v.count → IsLike v w
-like v w a b c d e f g = record { number = a; from = b; to = c; joined = d; spent = e; tag = f; count = g }
-
-module _ {V : Type 0} (fit : V → Type 0) (tag_of : V → Tag) (parked : V → Bool) (n : ℕ) (tag : Tag) where
+module _ {V : Type 0} (fit : V → Type 0) (tag_of : V → Tag) (parked : V → Bool) (ch : Waiters) (n : ℕ) (tag : Tag) where
   abbrev pub Rule : State (Option V) View → Type 0
-  Rule = IsLock ticket_discipline fit tag_of parked n tag
+  Rule = IsLock ticket_discipline fit tag_of parked ch n tag
 
   abbrev Q : List ℕ → List ℕ → List View → Type 0
   Q = IsQueued ticket_discipline n tag
@@ -47,8 +44,9 @@ module _ {V : Type 0} (fit : V → Type 0) (tag_of : V → Tag) (parked : V → 
   }
 
   pub adds : (slots id : ℕ) (me : Me (Option V) View) → me.0.phase ≡ Idle → me.0.spent ≡ false
+      → me.0.announced ≡ is_counted me.0.waiters
       → Allows Rule slots id me next (λ x. (x + 1) % 2 ^ 64) (Entered fit tag_of parked me)
-  adds slots id me idle live s r count at low =
+  adds slots id me idle live told s r count at low =
       let v : View = me.0 in
       let q = r.queued in
       let found : ℕ = slice_index s.words next in
@@ -74,8 +72,8 @@ module _ {V : Type 0} (fit : V → Type 0) (tag_of : V → Tag) (parked : V → 
             (at_set s.views id j w u e'))
             (at_end r.seats id j i e);
       } in
-      let k = enters fit tag_of parked ticket_discipline disciplined n tag next (after found) id me w s r at live
-      (like v w refl refl refl refl refl refl refl) idle refl core in
+      let k = enters fit tag_of parked ticket_discipline disciplined ch n tag next (after found) id me w s r (λ e. omega arith) at live
+      (like v w refl refl refl refl refl refl refl refl) refl told idle refl core in
       (w, keeps, k.0, k.1, k.2)
 
   -- where the ticket is served, the pass is the head
@@ -94,16 +92,16 @@ module _ {V : Type 0} (fit : V → Type 0) (tag_of : V → Tag) (parked : V → 
       (λ e.
       let v : View = me.0 in
       let w : View = took_view v in
-      let k = takes_head fit tag_of parked ticket_discipline disciplined n tag serving id me w s r at live
-      (like v w refl refl refl refl refl refl refl) queued (first_served s r id v at queued e)
+      let k = takes_head fit tag_of parked ticket_discipline disciplined ch n tag serving id me w s r (λ x. omega arith) at live
+      (like v w refl refl refl refl refl refl refl refl) refl queued (first_served s r id v at queued e)
       refl (λ x. absurd (cc)) refl (same_tickets s.words r.seats s.views id v w r.queued at refl) in
       (w, k.0, k.1, k.2, (λ _. k.3, λ ne. absurd (ne e))))
       (λ ne.
       let v : View = me.0 in
       let w : View = missed_view v in
       let idle = wrong_phase (is_holder false) v Queued queued refl in
-      let k = loads fit tag_of parked ticket_discipline disciplined n tag serving id me w s r at live
-      (like v w refl refl refl refl refl refl refl) refl refl
+      let k = loads fit tag_of parked ticket_discipline disciplined ch n tag serving id me w s r (λ x. omega arith) at live
+      (like v w refl refl refl refl refl refl refl refl) refl (inl refl) refl refl
       (λ h _. absurd (idle h)) (λ h _. absurd (idle h)) (same_tickets s.words r.seats s.views id v w r.queued at refl) in
       (w, keeps, k.0, k.1, (λ e. absurd (ne e), λ _. k.2)))
 
@@ -122,22 +120,22 @@ module _ {V : Type 0} (fit : V → Type 0) (tag_of : V → Tag) (parked : V → 
       let no : No ≡ Yes = sym (ap (λ (b : Bool). answer_of (not b)) same) ∙ noted in absurd cc)
       (λ ne. let b = at_below r.seats 0 id first in omega arith)
 
-  pub waits : (slots id : ℕ) (me : Me (Option V) View) → me.0.phase ≡ Holding → me.0.spent ≡ false
+  pub waits : (slots id : ℕ) (me : Me (Option V) View) → me.0.phase ≡ Holding → me.0.spent ≡ false → me.0.announced ≡ false
       → Allows Rule slots id me next (λ x. x) (Tested fit tag_of parked me)
-  waits slots id me held live s r count at low =
+  waits slots id me held live silent s r count at low =
       let v : View = me.0 in
       let w : View = tested_view v (others_wait v (slice_index s.words next)) in
       let st = r.queued.each_seat id v at in
-      let k = loads fit tag_of parked ticket_discipline disciplined n tag next id me w s r at live
-      (like v w refl refl refl refl refl refl refl) refl refl
-      (λ h noted. others_behind s r id v at (st.first h) noted) st.followed
+      let k = loads fit tag_of parked ticket_discipline disciplined ch n tag next id me w s r (λ e. omega arith) at live
+      (like v w refl refl refl refl refl refl refl refl) refl (inl refl) refl refl
+      (λ h noted. (silent, inl (others_behind s r id v at (st.first h) noted))) st.followed
       (same_tickets s.words r.seats s.views id v w r.queued at refl) in
       (w, keeps, k.0, k.1, k.2)
 
   pub gives_back : (slots id : ℕ) (v : View) (x : V) (new : ℕ) (c : List (ℕ × Option V)) → v.phase ≡ Holding → v.spent ≡ false
-      → c ≡ (0, Some x) ∷ [] → MayRest fit tag_of parked v x → new ≡ after v.ticket
+      → v.announced ≡ false → c ≡ (0, Some x) ∷ [] → MayRest fit tag_of parked v x → new ≡ after v.ticket
       → Allows Rule slots id (v, c) serving (λ _. new) (λ _. Left fit tag_of parked (v, c) new)
-  gives_back slots id v x new c held live carries rests is_next s r count at low =
+  gives_back slots id v x new c held live silent carries rests is_next s r count at low =
       let q = r.queued in
       let w : View = left_view v in
       let first = (q.each_seat id v at).first (ap (is_holder false) held) in
@@ -158,7 +156,7 @@ module _ {V : Type 0} (fit : V → Type 0) (tag_of : V → Tag) (parked : V → 
             (λ (y : (j ≢ id) × (get_elem? s.views j ≡ some u)). q.core.tickets (suc i) j u e'' y.1 ∙ ap (λ (z : ℕ). z % 2 ^ 64) far)
             (at_set s.views id j w u e');
       } in
-      let k = leaves fit tag_of parked ticket_discipline disciplined n tag serving new id v w x c tail s r at live
-      (like v w refl refl refl refl refl refl refl)
+      let k = leaves fit tag_of parked ticket_discipline disciplined ch n tag serving new id v w x c tail s r (λ e. omega arith) at live
+      (like v w refl refl refl refl refl refl refl refl) refl silent
       (ap (is_holder false) held) cut.1 refl refl carries rests core in
       (w, gives, k.0, k.1, (slice_index s.words serving, k.2))

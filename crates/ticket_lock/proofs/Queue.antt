@@ -1,15 +1,17 @@
 -- The queue that is computed from words and views is that of the rule.
-use Rattle.std.proofs.Common.{◌≡◌, ℕ, zero, suc, ◌+◌, ◌-◌, ◌%◌, ◌^◌, ◌<◌, true, false, cond, ◌&&◌, ◌==◌, eq-eqb, List, []}
-use Rattle.std.proofs.Common.{◌∷◌, length, map, slice_index, refl, ap, sym, ◌∙◌, arith}
+use Rattle.std.proofs.Common.{◌≡◌, ◌≢◌, ℕ, zero, suc, ◌+◌, ◌-◌, ◌%◌, ◌^◌, ◌<◌, true, false, cond, ◌&&◌, ◌==◌, eq-eqb, List, []}
+use Rattle.std.proofs.Common.{◌∷◌, length, map, slice_index, refl, ap, sym, ◌∙◌, ⊎_elim, arith}
 use Rattle.std.proofs.Math.Nat.{mod-add-mod}
 use mathlib.Core.Option.{some, some-injective, some-ne-none}
 use lib.ListN.{get_elem?}
 use borrow.Author.Tests.{eqb-true}
+use Rattle.atomic_table.proofs.Lists.{at_set}
+use Rattle.lock_rules.specs.Rows.{waiting}
 use Rattle.lock_rules.specs.Tag.{Tag}
 use Rattle.lock_rules.specs.declared.view.View.{View}
 use Rattle.lock_tables.specs.Laws.{IsDisciplined, number_at}
 use Rattle.lock_tables.specs.Rule.{is_busy, IsBusyAt, IsQueued}
-use Rattle.lock_tables.proofs.Lists.{number_is, at_below, both_true}
+use Rattle.lock_tables.proofs.Lists.{number_is, at_below, both_true, wrote_else}
 use Rattle.lock_tables.proofs.Queues.{few_seats, placed_before_split, placed_before_join}
 use Rattle.ticket_lock.specs.Rule.{next, serving, pass_with, passes_from, queue_of, ticket_discipline}
 use Rattle.ticket_lock.proofs.Rounds.{out_is, one_place, first_ticket}
@@ -90,11 +92,22 @@ module _ (n : ℕ) (tag : Tag) (words seats : List ℕ) (views : List View) (q :
 pub disciplined : IsDisciplined ticket_discipline
 disciplined = record {
   opens_long = λ n. refl;
-  opens = λ n tag some_pass few. record {
+  opens_unannounced = λ n. refl;
+  opens = λ c n tag some_pass few. record {
     first = 0;
     next_is = refl;
     serving_is = refl;
     tickets = λ i j v e. absurd (some-ne-none j (sym e));
+  };
+  notes = λ n words seats views x id v w at noted core. record {
+    first = core.first;
+    next_is = wrote_else words waiting next x (λ e. omega arith) ∙ core.next_is;
+    serving_is = wrote_else words waiting serving x (λ e. omega arith) ∙ core.serving_is;
+    tickets = λ i j u e e'. ⊎_elim
+        (λ (t : (j ≡ id) × (w ≡ u)). ap (λ (y : View). y.ticket) (sym t.1) ∙ ap (λ (y : View). y.ticket) noted
+        ∙ core.tickets i j v e (ap (get_elem? views) t.0 ∙ at))
+        (λ (t : (j ≢ id) × (get_elem? views j ≡ some u)). core.tickets i j u e t.1)
+        (at_set views id j w u e');
   };
   splits = λ n tag words seats views id v q at live more. record {
     first = q.core.first;

@@ -1,12 +1,15 @@
 -- What each call of a Ticket lock did: its one step on a word, the view that its token then has, and the event.
-use Rattle.std.specs.Prelude.{◌≡◌, ◌≢◌, ℕ, Bool, [], ◌∷◌, Some}
+use Rattle.std.specs.Prelude.{◌≡◌, ◌≢◌, ℕ, Bool, [], ◌∷◌, None, Some}
 use Rattle.atomic_table.specs.declared.badge.Badge.{Badge}
 use Rattle.lock_rules.specs.Holders.{held_view}
 use Rattle.lock_rules.specs.Tag.{Tag}
 use Rattle.lock_rules.specs.Tokens.{view_of}
 use Rattle.lock_rules.specs.declared.held.Held.{Held}
 use Rattle.lock_rules.specs.declared.view.View.{View}
-use Rattle.lock_tables.specs.Happened.{Stepped, took_view}
+use Rattle.lock_rules.specs.declared.view.Waiters.{Waiters}
+use Rattle.lock_rules.specs.declared.view.Waiters.TheVariants.{Queue, Count}
+use Rattle.lock_tables.specs.Counting.{is_announced, Counted, HasAnnounced, HasWithdrawn}
+use Rattle.lock_tables.specs.Happened.{Stepped, announced_view, took_view}
 use Rattle.lock_tables.specs.Queue.{Takes}
 use Rattle.lock_tables.specs.Rule.{IsLock}
 use Rattle.atomic_table.specs.Table.{takes}
@@ -14,10 +17,12 @@ use Rattle.ticket_lock.specs.Kinds.{after, others_wait, Entered, Missed, Tested,
 use Rattle.ticket_lock.specs.Rule.{serving, queue_of, ticket_discipline}
 
 module _ {V : Type 0} (fit : V → Type 0) (tag_of : V → Tag) (parked : V → Bool) where
-  -- the addition to `next`, which found the ticket
+  -- the announcement, where the lock counts, and the addition to `next`, which found the ticket
   pub record HasEntered (before after : Badge View) : Type 0 where
+    pub announced : HasAnnounced ticket_discipline fit tag_of parked (view_of before).waiters (view_of before, [])
+        (announced_view (view_of before), [])
     pub found : ℕ
-    pub step : Entered fit tag_of parked (view_of before, []) found (view_of after, [])
+    pub step : Entered fit tag_of parked (announced_view (view_of before), []) found (view_of after, [])
 
   -- a load of `serving` that did not show the ticket
   pub record HasMissed (before after : Badge View) : Type 0 where
@@ -25,19 +30,26 @@ module _ {V : Type 0} (fit : V → Type 0) (tag_of : V → Tag) (parked : V → 
     pub other : found ≢ (view_of before).ticket
     pub step : Missed fit tag_of parked (view_of before, []) found (view_of after, [])
 
-  -- a load of `serving` that showed the ticket; the value that was at home is the holder's
+  -- a load of `serving` that showed the ticket; the value that was at home is the holder's; and the announcement is taken back
   pub record HasTaken (before : Badge View) (after : Held V) : Type 0 where
     pub found : ℕ
     pub own : found ≡ (view_of before).ticket
     pub step : Stepped (IsLock ticket_discipline fit tag_of parked) queue_of Takes (takes 0 (Some after.value)) serving found found
         (view_of before, []) (took_view (view_of before))
-        (held_view after, (0, Some after.value) ∷ [])
+        (took_view (view_of before), (0, Some after.value) ∷ [])
+    pub withdrawn : HasWithdrawn ticket_discipline fit tag_of parked (view_of before).waiters
+        (took_view (view_of before), (0, None) ∷ []) (held_view after, (0, None) ∷ [])
 
-  -- a load of `next`; the answer is yes exactly where it was not the ticket behind the holder's
-  pub record HasAsked (before now : Held V) (answer : Bool) : Type 0 where
-    pub found : ℕ
-    pub told : answer ≡ others_wait (held_view before) found
-    pub step : Tested fit tag_of parked before.seat.seat.me found now.seat.seat.me
+  -- by a load of `next`, where the answer is yes exactly where it was not the ticket behind the holder's, or in a lock that counts by one
+  -- of `waiting`, where the answer is yes exactly where somebody is announced
+  abbrev pub Asks : Waiters → Held V → Held V → Bool → Type 0
+  Asks Queue before now answer = (found : ℕ) × (answer ≡ others_wait (held_view before) found)
+      × Tested fit tag_of parked before.seat.seat.me found now.seat.seat.me
+  Asks Count before now answer = (found : ℕ) × (answer ≡ is_announced found)
+      × Counted ticket_discipline fit tag_of parked before.seat.seat.me found now.seat.seat.me
+
+  abbrev pub HasAsked : Held V → Held V → Bool → Type 0
+  HasAsked before now answer = Asks (held_view before).waiters before now answer
 
   -- the store of the next ticket in `serving`; the holder's value is at home then
   abbrev pub HasLeft : Held V → Badge View → Type 0

@@ -5,6 +5,7 @@ use lib.ListN.{get_elem?}
 use Rattle.atomic_table.specs.Table.{State}
 use Rattle.lock_rules.specs.Tag.{Tag}
 use Rattle.lock_rules.specs.declared.view.View.{View}
+use Rattle.lock_rules.specs.declared.view.Waiters.{Waiters}
 use Rattle.lock_tables.specs.Rule.{is_busy, IsLock}
 use Rattle.ticket_lock.specs.Rule.{serving, tickets_out, ticket_discipline}
 
@@ -27,5 +28,5 @@ pub record HasDistances (words : List ℕ) (views : List View) : Type 0 where
 
 module _ {V : Type 0} (fit : V → Type 0) (tag_of : V → Tag) (parked : V → Bool) where
   abbrev pub RuleHasDistances : Type 0
-  RuleHasDistances = (n : ℕ) (tag : Tag) (s : State (Option V) View) → IsLock ticket_discipline fit tag_of parked n tag s
+  RuleHasDistances = (c : Waiters) (n : ℕ) (tag : Tag) (s : State (Option V) View) → IsLock ticket_discipline fit tag_of parked c n tag s
       → HasDistances s.words s.views

@@ -15,11 +15,11 @@ after ticket = (ticket + 1) % 2 ^ 64
 
 -- the pass is queued with the ticket that it found
 abbrev pub queued_view : View → ℕ → View
-queued_view v ticket = record v { phase = Queued; entries = v.entries + 1; ticket = ticket; predecessor = 0 }
+queued_view v ticket = record v { phase = Queued; steps = v.steps + 1; entries = v.entries + 1; ticket = ticket; predecessor = 0 }
 
 -- the pass is idle again
 abbrev pub left_view : View → View
-left_view v = record v { phase = Idle; followed = false }
+left_view v = record v { phase = Idle; steps = v.steps + 1; followed = false }
 
 -- `waiter` says yes where `next` is not the ticket behind the holder's
 abbrev pub others_wait : View → ℕ → Bool

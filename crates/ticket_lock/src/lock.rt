@@ -1,19 +1,21 @@
 //! The lock and its calls.
-ghost use Rattle.std.specs.Prelude.{◌≡◌, ◌≢◌, ◌+◌, true, false, refl, ⊤};
+ghost use Rattle.std.specs.Prelude.{◌≡◌, ◌≢◌, ◌+◌, true, false, refl};
 ghost use Rattle.crossbeam_utils.specs.Padded.{padded_value};
 ghost use Rattle.lock_rules.specs.declared.view.Algorithm.TheVariants.{Ticket as ticket_algorithm};
 ghost use Rattle.lock_rules.specs.declared.step.Answer.TheVariants.{Open, Yes};
 ghost use Rattle.lock_rules.specs.Views.{lock_name, answer_of};
-ghost use Rattle.lock_rules.specs.Holders.{holder_of};
+ghost use Rattle.lock_rules.specs.Holders.{held_view, holder_of};
 ghost use Rattle.lock_rules.specs.Steps.{IfNot, IfGot, IsNot, IsGot};
 ghost use Rattle.lock_rules.specs.Passes.{IsOf, AreAll};
 ghost use Rattle.lock_rules.specs.Tokens.{view_of, badge_place, badge_waiting};
+ghost use Rattle.lock_tables.specs.Happened.{counting};
 ghost use Rattle.lock_tables.specs.Seats.{IsOwn};
+ghost use Rattle.ticket_lock.specs.Choice.{ticket_waiters};
 ghost use Rattle.ticket_lock.specs.Calls.{HasEntered, HasMissed, HasTaken, HasAsked, HasLeft};
 
 use crate::laws::TicketWords;
 use crate::steps::Words;
-use lock_rules::{Basic, Cargo, Held, Left, Pass, Queue, Refused, Step};
+use lock_rules::{Basic, Cargo, Held, Left, Pass, Queue, Refused, Step, Waiters};
 use lock_tables::Ruled;
 use std::alloc::Global;
 
@@ -23,8 +25,17 @@ pub struct Ticket<V: Cargo> {
     words: Words<V>,
 }
 
+impl<V: Cargo> Ticket<V> {
+    /// How it learns of waiters.
+    pub fn waiters(&self) -> Waiters
+        ensures { result ≡ ticket_waiters self.now }
+    {
+        self.words.waiters
+    }
+}
+
 impl<V: Cargo> Basic<V> for Ticket<V> {
-    type Recipe = ();
+    type Recipe = Waiters;
 
     type Pass = Pass;
 
@@ -34,21 +45,22 @@ impl<V: Cargo> Basic<V> for Ticket<V> {
 
     type Leave = Left;
 
-    ghost name = { λ l. lock_name ticket_algorithm (padded_value l.words.table).shared.table_id };
+    ghost name = { λ l. lock_name ticket_algorithm (padded_value l.words.table).shared.key.waiters
+        (padded_value l.words.table).shared.table_id };
 
     ghost tag = { λ l. V.tag (padded_value l.words.table).shared.key.value.value };
 
     ghost count = { λ l. (padded_value l.words.table).shared.key.passes };
 
-    ghost made = { λ _ _. ⊤ };
+    ghost made = { λ l waiters. ticket_waiters l ≡ waiters };
 
     fn make(
         alloc: Global,
-        _recipe: (),
+        waiters: Waiters,
         passes: u32,
         value: V,
     ) -> Result<(Ticket<V>, Vec<Pass>), Refused<V>> {
-        let (words, list) = Words::make(alloc, passes, value)?;
+        let (words, list) = Words::make(alloc, waiters, passes, value)?;
         Ok((Ticket { words }, list))
     }
 
@@ -60,12 +72,15 @@ impl<V: Cargo> Basic<V> for Ticket<V> {
         ensures did { IfNot result (λ q. HasEntered V.fit V.tag V.parked pass.badge q.badge) }
         ensures queue { IfNot result (λ q. (badge_waiting q.badge).place ≡ badge_place pass.badge) }
         ensures entered { IfNot result (λ q. (view_of q.badge).entries ≡ (view_of pass.badge).entries + 1) }
+        ensures steps { IfNot result (λ q. (view_of q.badge).steps
+            ≡ (view_of pass.badge).steps + counting (view_of pass.badge).waiters + 1) }
         ensures held { IfGot result (λ h. (holder_of h).place ≡ badge_place pass.badge) }
         ensures fit { IfGot result (λ h. V.fit h.value) }
         ensures tagged { IfGot result (λ h. V.tag h.value ≡ V.tag (padded_value self.now.words.table).shared.key.value.value) }
         ensures untested { IfGot result (λ h. (holder_of h).tested ≡ Open) }
     {
         let mut seat = self.words.pass_seat(pass);
+        self.words.announce(&mut seat);
         let ticket = self.words.fetch_and_increment_next(&mut seat);
         Step::Not(Queue::of(seat, ticket, 0))
     }
@@ -79,6 +94,9 @@ impl<V: Cargo> Basic<V> for Ticket<V> {
         ensures queue { IfNot result (λ q. (badge_waiting q.badge).place ≡ (badge_waiting queue.badge).place) }
         ensures loaded { IfNot result (λ q. (badge_waiting q.badge).loads ≡ (badge_waiting queue.badge).loads + 1) }
         ensures unready { IfNot result (λ q. (badge_waiting q.badge).ready ≡ false) }
+        ensures steps { IfNot result (λ q. (view_of q.badge).steps ≡ (view_of queue.badge).steps + 1) }
+        ensures steps_behind { IfGot result (λ h. (held_view h).steps
+            ≡ (view_of queue.badge).steps + 1 + counting (view_of queue.badge).waiters) }
         ensures held { IfGot result (λ h. (holder_of h).place ≡ (badge_waiting queue.badge).place) }
         ensures fit { IfGot result (λ h. V.fit h.value) }
         ensures tagged { IfGot result (λ h. V.tag h.value ≡ V.tag (padded_value self.now.words.table).shared.key.value.value) }
@@ -89,10 +107,11 @@ impl<V: Cargo> Basic<V> for Ticket<V> {
             return Step::Not(Queue::of(seat, ticket, predecessor));
         }
         let value = self.words.take(&mut seat);
+        self.words.withdraw(&mut seat);
         Step::Got(Held::of(seat, value, ticket, predecessor))
     }
 
-    /// The answer is yes exactly where the loaded word isn't the ticket behind the holder's.
+    /// The answer is yes exactly where the loaded word isn't the ticket behind the holder's or, in a lock that counts, isn't 0.
     fn waiter(&self, held: &mut Held<V>) -> bool
         requires own { IsOwn V.tag ticket_algorithm (padded_value self.now.words.table).shared.table_id
             (padded_value self.now.words.table).shared.key (holder_of held.old).place }
@@ -101,9 +120,14 @@ impl<V: Cargo> Basic<V> for Ticket<V> {
         ensures value { held.new.value ≡ held.old.value }
         ensures loaded { (holder_of held.new).loads ≡ (holder_of held.old).loads + 1 }
         ensures noted { (holder_of held.new).tested ≡ answer_of result }
+        ensures steps { (held_view held.new).steps ≡ (held_view held.old).steps + 1 }
     {
         let ticket = self.words.held_ticket(held);
-        self.words.load_next(&mut held.seat.seat) != ticket.wrapping_add(1)
+        let seat = &mut held.seat.seat;
+        match self.words.waiters {
+            Waiters::Queue => self.words.load_next(seat) != ticket.wrapping_add(1),
+            Waiters::Count => self.words.count_waiting(seat) != 0,
+        }
     }
 
     /// The answer is never `Not`: the value is put back, and the next ticket is served.
@@ -121,6 +145,7 @@ impl<V: Cargo> Basic<V> for Ticket<V> {
         ensures unready { IfNot result (λ l. (badge_waiting l.pass.badge).ready ≡ false) }
         ensures rests { IfNot result (λ _. Unit {0}) }
         ensures pass { IfGot result (λ p. badge_place p.badge ≡ (holder_of held).place) }
+        ensures steps { IfGot result (λ p. (view_of p.badge).steps ≡ (held_view held).steps + 1) }
     {
         let (mut seat, value, ticket) = self.words.held_parts(held);
         self.words.put(&mut seat, value);
@@ -145,7 +170,8 @@ impl<V: Cargo> Basic<V> for Ticket<V> {
     }
 
     fn close(self, passes: Vec<Pass>) -> V
-        requires all { AreAll (λ p. badge_place p.badge) (lock_name ticket_algorithm (padded_value self.words.table).shared.table_id)
+        requires all { AreAll (λ p. badge_place p.badge) (lock_name ticket_algorithm (padded_value self.words.table).shared.key.waiters
+            (padded_value self.words.table).shared.table_id)
             (V.tag (padded_value self.words.table).shared.key.value.value) (padded_value self.words.table).shared.key.passes passes.items }
         ensures fit { V.fit result }
         ensures tagged { V.tag result ≡ V.tag (padded_value self.words.table).shared.key.value.value }
@@ -160,6 +186,8 @@ impl<V: Cargo> Ruled<V> for Ticket<V> {
     type Algorithm = TicketWords;
 
     ghost table = { λ l. (padded_value l.words.table).shared.table_id };
+
+    ghost waiters = { λ l. (padded_value l.words.table).shared.key.waiters };
 
     ghost named = { λ l. refl };
 }

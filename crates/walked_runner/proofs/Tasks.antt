@@ -70,8 +70,8 @@ module _ (payload : Tag) (share : ShareState) (commands : List WholeCommand) (be
       (left_behind payload before commands begun.left command behind cut)
 
 -- a holder that has changed the payload alone still stands
-pub kept_trail : (tag : Tag) (level above : ℕ) (share : ShareState) (old new : Root Book) → HasOpened book_calls book_tag tag level share old
-    → new.trail ≡ old.trail → IsKept book_calls above old new
+pub kept_trail : (tag : Tag) (level above : ℕ) (share : ShareState) (old new : Root Book) → HasOpened book_calls book_tag tag level share
+    old → new.trail ≡ old.trail → IsKept book_calls above old new
 kept_trail tag level above share old new opened same = record {
   name = ap (λ (s : TrailState). s.name) same;
   receipts = ap (λ (s : TrailState). s.receipts) same;

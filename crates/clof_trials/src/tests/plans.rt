@@ -52,6 +52,9 @@ fn refuses_locks_and_keeps(rt: HostRuntime) -> Result<(), Fail> {
     let words = ["run", "--locks", "mcs-foo"];
     let fault = PlanFault::LockUnknown { place: 1 };
     refuses(&rt, alloc, &words, fault, b"clof: plan LockUnknown 1\n")?;
+    let words = ["run", "--locks", "tkt-mcsd"];
+    let fault = PlanFault::LockUnknown { place: 1 };
+    refuses(&rt, alloc, &words, fault, b"clof: plan LockUnknown 1\n")?;
     let words = ["run", "--locks", "mcs-mcs"];
     let fault = PlanFault::Lengths {
         levels: 1,

@@ -11,7 +11,8 @@ const TWO_GETS: &[u8] = b"worker * 7\nget a\r\n\nworker * 7\nget a\r\n\n";
 
 const THREE_GETS: &[u8] = b"worker * 7\nget a\r\n\nworker * 7\nget a\r\n\nworker * 7\nget a\r\n\n";
 
-// Checks a walk under a lock of two levels, of an MCS lock each, over the cores of a package and the machine.
+// Checks a walk under a lock of two levels, of an MCS lock each, over the cores of a package and the machine. Where the locks count their
+// waiters it is the same.
 fn walks_on_cores<R: Threads + Wait + Sync + Abort>(
     rt: &R,
     alloc: Global,
@@ -20,18 +21,21 @@ fn walks_on_cores<R: Threads + Wait + Sync + Abort>(
     input: &[u8],
     text: &[u8],
 ) -> Result<(), Fail> {
-    let words = [
-        "run",
-        "--walk",
-        "--levels",
-        "package,machine",
-        "--locks",
-        "mcs-mcs",
-        "--keep",
-        keep,
-        description,
-    ];
-    prints(rt, alloc, &words, input, text)
+    for locks in ["mcs-mcs", "mcsc-mcsc"] {
+        let words = [
+            "run",
+            "--walk",
+            "--levels",
+            "package,machine",
+            "--locks",
+            locks,
+            "--keep",
+            keep,
+            description,
+        ];
+        prints(rt, alloc, &words, input, text)?;
+    }
+    Ok(())
 }
 
 // The second caller waits below the lock that the first one has, and gets it without a climb.
@@ -158,7 +162,7 @@ fn walks_near_and_far<R: Threads + Wait + Sync + Abort>(
     prints(rt, alloc, &words, NEAR_AND_FAR, text)
 }
 
-// Four levels, a lock of each kind.
+// Four levels, a lock of each kind. Where they count their waiters the walk is the same.
 #[test]
 fn climbs_four_levels(rt: HostRuntime) -> Result<(), Fail> {
     let text = b"turn 0 caller 0 pu 0 climb 3 tests 1 left 0 \"get a\\r\\n\" \"END\\r\\n\"\n\
@@ -171,13 +175,9 @@ fn climbs_four_levels(rt: HostRuntime) -> Result<(), Fail> {
           caller 2 pu 1 commands 1 rest 0\n\
           caller 3 pu 2 commands 1 rest 0\n\
           caller 4 pu 7 commands 1 rest 0\n";
-    walks_near_and_far(
-        &rt,
-        rt.alloc(),
-        "core,l3,die,machine",
-        "tkt-mcs-clh-hem",
-        text,
-    )
+    let levels = "core,l3,die,machine";
+    walks_near_and_far(&rt, rt.alloc(), levels, "tkt-mcs-clh-hem", text)?;
+    walks_near_and_far(&rt, rt.alloc(), levels, "tktc-mcsc-clhc-hemc", text)
 }
 
 // A level more: who goes over to the other package climbs one level higher.
@@ -194,7 +194,8 @@ fn climbs_a_level_more(rt: HostRuntime) -> Result<(), Fail> {
           caller 3 pu 2 commands 1 rest 0\n\
           caller 4 pu 7 commands 1 rest 0\n";
     let levels = "core,l3,die,package,machine";
-    walks_near_and_far(&rt, rt.alloc(), levels, "tkt-mcs-clh-hem-tkt", text)
+    walks_near_and_far(&rt, rt.alloc(), levels, "tkt-mcs-clh-hem-tkt", text)?;
+    walks_near_and_far(&rt, rt.alloc(), levels, "tktc-mcsc-clhc-hemc-tktc", text)
 }
 
 // Five levels, as a plain model of the locks has them. The first caller has a second command, and queues again behind the second one; a

@@ -64,6 +64,13 @@ fn reads_plans(rt: HostRuntime) -> Result<(), Fail> {
         LockKind::Hem,
         LockKind::Mcs,
     ];
+    let counted = [
+        LockKind::TktC,
+        LockKind::McsC,
+        LockKind::ClhC,
+        LockKind::HemC,
+        LockKind::Mcs,
+    ];
     plans(
         &rt,
         alloc,
@@ -77,9 +84,9 @@ fn reads_plans(rt: HostRuntime) -> Result<(), Fail> {
         &rt,
         alloc,
         FIVE,
-        "run --keep=0,1,2,65535 * --levels=Core,L3,die,socket,machine --locks=tkt-mcs-clh-hem-mcs",
+        "run --keep=0,1,2,65535 * --levels=Core,L3,die,socket,machine --locks=tktc-mcsc-clhc-hemc-mcs",
         &[4, 3, 2, 1, 0],
-        &kinds,
+        &counted,
         &[0, 1, 2, 65_535],
     )
 }
@@ -104,6 +111,8 @@ run --levels pu,l3 *|3 clof: plan LevelOrder 1";
 #[test]
 fn refuses_locks_and_keeps(rt: HostRuntime) -> Result<(), Fail> {
     let table = "run --locks mcs-foo|3 clof: plan LockUnknown 1
+run --locks tkt-mcsd|3 clof: plan LockUnknown 1
+run --locks tktcc|3 clof: plan LockUnknown 0
 run --locks=|3 clof: plan LockUnknown 0
 run --locks MCS|3 clof: plan LockUnknown 0
 run --locks mcs-mcs|3 clof: plan Lengths 1 2

@@ -1,6 +1,5 @@
-use Rattle.std.proofs.Common.{◌≡◌, ◌+◌, ◌<◌, length, set, ap, sym, ◌∙◌, subst, arith}
+use Rattle.std.proofs.Common.{◌+◌, ◌<◌, length, set, ap, sym, subst}
 use Rattle.std.proofs.lemmas.List.{length-set}
-use Rattle.keep_local.specs.Shapes.{callers_of}
 use Rattle.clof_compose.specs.Contexts.{AreContexts}
 use Rattle.lock_shape.proofs.Shapes.{HaveParents, context_within, one_parent_more}
 use Rattle.lock_shape.proofs.parents_at.Goals as goal

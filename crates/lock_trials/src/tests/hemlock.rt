@@ -2,7 +2,7 @@
 use hemlock_lock::Hemlock;
 use lock_harness::Told::{Got, No, Not, Yes};
 use lock_harness::{Call, HOLDS, Parcel, START, carry_out, first, hold_by, second};
-use lock_rules::Basic;
+use lock_rules::{Basic, Waiters};
 
 #[test]
 fn two_passes_take_turns(rt: HostRuntime) {
@@ -18,12 +18,14 @@ fn two_passes_take_turns(rt: HostRuntime) {
         second(Call::Waiter),
         second(Call::BeginRelease),
     ];
-    let Some(outcome) = carry_out::<Hemlock<Parcel>>(rt.alloc(), (), &moves) else {
-        panic!(rt; "the script was not carried out")
-    };
     let told = [Got, Not, Not, Yes, Not, Not, Got, Got, No, Got];
-    assert!(rt; outcome.told.as_slice() == told.as_slice());
-    assert!(rt; outcome.count == START);
+    for waiters in [Waiters::Queue, Waiters::Count] {
+        let Some(outcome) = carry_out::<Hemlock<Parcel>>(rt.alloc(), waiters, &moves) else {
+            panic!(rt; "the script was not carried out")
+        };
+        assert!(rt; outcome.told.as_slice() == told.as_slice());
+        assert!(rt; outcome.count == START);
+    }
 }
 
 #[test]
@@ -38,30 +40,38 @@ fn a_parked_value_is_handed_over(rt: HostRuntime) {
         second(Call::BeginRelease),
         first(Call::PollRelease),
     ];
-    let Some(outcome) = carry_out::<Hemlock<Parcel>>(rt.alloc(), (), &moves) else {
-        panic!(rt; "the script was not carried out")
-    };
     let told = [Got, Not, Yes, Not, Got, No, Got, Got];
-    assert!(rt; outcome.told.as_slice() == told.as_slice());
-    assert!(rt; outcome.count == START + 2);
+    for waiters in [Waiters::Queue, Waiters::Count] {
+        let Some(outcome) = carry_out::<Hemlock<Parcel>>(rt.alloc(), waiters, &moves) else {
+            panic!(rt; "the script was not carried out")
+        };
+        assert!(rt; outcome.told.as_slice() == told.as_slice());
+        assert!(rt; outcome.count == START + 2);
+    }
 }
 
 #[test]
 fn four_threads_hold_in_turn(rt: HostRuntime) {
-    for parks in [false, true] {
-        let Some(parcel) = hold_by::<Hemlock<Parcel>, _>(&rt, rt.alloc(), (), 4, HOLDS, parks)
+    for (waiters, parks) in [
+        (Waiters::Queue, false),
+        (Waiters::Queue, true),
+        (Waiters::Count, false),
+        (Waiters::Count, true),
+    ] {
+        let Some(parcel) = hold_by::<Hemlock<Parcel>, _>(&rt, rt.alloc(), waiters, 4, HOLDS, parks)
         else {
             panic!(rt; "there was no memory")
         };
         assert!(rt; parcel.count == 4 * u64::from(HOLDS));
         assert!(rt; parcel.parkings == parcel.unparkings);
+        assert!(rt; !parks || parcel.met);
     }
 }
 
 #[test]
 fn passes_are_made_or_the_value_comes_back(rt: HostRuntime) {
     for passes in [1, 4096] {
-        match Hemlock::make(rt.alloc(), (), passes, Parcel::new(START)) {
+        match Hemlock::make(rt.alloc(), Waiters::Queue, passes, Parcel::new(START)) {
             Ok((lock, list)) => {
                 assert!(rt; list.len() == passes as usize);
                 assert!(rt; lock.close(list).count == START);

@@ -3,7 +3,7 @@ use lock_harness::Told::{Got, No, Not, Yes};
 use lock_harness::{
     BoundedCount, Call, HOLDS, Parcel, START, Slow, carry_out, count_by, first, hold_by, second,
 };
-use lock_rules::Basic;
+use lock_rules::{Basic, Waiters};
 use ticket_lock::Ticket;
 
 #[test]
@@ -19,12 +19,14 @@ fn two_passes_take_turns(rt: HostRuntime) {
         second(Call::Waiter),
         second(Call::BeginRelease),
     ];
-    let Some(outcome) = carry_out::<Ticket<Parcel>>(rt.alloc(), (), &moves) else {
-        panic!(rt; "the script was not carried out")
-    };
     let told = [Not, Got, Not, Not, Yes, Got, Got, No, Got];
-    assert!(rt; outcome.told.as_slice() == told.as_slice());
-    assert!(rt; outcome.count == START);
+    for waiters in [Waiters::Queue, Waiters::Count] {
+        let Some(outcome) = carry_out::<Ticket<Parcel>>(rt.alloc(), waiters, &moves) else {
+            panic!(rt; "the script was not carried out")
+        };
+        assert!(rt; outcome.told.as_slice() == told.as_slice());
+        assert!(rt; outcome.count == START);
+    }
 }
 
 #[test]
@@ -41,12 +43,14 @@ fn a_parked_value_is_handed_over(rt: HostRuntime) {
         second(Call::Waiter),
         second(Call::BeginRelease),
     ];
-    let Some(outcome) = carry_out::<Ticket<Parcel>>(rt.alloc(), (), &moves) else {
-        panic!(rt; "the script was not carried out")
-    };
     let told = [Not, Got, Not, Yes, Got, Got, Got, Yes, No, Got];
-    assert!(rt; outcome.told.as_slice() == told.as_slice());
-    assert!(rt; outcome.count == START);
+    for waiters in [Waiters::Queue, Waiters::Count] {
+        let Some(outcome) = carry_out::<Ticket<Parcel>>(rt.alloc(), waiters, &moves) else {
+            panic!(rt; "the script was not carried out")
+        };
+        assert!(rt; outcome.told.as_slice() == told.as_slice());
+        assert!(rt; outcome.count == START);
+    }
 }
 
 #[test]
@@ -61,20 +65,28 @@ fn a_holder_parks_where_another_waits(rt: HostRuntime) {
         second(Call::Use),
         second(Call::BeginRelease),
     ];
-    let Some(outcome) = carry_out::<Ticket<Parcel>>(rt.alloc(), (), &moves) else {
-        panic!(rt; "the script was not carried out")
-    };
     let told = [Not, Got, Not, Yes, Got, Got, No, Got];
-    assert!(rt; outcome.told.as_slice() == told.as_slice());
-    assert!(rt; outcome.count == START + 2);
+    for waiters in [Waiters::Queue, Waiters::Count] {
+        let Some(outcome) = carry_out::<Ticket<Parcel>>(rt.alloc(), waiters, &moves) else {
+            panic!(rt; "the script was not carried out")
+        };
+        assert!(rt; outcome.told.as_slice() == told.as_slice());
+        assert!(rt; outcome.count == START + 2);
+    }
 }
 
 // `acquire` and `release` wait as long as it takes
 #[test]
 fn a_hold_may_take_millions_of_polls(rt: HostRuntime) {
     let polls = 1_000_001;
-    let Some(parcel) = hold_by::<Slow<Ticket<Parcel>>, _>(&rt, rt.alloc(), ((), polls), 1, 1, false)
-    else {
+    let Some(parcel) = hold_by::<Slow<Ticket<Parcel>>, _>(
+        &rt,
+        rt.alloc(),
+        (Waiters::Queue, polls),
+        1,
+        1,
+        false,
+    ) else {
         panic!(rt; "there was no memory")
     };
     assert!(rt; parcel.count == 1);
@@ -82,19 +94,26 @@ fn a_hold_may_take_millions_of_polls(rt: HostRuntime) {
 
 #[test]
 fn four_threads_hold_in_turn(rt: HostRuntime) {
-    for parks in [false, true] {
-        let Some(parcel) = hold_by::<Ticket<Parcel>, _>(&rt, rt.alloc(), (), 4, HOLDS, parks) else {
+    for (waiters, parks) in [
+        (Waiters::Queue, false),
+        (Waiters::Queue, true),
+        (Waiters::Count, false),
+        (Waiters::Count, true),
+    ] {
+        let Some(parcel) = hold_by::<Ticket<Parcel>, _>(&rt, rt.alloc(), waiters, 4, HOLDS, parks)
+        else {
             panic!(rt; "there was no memory")
         };
         assert!(rt; parcel.count == 4 * u64::from(HOLDS));
         assert!(rt; parcel.parkings == parcel.unparkings);
+        assert!(rt; !parks || parcel.met);
     }
 }
 
 #[test]
 fn passes_are_made_or_the_value_comes_back(rt: HostRuntime) {
     for passes in [1, 4096] {
-        match Ticket::make(rt.alloc(), (), passes, Parcel::new(START)) {
+        match Ticket::make(rt.alloc(), Waiters::Queue, passes, Parcel::new(START)) {
             Ok((lock, list)) => {
                 assert!(rt; list.len() == passes as usize);
                 assert!(rt; lock.close(list).count == START);
@@ -110,8 +129,14 @@ fn passes_are_made_or_the_value_comes_back(rt: HostRuntime) {
 #[test]
 fn every_hold_is_made(rt: HostRuntime) {
     for threads in [1, 2, 5] {
-        let Some(parcel) = hold_by::<Ticket<Parcel>, _>(&rt, rt.alloc(), (), threads, HOLDS, false)
-        else {
+        let Some(parcel) = hold_by::<Ticket<Parcel>, _>(
+            &rt,
+            rt.alloc(),
+            Waiters::Queue,
+            threads,
+            HOLDS,
+            false,
+        ) else {
             panic!(rt; "there was no memory")
         };
         assert!(rt; parcel.count == u64::from(threads) * u64::from(HOLDS));
@@ -121,7 +146,13 @@ fn every_hold_is_made(rt: HostRuntime) {
 #[test]
 fn every_count_is_made(rt: HostRuntime) {
     for threads in [1, 2, 4] {
-        let count = count_by::<Ticket<BoundedCount>, _>(&rt, rt.alloc(), (), threads, HOLDS);
+        let count = count_by::<Ticket<BoundedCount>, _>(
+            &rt,
+            rt.alloc(),
+            Waiters::Queue,
+            threads,
+            HOLDS,
+        );
         assert!(rt; count == Some(u64::from(threads) * u64::from(HOLDS)));
     }
 }

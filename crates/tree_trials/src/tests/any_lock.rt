@@ -27,7 +27,7 @@ fn a_pass_of_a_ticket_and_of_a_clh_lock_looks_by_polls_alone(rt: HostRuntime) {
         second(Call::BeginRelease),
     ];
     let told = [Not, Got, Not, Not, Yes, Got, Got, No, Got];
-    for kind in [LockKind::Tkt, LockKind::Clh] {
+    for kind in [LockKind::Tkt, LockKind::Clh, LockKind::TktC, LockKind::ClhC] {
         assert!(rt; plays(rt.alloc(), kind, &moves, &told));
     }
 }
@@ -47,7 +47,9 @@ fn a_pass_of_an_mcs_lock_lets_its_successor_go_on(rt: HostRuntime) {
         second(Call::BeginRelease),
     ];
     let told = [Got, Not, Not, Yes, Got, Got, Got, Yes, No, Got];
-    assert!(rt; plays(rt.alloc(), LockKind::Mcs, &moves, &told));
+    for kind in [LockKind::Mcs, LockKind::McsC] {
+        assert!(rt; plays(rt.alloc(), kind, &moves, &told));
+    }
 }
 
 #[test]
@@ -65,12 +67,23 @@ fn a_pass_of_a_hemlock_waits_until_its_grant_is_cleared(rt: HostRuntime) {
         second(Call::BeginRelease),
     ];
     let told = [Got, Not, Not, Yes, Not, Not, Got, Got, No, Got];
-    assert!(rt; plays(rt.alloc(), LockKind::Hem, &moves, &told));
+    for kind in [LockKind::Hem, LockKind::HemC] {
+        assert!(rt; plays(rt.alloc(), kind, &moves, &told));
+    }
 }
 
 #[test]
 fn a_lock_is_of_the_kind_that_was_asked_for(rt: HostRuntime) {
-    for kind in [LockKind::Tkt, LockKind::Mcs, LockKind::Clh, LockKind::Hem] {
+    for kind in [
+        LockKind::Tkt,
+        LockKind::Mcs,
+        LockKind::Clh,
+        LockKind::Hem,
+        LockKind::TktC,
+        LockKind::McsC,
+        LockKind::ClhC,
+        LockKind::HemC,
+    ] {
         match AnyLock::make(rt.alloc(), kind, 3, Parcel::new(START)) {
             Ok((lock, passes)) => {
                 assert!(rt; lock.kind() == kind);

@@ -1,9 +1,8 @@
-use Rattle.std.proofs.Common.{◌≡◌, ◌<◌, ℕ, length, Some, refl, sym, ◌∙◌, subst, arith, vec_capacity}
+use Rattle.std.proofs.Common.{◌≡◌, length, refl, ◌∙◌, arith}
 use mathlib.Core.Logic.{dite}
 use native.Mathlib.Decide.{ℕ_discrete}
 use Rattle.clof_compose.proofs.Lists.{length_more, one_before}
 use Rattle.threaded_runner.proofs.Items.{at_end, from_first, in_front}
-use Rattle.threaded_runner.specs.declared.job.Job.{Job}
 use Rattle.cohort_runner.specs.Callers.{IsCaller}
 use Rattle.cohort_runner.specs.Rolls.{contexts_of, roll_tag}
 use Rattle.cohort_runner.proofs.Seated.{IsSeated, full_slots, own_slots}

@@ -22,7 +22,8 @@ returns-in-Ok-clause-refused c =
       | inr usage ↦ inr (
         usage.0,
         asked-none calc_of _ _ (map string_bytes c.args.words.now)
-            (calc_made (map rule_of c.arguments.result.now) c.arguments.ensures) _ c.in-Ok.ensures.read (sym (ap (option_map Calc) usage.1)),
+            (calc_made (map rule_of c.arguments.result.now) c.arguments.ensures) _ c.in-Ok.ensures.read
+            (sym (ap (option_map Calc) usage.1)),
       )
     ]
 

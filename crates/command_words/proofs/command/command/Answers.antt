@@ -13,4 +13,5 @@ loop-argument-preserved c =
     c.in_ok-command.ensures.shape c.argument_of.ensures.own
     ∙ ap (λ (app : App). with_rule app (clap_rule c.argument_of.result)) c.loop-argument.invariant
     ∙ ap (λ (rule : Rule). command_of name (before ++ rule ∷ [])) c.argument_of.ensures.rule
-    ∙ ap (command_of name) (sym (ap (map rule_of) (take_more all place _ c.loop-argument-test.true) ∙ map-append rule_of (take place all) _))
+    ∙ ap (command_of name)
+    (sym (ap (map rule_of) (take_more all place _ c.loop-argument-test.true) ∙ map-append rule_of (take place all) _))

@@ -20,7 +20,8 @@ returns-in-Ok-clause-refused c =
     inr (
       refl,
       asked-none distrib_of _ _ (map string_bytes c.args.words.now)
-          (distrib_made (map rule_of c.arguments.result.now) c.arguments.ensures) _ c.in-Ok.ensures.read (ap (option_map Distrib) c.in-None.ensures),
+          (distrib_made (map rule_of c.arguments.result.now) c.arguments.ensures) _ c.in-Ok.ensures.read
+          (ap (option_map Distrib) c.in-None.ensures),
     )
 
 pub returns-clause-refused : goal.returns-clause-refused

@@ -1,6 +1,5 @@
 use Rattle.std.proofs.Common.{List, ℕ, length, map, ap, sym, ◌∙◌, subst}
 use Rattle.std.proofs.lemmas.Result.{IfOk-weaker}
-use Rattle.lock_rules.specs.Tag.{Tag}
 use Rattle.lock_rules.specs.Trees.{lists_in}
 use Rattle.keep_local.specs.States.{TrailState, callers_in}
 use Rattle.clof_compose.specs.Courses.{Course, course_of}
@@ -49,6 +48,6 @@ returns g c =
       shape = IfOk-weaker c.finish_fresh.result _ _ (λ made is. ap (λ (s : TrailState). s.shape) is
           ∙ sym (ap (λ (k : Course). k.shape) told)) c.finish_fresh.ensures.trail;
       sections = IfOk-weaker c.finish_fresh.result _ _ (λ made is. is ∙ sym book) c.finish_fresh.ensures.sections;
-      marks = IfOk-weaker c.finish_fresh.result _ _ (λ made is. subst (λ n. AreMarked (callers_in made.left.trail.closed) n made.marks.items)
-          c.requires.crew.crew_is.many is) c.finish_fresh.ensures.marks;
+      marks = IfOk-weaker c.finish_fresh.result _ _ (λ made is. subst (λ n. AreMarked (callers_in made.left.trail.closed) n
+          made.marks.items) c.requires.crew.crew_is.many is) c.finish_fresh.ensures.marks;
     }

@@ -1,12 +1,10 @@
-use Rattle.std.proofs.Common.{◌≡◌, List, ℕ, length, map, ap, sym, ◌∙◌, subst}
+use Rattle.std.proofs.Common.{List, ℕ, length, map, ap, sym, ◌∙◌, subst}
 use Rattle.std.specs.Prelude.{IsSome}
-use Rattle.lock_rules.specs.Trees.{lists_in}
 use Rattle.keep_local.specs.States.{TrailState, callers_in}
 use Rattle.kv_history.specs.Log.{Log}
 use Rattle.mc_text.specs.Reading.{commands_of}
 use Rattle.threaded_runner.specs.Books.{book_calls, book_tag}
 use Rattle.threaded_runner.specs.Done.{AreDone}
-use Rattle.threaded_runner.specs.declared.book.Book.{Book}
 use Rattle.fresh_runner.specs.declared.book.FreshBook.{FreshBook}
 use Rattle.fresh_runner.proofs.Ends.{are_marked}
 use Rattle.fresh_runner.proofs.Settled.{sections_in, settled_home}

@@ -1,4 +1,4 @@
-use Rattle.std.proofs.Common.{rules, refl, ap, sym, ◌∙◌, subst}
+use Rattle.std.proofs.Common.{rules, refl, sym, subst}
 use Rattle.clof_compose.specs.Calls.{MayTurn}
 use Rattle.clof_compose.specs.Courses.{course_of}
 use Rattle.clof_compose.specs.Passes.{IsNumber}

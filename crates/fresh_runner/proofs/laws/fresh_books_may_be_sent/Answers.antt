@@ -1,5 +1,4 @@
 use denote.Param.Send.{sendable}
-use Rattle.std.proofs.Crossing.{crosses}
 use Rattle.fresh_root.proofs.Crossing.{fresh_sent}
 use Rattle.fresh_runner.proofs.Sent.{book_sent}
 use Rattle.fresh_runner.proofs.laws.fresh_books_may_be_sent.Goals as goal

@@ -16,5 +16,6 @@ returns c =
     let lines = ap marks_lines c.deref.ensures.value in
     record {
       run = marked_run left.trail left.journal c.args.sections.now marks _ c.requires.finished c.requires.sections c.facts.ensures.callers
-          c.requires.marks (c.in_ok-push_lines.ensures ∙ ap (λ l. c.in_ok-out.out.items ++ l) lines ∙ ap (λ l. l ++ marks_lines marks) text);
+          c.requires.marks (c.in_ok-push_lines.ensures ∙ ap (λ l. c.in_ok-out.out.items ++ l) lines ∙ ap (λ l. l ++ marks_lines marks)
+          text);
     }

@@ -1,8 +1,5 @@
 use Rattle.std.proofs.Common.{length, map, ap, sym, ◌∙◌, subst}
 use Rattle.std.proofs.lemmas.List.{length-map}
-use Rattle.lock_rules.specs.Trees.{tree_of_lists}
-use Rattle.clof_compose.specs.Courses.{course_of}
-use Rattle.clof_compose.specs.Roots.{root_tag}
 use Rattle.fresh_root.specs.States.{AreAll, FreshState}
 use Rattle.placed_runner.specs.declared.sections.Section.{Section}
 use Rattle.threaded_runner.specs.Books.{book_tag}
@@ -24,4 +21,5 @@ returns-in-Ok-clause-dealt c =
     let seens = subst (λ n. AreAll c.in-Ok.fresh.name n c.in-Ok.seens.items) (sym as_sections) c.in-Ok.ensures.seens in
     fresh_dealt root r sections c.in_ok-root.shares.items c.in-Ok.seens.items trail tag c.in_ok-root.ensures.dealt
     (ap (λ (f : FreshState Book). f.tokens) fresh ∙ many)
-    (subst (λ n. AreAll n (length sections) c.in-Ok.seens.items) (ap (λ (f : FreshState Book). f.name) (sym fresh)) seens) c.in-Ok.ensures.blank
+    (subst (λ n. AreAll n (length sections) c.in-Ok.seens.items) (ap (λ (f : FreshState Book). f.name) (sym fresh)) seens)
+    c.in-Ok.ensures.blank

@@ -1,4 +1,4 @@
-use Rattle.std.proofs.Common.{◌≡◌, map, ap, sym, ◌∙◌}
+use Rattle.std.proofs.Common.{◌≡◌, map, ap, ◌∙◌}
 use Rattle.std.specs.List.{list_any}
 use Rattle.threaded_runner.proofs.Crews.{all_made, passes_back, shares_back, shares_many, stopped_many}
 use Rattle.threaded_runner.specs.declared.job.Job.{Job}

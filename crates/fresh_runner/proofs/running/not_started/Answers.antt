@@ -1,5 +1,5 @@
 use Rattle.std.proofs.Common.{◌≡◌, ap, refl, sym, ◌∙◌, subst}
-use Rattle.std.specs.Prelude.{All, slice_get}
+use Rattle.std.specs.Prelude.{slice_get}
 use Rattle.keep_local.specs.States.{ShareState}
 use Rattle.clof_compose.specs.Courses.{course_of}
 use Rattle.clof_compose.proofs.Lists.{all_each}

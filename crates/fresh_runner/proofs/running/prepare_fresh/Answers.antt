@@ -1,14 +1,12 @@
 use Rattle.std.proofs.Common.{◌≡◌, ℕ, ◌≤◌, List, length, map, rules, ap, sym, ◌∙◌, subst, arith, Some, vec_capacity}
 use Rattle.std.specs.Prelude.{slice_get}
 use Rattle.std.proofs.lemmas.List.{length-map}
-use Rattle.lock_rules.specs.Trees.{lists_in}
 use Rattle.keep_local.specs.States.{ShareState}
 use Rattle.clof_compose.specs.Courses.{course_of}
 use Rattle.mc_text.specs.Reading.{commands_of}
 use Rattle.placed_runner.specs.declared.sections.Section.{Section}
 use Rattle.threaded_runner.proofs.Dealt.{counts}
-use Rattle.fresh_runner.specs.Books.{book_in}
-use Rattle.fresh_runner.specs.Crews.{AreEmptied, AreLists}
+use Rattle.fresh_runner.specs.Crews.{AreLists}
 use Rattle.fresh_runner.specs.Jobs.{IsBlank}
 use Rattle.fresh_runner.specs.declared.account.Marks.{Marks}
 use Rattle.fresh_runner.specs.declared.lists.Lists.{Lists}

@@ -1,5 +1,6 @@
 use Rattle.std.proofs.Common.{length, ap, sym, ◌∙◌, subst}
 use Rattle.std.specs.Prelude.{slice_get}
+use Rattle.keep_local.specs.States.{TrailState}
 use Rattle.clof_compose.specs.Passes.{AreAll}
 use Rattle.level_harness.proofs.Items.{written_all}
 use Rattle.level_harness.proofs.Making.{recorded_named}
@@ -39,4 +40,7 @@ close-root-requires-clause-all g c =
     (g.C.Composed.tag c.args.lock) n c.idle_passes-passes.result.items) all c.idle_passes-passes.ensures
 
 pub turns-requires : goal.turns-requires
-turns-requires g c = recorded_named c.close-root.result _ c.close-root.ensures.tagged c.requires.room.recorded
+turns-requires g c = record {
+  recorded = ap (λ (s : TrailState). s.recorded) c.trail.ensures
+      ∙ recorded_named c.close-root.result _ c.close-root.ensures.tagged c.requires.room.recorded;
+}

@@ -4,6 +4,7 @@ use Rattle.lock_rules.proofs.Names.{lock_name-tells}
 use Rattle.lock_rules.proofs.Passes.{one_less}
 use Rattle.lock_tables.specs.Numbers.{passes_of}
 use Rattle.lock_tables.proofs.Numbers.{plain_size, joined_size}
+use Rattle.lock_tables.proofs.Seats.{silent_view}
 use Rattle.lock_tables.proofs.Steps.{joins}
 use Rattle.lock_tables.proofs.table.join_passes.Goals as goal
 
@@ -13,8 +14,9 @@ loop-pass-init g c =
     let parts = c.into_parts-seat.ensures in
     let view = ap (λ m. m.0) parts.view in
     let plain : IsPlain c.into_parts-seat.result.0.me.0 = subst IsPlain (sym view) c.in-Some.pass.idle.plain in record {
-      table = parts.table ∙ (lock_name-tells _ _ _ _ (ap (λ p. p.lock) out.1)).1;
+      table = parts.table ∙ (lock_name-tells _ _ _ _ _ _ (ap (λ p. p.lock) out.1)).2;
       idle = ap (λ v. v.phase) view ∙ c.in-Some.pass.idle.stands;
+      silent = silent_view _ _ view c.in-Some.pass.idle;
       unspent = plain.unspent;
       numbers = let n = plain_size c.into_parts-seat.result.0.me.0 plain in omega (arith, n, out.2);
       listed = out.0;
@@ -29,11 +31,11 @@ join_seat-requires g c =
     let plain : IsPlain c.into_parts-other.result.0.me.0 = subst IsPlain (sym view) c.in-Some-pop.pass.idle.plain in
     let words = c.requires.size.row in (
       c.loop-pass.invariant.table,
-      parts.table ∙ (lock_name-tells _ _ _ _ (ap (λ p. p.lock) out.1)).1,
+      parts.table ∙ (lock_name-tells _ _ _ _ _ _ (ap (λ p. p.lock) out.1)).2,
       ap (λ m. m.1) parts.view,
       omega (arith, words),
-      joins g.V.Cargo.fit g.V.Cargo.tag g.V.Cargo.parked _ c.is_disciplined.ensures _ _ _ _ _ _ c.loop-pass.invariant.unspent
-          (ap (λ v. v.phase) view ∙ c.in-Some-pop.pass.idle.stands) plain,
+      joins g.V.Cargo.fit g.V.Cargo.tag g.V.Cargo.parked _ c.is_disciplined.ensures _ _ _ _ _ _ _ c.loop-pass.invariant.unspent
+          (ap (λ v. v.phase) view ∙ c.in-Some-pop.pass.idle.stands) plain (silent_view _ _ view c.in-Some-pop.pass.idle),
     )
 
 pub loop-pass-preserved : goal.loop-pass-preserved
@@ -45,6 +47,7 @@ loop-pass-preserved g c =
     let did = ap (λ m. m.0) c.join_seat.ensures.2 in record {
       table = c.join_seat.ensures.0 ∙ c.loop-pass.invariant.table;
       idle = ap (λ v. v.phase) did ∙ c.loop-pass.invariant.idle;
+      silent = ap (λ v. v.announced) did ∙ c.loop-pass.invariant.silent;
       unspent = ap (λ v. v.spent) did ∙ c.loop-pass.invariant.unspent;
       numbers =
           let n = joined_size c.loop-pass.seat.me.0 c.into_parts-other.result.0.me.0 c.loop-pass.invariant.unspent plain in

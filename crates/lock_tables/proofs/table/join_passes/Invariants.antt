@@ -11,9 +11,10 @@ abbrev pub invariant-loop-pass : goal.invariant-loop-pass
 invariant-loop-pass g l = record {
   table : l.seat.table_id ≡ l.words.table_id;
   idle : l.seat.me.0.phase ≡ Idle;
+  silent : l.seat.me.0.announced ≡ false;
   unspent : l.seat.me.0.spent ≡ false;
   numbers : passes_of l.seat.me.0 + length l.passes.items ≡ l.words.key.passes;
-  listed : AreAll (λ p. badge_place p.badge) (lock_name g.D.Disciplined.discipline.algorithm l.words.table_id)
+  listed : AreAll (λ p. badge_place p.badge) (lock_name g.D.Disciplined.discipline.algorithm l.words.key.waiters l.words.table_id)
       (g.V.Cargo.tag l.words.key.value.value) (length l.passes.items) l.passes.items;
 }
 

@@ -8,5 +8,6 @@ new-requires g c =
     let items : c.push.new.self.items ≡ Some c.args.value ∷ [] = grind (arith, common_steps) in
     let tag = sym (ap g.V.Cargo.tag c.of.ensures) in
     rw (items, c.requires.words)
-    (starts g.V.Cargo.fit g.V.Cargo.tag g.V.Cargo.parked g.D.Disciplined.discipline c.is_disciplined.ensures c.args.passes _ c.args.value
+    (starts g.V.Cargo.fit g.V.Cargo.tag g.V.Cargo.parked g.D.Disciplined.discipline c.is_disciplined.ensures c.args.waiters c.args.passes _
+    c.args.value
     c.requires.some c.ranges.passes.fits c.requires.fit tag c.requires.unparked)

@@ -10,6 +10,6 @@ split_seat-next-requires g c =
     let words = c.requires.size.row in (
       c.loop-number.invariant.table,
       omega (arith, words),
-      splits g.V.Cargo.fit g.V.Cargo.tag g.V.Cargo.parked _ c.is_disciplined.ensures _ _ _ _ (ap (λ m. m.0.spent) now)
+      splits g.V.Cargo.fit g.V.Cargo.tag g.V.Cargo.parked _ c.is_disciplined.ensures _ _ _ _ _ (ap (λ m. m.0.spent) now)
           (omega (arith, from, to)),
     )

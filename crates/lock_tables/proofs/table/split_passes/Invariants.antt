@@ -9,13 +9,13 @@ abbrev pub invariant-loop-number : goal.invariant-loop-number
 invariant-loop-number g l = record {
   table : l.seat.table_id ≡ l.words.table_id;
   seat : l.seat.me ≡ (
-    record (first_view g.D.Disciplined.discipline.algorithm l.passes (g.V.Cargo.tag l.words.key.value.value)) {
+    record (first_view g.D.Disciplined.discipline.algorithm l.words.key.waiters l.passes (g.V.Cargo.tag l.words.key.value.value)) {
       from =
           l.number;
     },
     [],
   );
-  listed : AreAll (λ p. badge_place p.badge) (lock_name g.D.Disciplined.discipline.algorithm l.words.table_id)
+  listed : AreAll (λ p. badge_place p.badge) (lock_name g.D.Disciplined.discipline.algorithm l.words.key.waiters l.words.table_id)
       (g.V.Cargo.tag l.words.key.value.value) l.number l.list.items;
   room : l.passes ≤ vec_capacity l.list;
 }

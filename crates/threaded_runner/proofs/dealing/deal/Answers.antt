@@ -23,8 +23,8 @@ loop-pass-preserved g c =
     let many = inv.many in
     let counted = inv.counted in
     let left : length c.pop-in-Some.new.self.items ≡ n = omega (arith, fewer, fewer_shares, many) in
-    let number : ℕ → g.row.C-Pass.Denot → Type 0 = λ k p. IsNumber (g.C.Composed.has c.args._lock.now) (g.C.Composed.level c.args._lock.now) (g.C.Composed.tag
-    c.args._lock.now) k (g.C.Pass.Resting.rest p).context in
+    let number : ℕ → g.row.C-Pass.Denot → Type 0 = λ k p. IsNumber (g.C.Composed.has c.args._lock.now) (g.C.Composed.level c.args._lock.now)
+    (g.C.Composed.tag c.args._lock.now) k (g.C.Pass.Resting.rest p).context in
     let share = subst (λ k. IsShareIn course k c.in-Some-pop.share × (c.in-Some-pop.share.made ≡ 0)) left
     (at_end (λ k s. IsShareIn course k s × (s.made ≡ 0)) c.loop-pass.shares.items c.pop-in-Some.new.self.items c.in-Some-pop.share
     c.in-Some-pop.ensures.items inv.shares) in
@@ -32,8 +32,8 @@ loop-pass-preserved g c =
     let at : c.len.result ≡ n = search rules in
     let here = subst (λ k. slice_get (map (λ section. section.bytes.now) c.args.sections.now) k ≡ Some c.bytes_at-bytes.result.now) at
     c.bytes_at-bytes.ensures in
-    let all = all_left course n c.in-Some-pop.share c.args.sections.now c.bytes_at-bytes.result.now (commands_left c.job_of.result.commands) c.requires.sections
-    c.requires.quotas here share.0 share.1 c.job_of.ensures.commands in
+    let all = all_left course n c.in-Some-pop.share c.args.sections.now c.bytes_at-bytes.result.now (commands_left c.job_of.result.commands)
+    c.requires.sections c.requires.quotas here share.0 share.1 c.job_of.ensures.commands in
     record {
       passes = in_front number c.loop-pass.passes.items c.pop.new.self.items c.in-Some.pass c.in-Some.ensures.items inv.passes;
       shares = in_front (λ k s. IsShareIn course k s × (s.made ≡ 0)) c.loop-pass.shares.items c.pop-in-Some.new.self.items

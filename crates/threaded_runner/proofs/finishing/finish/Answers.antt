@@ -15,4 +15,5 @@ returns-clause-finished c =
     let whole = subst (λ l. NoneVoid l.entries) log (c.whole.ensures.0 c.if-not-whole.false) in
     let first = subst (λ l. EachOwnFirst l) log c.facts.ensures.own_first in
     finished_parts root.trail c.agree.new.trail root.payload.journal c.into_parts-trail.result.1.journal (c.agree.ensures.trail ∙ trail) log
-    (finished root c.args.shares.items c.requires.fit c.requires.quotas counted c.requires.shares c.requires.many first whole c.requires.recorded)
+    (finished root c.args.shares.items c.requires.fit c.requires.quotas counted c.requires.shares c.requires.many first whole
+    c.requires.recorded)

@@ -20,8 +20,8 @@ apply-refused-requires g c =
     let share = c.acquire-held.new.share in
     let made = c.acquire-held.ensures.made in
     let caller = ap (λ (s : ShareState). s.caller) made in
-    let opened = subst (λ o. IsSomeAnd o (HasOpened book_calls book_tag tag (g.C.Composed.level c.args.lock.now) share)) c.root.ensures.value
-    c.acquire-held.ensures.opened in
+    let opened = subst (λ o. IsSomeAnd o (HasOpened book_calls book_tag tag (g.C.Composed.level c.args.lock.now) share))
+    c.root.ensures.value c.acquire-held.ensures.opened in
     let at = subst (λ n. IsCommandAt (course_of tag).payload n c.args.share.now.made (view c.args.command)) (sym caller) c.requires.next in
     record {
       next = subst (λ n. IsNext c.root.result.now.payload.journal.sections (calls c.root.result.now.payload.journal) n
@@ -40,8 +40,8 @@ release-requires-clause-root g c =
     let opened = subst (λ o. IsSomeAnd o (HasOpened book_calls book_tag tag level c.acquire-held.new.share)) c.root.ensures.value
     c.acquire-held.ensures.opened in
     let caller = ap (λ (s : ShareState). s.caller) made in
-    let context = subst (λ l. IsContextOf (course_of tag).shape l c.args.share.now.caller (g.C.Pass.Resting.rest c.args.pass).context.number)
-    c.requires.lowest c.requires.share.context in
+    let context = subst (λ l. IsContextOf (course_of tag).shape l c.args.share.now.caller (g.C.Pass.Resting.rest
+    c.args.pass).context.number) c.requires.lowest c.requires.share.context in
     let own = subst (λ n. IsContextOf (course_of tag).shape 0 n (g.C.Pass.Resting.rest c.args.pass).context.number) (sym caller) context in
     some_with _ (g.C.Held.Standing.stand c.acquire-held.result) _ c.apply-refused.new.root others
     (may_release_lowest book_calls book_tag tag level _ _ _ c.root.result.now c.apply-refused.new.root c.requires.lowest opened

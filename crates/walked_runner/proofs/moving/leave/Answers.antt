@@ -22,8 +22,8 @@ pub apply-refused-requires : goal.apply-refused-requires
 apply-refused-requires g c =
     let tag = g.C.Composed.tag c.args.lock.now in
     let share = c.args.task.now.share in
-    let opened = subst (λ o. IsSomeAnd o (HasOpened book_calls book_tag tag (g.C.Composed.level c.args.lock.now) share)) c.root.ensures.value
-    c.requires.opened in
+    let opened = subst (λ o. IsSomeAnd o (HasOpened book_calls book_tag tag (g.C.Composed.level c.args.lock.now) share))
+    c.root.ensures.value c.requires.opened in
     let at = turns_command (course_of tag).payload share (commands_left c.args.task.now.commands) c.requires.begun (view c.in-Some.command)
     (commands_left c.next.new.self) c.in-Some.ensures.commands in
     record {
@@ -37,7 +37,8 @@ pub begin_release-requires-clause-stands : goal.begin_release-requires-clause-st
 begin_release-requires-clause-stands g c =
     let tag = g.C.Composed.tag c.args.lock.now in
     let level = g.C.Composed.level c.args.lock.now in
-    let opened = subst (λ o. IsSomeAnd o (HasOpened book_calls book_tag tag level c.args.task.now.share)) c.root.ensures.value c.requires.opened in
+    let opened = subst (λ o. IsSomeAnd o (HasOpened book_calls book_tag tag level c.args.task.now.share)) c.root.ensures.value
+    c.requires.opened in
     c.root.ensures.stays c.apply-refused.new.root
     (kept_trail tag level _ c.args.task.now.share c.root.result.now c.apply-refused.new.root opened c.apply-refused.ensures.trail)
 

@@ -25,7 +25,8 @@ loop-walker-preserved g c =
     g.C.Held.Standing.stand g.C.Held.Standing.stands g.C.Leave.Descending.descent g.C.Leave.Descending.descends
     (g.C.Composed.has c.args._lock.now) (g.C.Composed.level c.args._lock.now) tag n w)
     c.loop-walker.walkers.items c.pop.new.self.items c.in-Some.walker c.in-Some.ensures.items inv.each in
-    let done = at_end (λ k w. IsDone w) c.loop-walker.walkers.items c.pop.new.self.items c.in-Some.walker c.in-Some.ensures.items inv.done in
+    let done = at_end (λ k w. IsDone w) c.loop-walker.walkers.items c.pop.new.self.items c.in-Some.walker c.in-Some.ensures.items inv.done
+    in
     record {
       each = in_front (λ n w. IsWalker g.C.Pass.Resting.rest g.C.Queue.Climbing.climb g.C.Queue.Climbing.climbs
           g.C.Held.Standing.stand g.C.Held.Standing.stands g.C.Leave.Descending.descent g.C.Leave.Descending.descends

@@ -8,5 +8,5 @@ load-requires g c =
       c.requires.table ∙ sym (ap (λ t. t.shared.table_id) c.deref.ensures),
       omega (arith, words),
       waits g.V.Cargo.fit g.V.Cargo.tag
-          g.V.Cargo.parked _ _ _ _ _ c.requires.holds c.requires.unspent,
+          g.V.Cargo.parked _ _ _ _ _ _ c.requires.holds c.requires.unspent c.requires.silent,
     )

@@ -7,5 +7,5 @@ pub store-requires : goal.store-requires
 store-requires g c =
     let words = ap (λ t. t.shared.table_id.words) c.deref.ensures ∙ c.args.self.now.sized.row in
     let word = c.flag_of.ensures ∙ ap flag c.requires.own in
-    let kept = raises g.V.Cargo.fit g.V.Cargo.tag g.V.Cargo.parked _ _ _ _ _ _ word c.requires.idle c.requires.unspent in
+    let kept = raises g.V.Cargo.fit g.V.Cargo.tag g.V.Cargo.parked _ _ _ _ _ _ _ word c.requires.idle c.requires.unspent in
     (c.requires.table ∙ sym (ap (λ t. t.shared.table_id) c.deref.ensures), omega (arith, words, c.requires.within, c.flag_of.ensures), kept)

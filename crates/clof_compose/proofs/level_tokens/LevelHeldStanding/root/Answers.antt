@@ -16,6 +16,7 @@ returns g c =
         others = λ r. ap (λ x. record {
           context = level_context c.args.self.now.id.level c.args.self.now.id.node c.args.self.now.id.number
               (holder_of c.args.self.now.low).place;
+          loads = (holder_of c.args.self.now.low).loads;
           root = x;
         })
             (ap (λ o. (kept_stand g.Held.Standing.stand (high_with_root g.Held.Standing.put_root o.high r)).root) (sym v)

@@ -3,7 +3,7 @@ use Rattle.lock_rules.specs.Holders.{held_view}
 use Rattle.lock_rules.specs.Views.{IsPlain}
 use Rattle.lock_rules.specs.declared.view.View.{View}
 use Rattle.lock_tables.specs.Happened.{missed_view}
-use Rattle.hemlock_lock.specs.Kinds.{done_view, granting_view}
+use Rattle.hemlock_lock.specs.Kinds.{done_view, followed_view, granting_view}
 use Rattle.hemlock_lock.proofs.Releases.{left_is, granted_is, waited_is, done_is}
 use Rattle.hemlock_lock.proofs.Tokens.{waited_plain, done_plain}
 use Rattle.hemlock_lock.proofs.lock.HemlockBasic.begin_release.Goals as goal
@@ -24,7 +24,7 @@ of-requires-then-load_grant-ne0-clause-plain g c =
     let before = ap (λ s. s.me.0) c.put.ensures.seat ∙ ap (λ s. s.me.0) c.held_parts-seat.ensures.seat in
     let view = ap (λ m. m.0) uncleared.0 ∙ ap (λ m. missed_view m.0) c.store_grant.ensures.step.1.0
     ∙ ap (λ m. missed_view (granting_view m.0)) followed.0
-    ∙ ap (λ (v : View). missed_view (granting_view v)) before in
+    ∙ ap (λ (v : View). missed_view (granting_view (followed_view v))) before in
     subst IsPlain (sym view) (waited_plain (held_view c.args.held) c.args.held.seat.plain)
 
 pub returns-then-load_grant-ne0-clause-began_to_leave : goal.returns-then-load_grant-ne0-clause-began_to_leave
@@ -63,5 +63,5 @@ of-requires-2-clause-plain g c =
     let before = ap (λ s. s.me.0) c.put.ensures.seat ∙ ap (λ s. s.me.0) c.held_parts-seat.ensures.seat in
     let view = ap (λ m. m.0) done.0 ∙ ap (λ m. done_view m.0) c.store_grant.ensures.step.1.0
     ∙ ap (λ m. done_view (granting_view m.0)) followed.0
-    ∙ ap (λ (v : View). done_view (granting_view v)) before in
+    ∙ ap (λ (v : View). done_view (granting_view (followed_view v))) before in
     subst IsPlain (sym view) (done_plain (held_view c.args.held) c.args.held.seat.plain)

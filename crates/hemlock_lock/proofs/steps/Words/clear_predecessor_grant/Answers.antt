@@ -10,6 +10,6 @@ store-requires g c =
     let within = c.requires.within in (
       c.requires.table ∙ sym (ap (λ t. t.shared.table_id) c.deref.ensures),
       omega (arith, words, word, within),
-      clears g.V.Cargo.fit g.V.Cargo.tag g.V.Cargo.parked _ _ _ _ _ _ c.requires.holds c.requires.unspent
+      clears g.V.Cargo.fit g.V.Cargo.tag g.V.Cargo.parked _ _ _ _ _ _ _ c.requires.holds c.requires.unspent
           (λ z. c.requires.some (c.requires.name ∙ z)) (word ∙ ap grant c.requires.name),
     )

@@ -10,8 +10,8 @@ compare_exchange-requires g c =
     let home = c.requires.home in (
       c.requires.table ∙ sym (ap (λ t. t.shared.table_id) c.deref.ensures),
       omega (arith, words),
-      exchanges g.V.Cargo.fit g.V.Cargo.tag g.V.Cargo.parked _ _ _ _ _ home.0 _ _ c.requires.holds c.requires.plain c.requires.name home.1
-          home.2,
+      exchanges g.V.Cargo.fit g.V.Cargo.tag g.V.Cargo.parked _ _ _ _ _ _ home.0 _ _ c.requires.holds c.requires.plain
+          c.requires.silent c.requires.name home.1 home.2,
     )
 
 pub returns-clause-plain : goal.returns-clause-plain

@@ -10,5 +10,6 @@ load-requires g c =
     let within = c.requires.within in (
       c.requires.table ∙ sym (ap (λ t. t.shared.table_id) c.deref.ensures),
       omega (arith, words, word, within),
-      looks g.V.Cargo.fit g.V.Cargo.tag g.V.Cargo.parked _ _ _ _ _ _ c.requires.leaves c.requires.unspent (word ∙ ap grant c.requires.name),
+      looks g.V.Cargo.fit g.V.Cargo.tag g.V.Cargo.parked _ _ _ _ _ _ _ c.requires.leaves c.requires.unspent
+          (word ∙ ap grant c.requires.name),
     )

@@ -13,7 +13,8 @@ load-requires g c =
     let within = c.requires.within in (
       c.requires.table ∙ sym (ap (λ t. t.shared.table_id) c.deref.ensures),
       omega (arith, words, word, within),
-      polls g.V.Cargo.fit g.V.Cargo.tag g.V.Cargo.parked _ _ _ _ _ _ c.requires.queued c.requires.unspent (word ∙ ap grant c.requires.name),
+      polls g.V.Cargo.fit g.V.Cargo.tag g.V.Cargo.parked _ _ _ _ _ _ _ c.requires.queued c.requires.unspent
+          (word ∙ ap grant c.requires.name),
     )
 
 pub returns-clause-some : goal.returns-clause-some

@@ -11,6 +11,6 @@ store-requires g c =
     let home = c.requires.home in (
       c.requires.table ∙ sym (ap (λ t. t.shared.table_id) c.deref.ensures),
       omega (arith, words, word, within),
-      grants g.V.Cargo.fit g.V.Cargo.tag g.V.Cargo.parked _ _ _ _ _ _ home.0 _ c.requires.holds c.requires.plain c.requires.followed
-          home.1 home.2 (word ∙ ap grant c.requires.name),
+      grants g.V.Cargo.fit g.V.Cargo.tag g.V.Cargo.parked _ _ _ _ _ _ _ home.0 _ c.requires.holds c.requires.plain
+          c.requires.silent c.requires.followed home.1 home.2 (word ∙ ap grant c.requires.name),
     )

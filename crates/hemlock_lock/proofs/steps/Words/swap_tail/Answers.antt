@@ -9,7 +9,8 @@ swap-requires g c =
     let words = ap (λ t. t.shared.table_id.words) c.deref.ensures ∙ c.args.self.now.sized.row in (
       c.requires.table ∙ sym (ap (λ t. t.shared.table_id) c.deref.ensures),
       omega (arith, words),
-      swaps g.V.Cargo.fit g.V.Cargo.tag g.V.Cargo.parked _ _ _ _ _ _ c.requires.idle c.requires.unspent c.requires.name,
+      swaps g.V.Cargo.fit g.V.Cargo.tag g.V.Cargo.parked _ _ _ _ _ _ _ c.requires.idle c.requires.unspent
+          c.requires.announced c.requires.name,
     )
 
 pub returns-clause-plain : goal.returns-clause-plain

@@ -28,6 +28,7 @@ invariant_of-result c =
     let count_is : sum_by (λ (one : Caller). one.tally.commands) callers ≡ c.commands_in-commands.result =
     sym (ap (sum_by (λ (one : Caller). one.tally.commands)) c.deref.ensures.value) ∙ sym c.commands_in-commands.ensures in
     subst IsKept (sym c.in_ok-kept.ensures.ok)
-    (kept_new _ c.in_ok-callers.ensures.tallied c.in_ok-with_capacity.ensures.items c.in_ok-with_capacity-2.ensures.items c.new.ensures.empty
+    (kept_new _ c.in_ok-callers.ensures.tallied c.in_ok-with_capacity.ensures.items c.in_ok-with_capacity-2.ensures.items
+    c.new.ensures.empty
     (omega (arith, few callers c.args.sections.now c.in_ok-callers.ensures.tallied c.in_ok-callers.ensures.sections, c.requires))
     (omega (arith, count_is, c.in_ok-with_capacity.ensures.capacity)))

@@ -16,10 +16,12 @@ returns-clause-ok c =
     let item = c.edit.new.self in
     let there : lookup (names key) entries ≡ Some c.in-Some.item.now = sym c.in-Some.ensures.value in
     let updates = (c.get_mut.follows.holds item).3 (search rules) in
-    let change = λ (items : contents.Items). option_map_or (λ old. insert items key (edited c.args.edit c.args.unique old)) (get items key) items in
+    let change = λ (items : contents.Items).
+    option_map_or (λ old. insert items key (edited c.args.edit c.args.unique old)) (get items key) items in
     put-keyed key entries (c.get_mut.follows.lender item).entries item updates.1 updates.3
     ∙ ap (insert (kept_items entries) key) c.in_ok-edit.ensures.ok
-    ∙ sym (ap (λ found. option_map_or (λ old. insert (kept_items entries) key (edited c.args.edit c.args.unique old)) found (kept_items entries))
+    ∙ sym (ap (λ found.
+    option_map_or (λ old. insert (kept_items entries) key (edited c.args.edit c.args.unique old)) found (kept_items entries))
     (get-keyed key entries ∙ ap (option_map plain_item) there))
     ∙ ap change c.self.view_is
 

@@ -15,8 +15,8 @@ compare_exchange-requires g c =
     let home = c.requires.home in (
       c.requires.seat.table ∙ sym (ap (λ t. t.shared.table_id) c.deref.ensures),
       omega (arith, words),
-      exchanges g.V.Cargo.fit g.V.Cargo.tag g.V.Cargo.parked _ _ _ _ _ home.0 _ _
-          (omega (arith, number)) c.requires.holds c.requires.seat.plain.unspent home.1 home.2,
+      exchanges g.V.Cargo.fit g.V.Cargo.tag g.V.Cargo.parked _ _ _ _ _ _ home.0 _ _
+          (omega (arith, number)) c.requires.holds c.requires.seat.plain.unspent c.requires.silent home.1 home.2,
     )
 
 pub returns-clause-seat : goal.returns-clause-seat
@@ -24,6 +24,6 @@ returns-clause-seat g c =
     let v = c.args.seat.now.me.0 in
     dite (ℕ_discrete c.compare_exchange.result (name v.number))
     (λ e. own_after _ _ _ _ _ (left_view v) _ c.requires.seat c.compare_exchange.ensures.0 (c.compare_exchange.ensures.2.0 e).0
-    (alike v (left_view v) refl refl refl refl refl refl refl refl refl refl c.requires.seat.plain.predecessor_within))
+    (alike v (left_view v) refl refl refl refl refl refl refl refl refl refl refl c.requires.seat.plain.predecessor_within))
     (λ ne. own_after _ _ _ _ _ (followed_view v) _ c.requires.seat c.compare_exchange.ensures.0 (c.compare_exchange.ensures.2.1 ne).0
-    (alike v (followed_view v) refl refl refl refl refl refl refl refl refl refl c.requires.seat.plain.predecessor_within))
+    (alike v (followed_view v) refl refl refl refl refl refl refl refl refl refl refl c.requires.seat.plain.predecessor_within))

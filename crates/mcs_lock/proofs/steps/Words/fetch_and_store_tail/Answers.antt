@@ -13,15 +13,15 @@ swap-requires g c =
     let number = c.requires.seat.number in (
       c.requires.seat.table ∙ sym (ap (λ t. t.shared.table_id) c.deref.ensures),
       omega (arith, words),
-      swaps g.V.Cargo.fit g.V.Cargo.tag g.V.Cargo.parked _ _ _ _ _ _
-          (omega (arith, number)) c.requires.idle c.requires.seat.plain.unspent c.requires.cleared c.requires.raised,
+      swaps g.V.Cargo.fit g.V.Cargo.tag g.V.Cargo.parked _ _ _ _ _ _ _
+          (omega (arith, number)) c.requires.idle c.requires.seat.plain.unspent c.requires.announced c.requires.cleared c.requires.raised,
     )
 
 pub returns-clause-seat : goal.returns-clause-seat
 returns-clause-seat g c = dite (ℕ_discrete c.swap.result 0)
     (λ e. own_after _ _ _ _ _ (entered_view c.args.seat.now.me.0) _ c.requires.seat c.swap.ensures.0 (c.swap.ensures.2.0 e).3.0
-    (alike c.args.seat.now.me.0 (entered_view c.args.seat.now.me.0) refl refl refl refl refl refl refl refl refl refl (omega arith)))
+    (alike c.args.seat.now.me.0 (entered_view c.args.seat.now.me.0) refl refl refl refl refl refl refl refl refl refl refl (omega arith)))
     (λ ne. own_after _ _ _ _ _ (queued_view c.args.seat.now.me.0 c.swap.result) _ c.requires.seat c.swap.ensures.0
     (c.swap.ensures.2.1 ne).1.0
-    (alike c.args.seat.now.me.0 (queued_view c.args.seat.now.me.0 c.swap.result) refl refl refl refl refl refl refl refl refl refl
+    (alike c.args.seat.now.me.0 (queued_view c.args.seat.now.me.0 c.swap.result) refl refl refl refl refl refl refl refl refl refl refl
     (c.swap.ensures.2.1 ne).0))

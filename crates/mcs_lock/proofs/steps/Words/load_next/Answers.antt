@@ -13,7 +13,7 @@ load-requires g c =
     let below = c.requires.seat.below in (
       c.requires.seat.table ∙ sym (ap (λ t. t.shared.table_id) c.deref.ensures),
       omega (arith, words, at, below),
-      looks g.V.Cargo.fit g.V.Cargo.tag g.V.Cargo.parked _ _ _ _ _ _ (at
+      looks g.V.Cargo.fit g.V.Cargo.tag g.V.Cargo.parked _ _ _ _ _ _ _ (at
           ∙ ap next c.requires.seat.number) c.requires.holds c.requires.seat.plain.unspent,
     )
 
@@ -21,4 +21,4 @@ pub returns-clause-seat : goal.returns-clause-seat
 returns-clause-seat g c =
     let v = c.args.seat.now.me.0 in
     own_after _ _ _ _ _ (looked_view v c.load.result) _ c.requires.seat c.load.ensures.0 c.load.ensures.2.1.0
-    (alike v (looked_view v c.load.result) refl refl refl refl refl refl refl refl refl refl c.requires.seat.plain.predecessor_within)
+    (alike v (looked_view v c.load.result) refl refl refl refl refl refl refl refl refl refl refl c.requires.seat.plain.predecessor_within)

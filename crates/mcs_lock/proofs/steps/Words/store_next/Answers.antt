@@ -13,11 +13,11 @@ store-requires g c =
     let below = c.requires.seat.below in (
       c.requires.seat.table ∙ sym (ap (λ t. t.shared.table_id) c.deref.ensures),
       omega (arith, words, at, below),
-      clears g.V.Cargo.fit g.V.Cargo.tag g.V.Cargo.parked _ _ _ _ _ _ (at
+      clears g.V.Cargo.fit g.V.Cargo.tag g.V.Cargo.parked _ _ _ _ _ _ _ (at
           ∙ ap next c.requires.seat.number) c.requires.idle c.requires.seat.plain.unspent,
     )
 
 pub returns-clause-seat : goal.returns-clause-seat
 returns-clause-seat g c = own_after _ _ _ _ _ (cleared_view c.args.seat.now.me.0) _ c.requires.seat c.store.ensures.0 c.store.ensures.2.1.0
     (alike c.args.seat.now.me.0
-    (cleared_view c.args.seat.now.me.0) refl refl refl refl refl refl refl refl refl refl c.requires.seat.plain.predecessor_within)
+    (cleared_view c.args.seat.now.me.0) refl refl refl refl refl refl refl refl refl refl refl c.requires.seat.plain.predecessor_within)

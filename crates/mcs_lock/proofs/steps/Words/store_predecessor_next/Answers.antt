@@ -24,11 +24,11 @@ store-requires g c =
     let some_pass = c.requires.preceded in (
       c.requires.seat.table ∙ sym (ap (λ t. t.shared.table_id) c.deref.ensures),
       omega (arith, words, at, within, counted, is, some_pass),
-      links g.V.Cargo.fit g.V.Cargo.tag g.V.Cargo.parked _ _ _ _ _ _ _ (at ∙ ap (λ (x : ℕ). next (pass_named x)) is)
+      links g.V.Cargo.fit g.V.Cargo.tag g.V.Cargo.parked _ _ _ _ _ _ _ _ (at ∙ ap (λ (x : ℕ). next (pass_named x)) is)
           (omega (arith, number)) c.requires.queued c.requires.seat.plain.unspent c.requires.unlinked,
     )
 
 pub returns-clause-seat : goal.returns-clause-seat
 returns-clause-seat g c = own_after _ _ _ _ _ (linked_view c.args.seat.now.me.0) _ c.requires.seat c.store.ensures.0 c.store.ensures.2.1.0
     (alike c.args.seat.now.me.0
-    (linked_view c.args.seat.now.me.0) refl refl refl refl refl refl refl refl refl refl c.requires.seat.plain.predecessor_within)
+    (linked_view c.args.seat.now.me.0) refl refl refl refl refl refl refl refl refl refl refl c.requires.seat.plain.predecessor_within)

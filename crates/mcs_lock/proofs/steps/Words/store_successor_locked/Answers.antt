@@ -23,12 +23,12 @@ store-requires g c =
     let home = c.requires.home in (
       c.requires.seat.table ∙ sym (ap (λ t. t.shared.table_id) c.deref.ensures),
       omega (arith, words, at, within, counted, some_pass),
-      passes g.V.Cargo.fit g.V.Cargo.tag g.V.Cargo.parked _ _ _ _ _ home.0 _ _ (at
+      passes g.V.Cargo.fit g.V.Cargo.tag g.V.Cargo.parked _ _ _ _ _ _ home.0 _ _ (at
           ∙ ap (λ (x : ℕ). locked (pass_named x)) is) c.requires.holds
-          c.requires.seat.plain.unspent (λ e. some_pass (is ∙ e)) home.1 home.2,
+          c.requires.seat.plain.unspent c.requires.silent (λ e. some_pass (is ∙ e)) home.1 home.2,
     )
 
 pub returns-clause-seat : goal.returns-clause-seat
 returns-clause-seat g c = own_after _ _ _ _ _ (left_view c.args.seat.now.me.0) _ c.requires.seat c.store.ensures.0 c.store.ensures.2.1.0
     (alike c.args.seat.now.me.0
-    (left_view c.args.seat.now.me.0) refl refl refl refl refl refl refl refl refl refl c.requires.seat.plain.predecessor_within)
+    (left_view c.args.seat.now.me.0) refl refl refl refl refl refl refl refl refl refl refl c.requires.seat.plain.predecessor_within)

@@ -4,7 +4,7 @@ use Rattle.ticket_lock.proofs.Tokens.{mark_is}
 use Rattle.ticket_lock.proofs.steps.Words.held_ticket.Goals as goal
 
 pub returns-clause-table : goal.returns-clause-table
-returns-clause-table g c = own_table _ _ _ _ (held_view c.args.held.now) c.requires.of
+returns-clause-table g c = own_table _ _ _ _ _ (held_view c.args.held.now) c.requires.of
 
 pub returns-clause-own : goal.returns-clause-own
-returns-clause-own g c = mark_is _ _ _ (held_view c.args.held.now) c.requires.of _ c.args.held.now.seat.marked
+returns-clause-own g c = mark_is _ _ _ _ (held_view c.args.held.now) c.requires.of _ c.args.held.now.seat.marked

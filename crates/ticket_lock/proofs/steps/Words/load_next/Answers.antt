@@ -7,5 +7,5 @@ load-requires g c =
     let words = ap (λ t. t.shared.table_id.words) c.deref.ensures ∙ c.args.self.now.sized.row in (
       c.requires.table ∙ sym (ap (λ t. t.shared.table_id) c.deref.ensures),
       omega (arith, words),
-      waits g.V.Cargo.fit g.V.Cargo.tag g.V.Cargo.parked _ _ _ _ _ c.requires.holds c.requires.unspent,
+      waits g.V.Cargo.fit g.V.Cargo.tag g.V.Cargo.parked _ _ _ _ _ _ c.requires.holds c.requires.unspent c.requires.silent,
     )
