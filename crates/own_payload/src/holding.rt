@@ -17,7 +17,7 @@ fn call<T: Drop, A, F: FnOnce(&mut T, u32) -> A>(
     caller: u32,
     work: F,
 ) -> A
-    requires callable { F.IsAlwaysCallable work }
+    requires callable { (value : _) → F.pre work value caller }
     ensures trail { root.new.trail ≡ root.old.trail }
     ensures noted { root.new.payload.calls.callers ≡ root.old.payload.calls.callers ++ caller ∷ [] }
 {
@@ -38,7 +38,7 @@ pub fn hold<T: Drop, A, C: Composed<Noted<T>>, F: FnOnce(&mut T, u32) -> A, R: W
     requires own { C.has lock.now (C.Pass.rest pass).context }
     requires lowest { C.level lock.now ≡ 0 }
     requires share { MayTurn (course_of (C.tag lock.now)) 0 (C.Pass.rest pass).context.number share.old }
-    requires callable { F.IsAlwaysCallable work }
+    requires callable { (value : _) → F.pre work value share.old.caller }
     ensures pass { (C.Pass.rest result.0).context ≡ (C.Pass.rest pass).context }
     ensures made { share.new ≡ record share.old { made = share.old.made + 1 } }
 {
@@ -55,7 +55,7 @@ pub fn serve_caller<T: Drop, C: Composed<Noted<T>>, S: Serves<T>, R: Wait>(
     server: &S,
 ) -> Job<C::Pass>
     requires may { MayWork C.Pass.rest (C.has lock.now) (C.sound lock.now) (C.level lock.now) (C.tag lock.now) job }
-    requires asked { S.may server.now }
+    requires asked { S.may server.now job.share.caller }
     ensures { HasServed C.Pass.rest (S.stops server.now) job result }
 {
     let Job {

@@ -29,9 +29,9 @@ struct Shift<'b, T, C, S, R> {
 
 impl<'b, T: Drop, C: Composed<Noted<T>>, S: Serves<T>, R: Wait> Works<Job<C::Pass>>
     for Shift<'b, T, C, S, R> {
-    // the job is that of a caller of this lock, and the server may be asked
+    // the job is that of a caller of this lock, and the server may be asked for it
     ghost allows = { λ s j. MayWork C.Pass.rest (C.has s.lock.now) (C.sound s.lock.now) (C.level s.lock.now) (C.tag s.lock.now) j
-        × S.may s.server.now };
+        × S.may s.server.now j.share.caller };
 
     // and all its turns are made, unless it may stop
     ghost gives = { λ s j k. HasServed C.Pass.rest (S.stops s.server.now) j k };
@@ -58,7 +58,7 @@ where
     S::Answer: Send,
     requires ready { IsReady C.Pass.rest (C.has lock) (C.sound lock) (C.level lock) (C.count lock) (C.tag lock) lists.passes.items
         lists.shares.items }
-    requires asked { S.may server.now }
+    requires asked { (caller : ℕ) → S.may server.now caller }
     ensures fit { IfSome result (IsFit (λ n. n.calls.callers)) }
     ensures tagged { IfSome result (λ r. root_tag (λ _. leaf 0) r ≡ C.tag lock) }
     ensures ended { IfSome result (λ r. EachEnded (S.stops server.now) r.trail) }

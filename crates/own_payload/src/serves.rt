@@ -8,24 +8,24 @@ pub trait Serves<T> {
 
     type Answer;
 
-    // It may be asked.
-    ghost may: { Self → Type 0 };
+    // It may be asked for this caller.
+    ghost may: { Self → ℕ → Type 0 };
 
     // It may have no further task for this caller.
     ghost stops: { Self → ℕ → Type 0 };
 
     /// The next task of a caller, or `None` where the caller stops.
     fn next(&self, caller: u32) -> Option<Self::Task>
-        requires { may self.now }
+        requires { may self.now caller }
         ensures { IfNone result (stops self.now caller) };
 
     /// Applies a task of a caller, which holds the lock meanwhile.
     fn apply(&self, value: &mut T, caller: u32, task: Self::Task) -> Self::Answer
-        requires { may self.now };
+        requires { may self.now caller };
 
     /// Tells a caller's answer, behind its hold.
     fn tell(&self, caller: u32, answer: Self::Answer)
-        requires { may self.now };
+        requires { may self.now caller };
 }
 
 /// The same work in each hold, as often as a caller's share allows.
@@ -39,7 +39,7 @@ impl<'w, T, F: Fn(&mut T, u32)> Serves<T> for Always<'w, F> {
 
     type Answer = ();
 
-    ghost may = { λ s. F.IsAlwaysCallable s.work.now };
+    ghost may = { λ s _. F.IsAlwaysCallable s.work.now };
 
     ghost stops = { λ _ _. ⊥ };
 

@@ -2,7 +2,7 @@
 //!
 //! Each function adds one level below a lock of any type and hands on what it made, so that none of them has a type of more than one level
 //! to compare.
-ghost use Rattle.std.specs.Prelude.{◌≡◌, ◌+◌, ◌<◌, ◌≤◌, IfSome};
+ghost use Rattle.std.specs.Prelude.{◌≡◌, ◌+◌, ◌<◌, ◌≤◌, ℕ, IfSome};
 ghost use Rattle.lock_rules.specs.Tag.{leaf};
 ghost use Rattle.keep_local.specs.Shapes.{callers_of, top_of};
 ghost use Rattle.clof_compose.specs.Roots.{IsFit, root_tag};
@@ -34,7 +34,7 @@ where
     requires fit { IsFit (λ n. n.calls.callers) root }
     requires shape { root.trail.shape ≡ given.shape.now }
     requires may { MayRun (root_tag (λ _. leaf 0) root) given.shape.now given.plan.now.kinds given.shares.items }
-    requires asked { S.may given.server.now }
+    requires asked { (caller : ℕ) → S.may given.server.now caller }
     ensures fit { IfSome result (IsFit (λ n. n.calls.callers)) }
     ensures tagged { IfSome result (λ r. root_tag (λ _. leaf 0) r ≡ root_tag (λ _. leaf 0) root) }
     ensures ended { IfSome result (λ r. EachEnded (S.stops given.entry.server.now) r.trail) }
@@ -64,7 +64,7 @@ where
     requires fit { IsFit (λ n. n.calls.callers) root }
     requires shape { root.trail.shape ≡ given.shape.now }
     requires may { MayRun (root_tag (λ _. leaf 0) root) given.shape.now given.plan.now.kinds given.shares.items }
-    requires asked { S.may given.server.now }
+    requires asked { (caller : ℕ) → S.may given.server.now caller }
     ensures fit { IfSome result (IsFit (λ n. n.calls.callers)) }
     ensures tagged { IfSome result (λ r. root_tag (λ _. leaf 0) r ≡ root_tag (λ _. leaf 0) root) }
     ensures ended { IfSome result (λ r. EachEnded (S.stops given.entry.server.now) r.trail) }
@@ -103,7 +103,7 @@ where
     requires may { MayRun (H.tag high) given.shape.now given.plan.now.kinds given.shares.items }
     requires level { level < top_of given.shape.now }
     requires most { level < 4 }
-    requires asked { S.may given.server.now }
+    requires asked { (caller : ℕ) → S.may given.server.now caller }
     ensures fit { IfSome result (IsFit (λ n. n.calls.callers)) }
     ensures tagged { IfSome result (λ r. root_tag (λ _. leaf 0) r ≡ H.tag high) }
     ensures ended { IfSome result (λ r. EachEnded (S.stops given.entry.server.now) r.trail) }
@@ -142,7 +142,7 @@ where
     requires may { MayRun (H.tag high) given.shape.now given.plan.now.kinds given.shares.items }
     requires level { level < top_of given.shape.now }
     requires most { level < 3 }
-    requires asked { S.may given.server.now }
+    requires asked { (caller : ℕ) → S.may given.server.now caller }
     ensures fit { IfSome result (IsFit (λ n. n.calls.callers)) }
     ensures tagged { IfSome result (λ r. root_tag (λ _. leaf 0) r ≡ H.tag high) }
     ensures ended { IfSome result (λ r. EachEnded (S.stops given.entry.server.now) r.trail) }
@@ -181,7 +181,7 @@ where
     requires may { MayRun (H.tag high) given.shape.now given.plan.now.kinds given.shares.items }
     requires level { level < top_of given.shape.now }
     requires most { level < 2 }
-    requires asked { S.may given.server.now }
+    requires asked { (caller : ℕ) → S.may given.server.now caller }
     ensures fit { IfSome result (IsFit (λ n. n.calls.callers)) }
     ensures tagged { IfSome result (λ r. root_tag (λ _. leaf 0) r ≡ H.tag high) }
     ensures ended { IfSome result (λ r. EachEnded (S.stops given.entry.server.now) r.trail) }
@@ -220,7 +220,7 @@ where
     requires may { MayRun (H.tag high) given.shape.now given.plan.now.kinds given.shares.items }
     requires level { level < top_of given.shape.now }
     requires most { level ≡ 0 }
-    requires asked { S.may given.server.now }
+    requires asked { (caller : ℕ) → S.may given.server.now caller }
     ensures fit { IfSome result (IsFit (λ n. n.calls.callers)) }
     ensures tagged { IfSome result (λ r. root_tag (λ _. leaf 0) r ≡ H.tag high) }
     ensures ended { IfSome result (λ r. EachEnded (S.stops given.entry.server.now) r.trail) }
@@ -252,7 +252,7 @@ where
     S::Answer: Send,
     requires ready { IsReady C.Pass.rest (C.has lock) (C.sound lock) (C.level lock) (C.count lock) (C.tag lock) passes.items
         given.shares.items }
-    requires asked { S.may given.server.now }
+    requires asked { (caller : ℕ) → S.may given.server.now caller }
     ensures fit { IfSome result (IsFit (λ n. n.calls.callers)) }
     ensures tagged { IfSome result (λ r. root_tag (λ _. leaf 0) r ≡ C.tag lock) }
     ensures ended { IfSome result (λ r. EachEnded (S.stops given.entry.server.now) r.trail) }

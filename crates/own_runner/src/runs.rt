@@ -1,5 +1,5 @@
 //! Runs under a plan.
-ghost use Rattle.std.specs.Prelude.{◌≡◌, ◌+◌, ◌<◌, ◌^◌, true, false, length, sum, IfSome};
+ghost use Rattle.std.specs.Prelude.{◌≡◌, ◌+◌, ◌<◌, ◌^◌, ℕ, true, false, length, sum, IfSome};
 ghost use Rattle.lock_rules.specs.Tag.{leaf};
 ghost use Rattle.keep_local.specs.Shapes.{IsWellFormed, callers_of, top_of};
 ghost use Rattle.keep_local.specs.States.{free_quotas};
@@ -77,7 +77,7 @@ where
     requires formed { IsWellFormed shape.now }
     requires some { 0 < callers_of shape.now }
     requires few { callers_of shape.now < 2 ^ 32 }
-    requires asked { S.may server.now }
+    requires asked { (caller : ℕ) → S.may server.now caller }
     ensures fit { IfSome result (IsFit (λ n. n.calls.callers)) }
     ensures recorded { IfSome result (λ r. r.trail.recorded ≡ false) }
     ensures shape { IfSome result (λ r. r.trail.shape ≡ shape.now) }
@@ -112,7 +112,7 @@ where
     requires fit { IsFit (λ n. n.calls.callers) root }
     requires shape { root.trail.shape ≡ given.shape.now }
     requires may { MayRun (root_tag (λ _. leaf 0) root) given.shape.now given.plan.now.kinds given.shares.items }
-    requires asked { S.may given.server.now }
+    requires asked { (caller : ℕ) → S.may given.server.now caller }
     ensures fit { IfSome result (IsFit (λ n. n.calls.callers)) }
     ensures tagged { IfSome result (λ r. root_tag (λ _. leaf 0) r ≡ root_tag (λ _. leaf 0) root) }
     ensures ended { IfSome result (λ r. EachEnded (S.stops given.entry.server.now) r.trail) }

@@ -149,7 +149,7 @@ impl Serves<Counts> for Tasks {
 
     type Answer = u64;
 
-    ghost may = { λ _. Unit {0} };
+    ghost may = { λ _ _. Unit {0} };
 
     ghost stops = { λ _ _. Unit {0} };
 

@@ -7,7 +7,8 @@ use Rattle.own_payload.proofs.runs.serve.Goals as goal
 
 pub by_all-jobs-requires-clause-allowed : goal.by_all-jobs-requires-clause-allowed
 by_all-jobs-requires-clause-allowed g c κs within = λ k j e.
-    (may_work _ _ _ _ _ c.requires.ready.sound_is c.requires.ready.lowest k j (c.in-Some.ensures.each k j e), c.requires.asked)
+    let may = may_work _ _ _ _ _ c.requires.ready.sound_is c.requires.ready.lowest k j (c.in-Some.ensures.each k j e) in
+    (may, c.requires.asked j.share.caller)
 
 pub gather-passes-requires : goal.gather-passes-requires
 gather-passes-requires g c = record {
