@@ -19,6 +19,3 @@ mod table;
 
 pub use journal::{Entry, Journal, Receipt};
 pub use store::Store;
-
-#[cfg(test)]
-mod tests;

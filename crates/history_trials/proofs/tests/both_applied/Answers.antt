@@ -5,7 +5,7 @@ use Rattle.mc_text.specs.Commands.{commands_left}
 use Rattle.kv_history.specs.Log.{applied_entry, own}
 use Rattle.kv_history.proofs.Logs.{own-push}
 use Rattle.kv_history.proofs.Next.{is_next}
-use Rattle.kv_history.proofs.tests.both_applied.Goals as goal
+use Rattle.history_trials.proofs.tests.both_applied.Goals as goal
 
 pub apply-requires : goal.apply-requires
 apply-requires c = is_next c.in_ok-journal.journal 0 (view c.in-Some.written) (record {

@@ -2,7 +2,7 @@ use Rattle.std.proofs.Common.{◌≡◌, ◌++◌, ◌∷◌, [], length}
 use Rattle.mc_text.specs.Commands.{commands_left}
 use Rattle.mc_text.specs.Reading.{commands_of}
 use Rattle.kv_history.specs.Log.{commands, own, NoneVoid}
-use Rattle.kv_history.proofs.tests.applied.Given as goal
+use Rattle.history_trials.proofs.tests.applied.Given as goal
 
 abbrev pub invariant-loop-command : goal.invariant-loop-command
 invariant-loop-command l = record {

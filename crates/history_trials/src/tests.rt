@@ -4,7 +4,7 @@ ghost use Rattle.mc_text.specs.Reading.{commands_of};
 ghost use Rattle.kv_history.specs.Answer.{replies_of};
 ghost use Rattle.kv_history.specs.Log.{commands, replies};
 
-use crate::{Journal, Store};
+use kv_history::{Journal, Store};
 use mc_text::Commands;
 use out_of_memory::OutOfMemory;
 use std::alloc::Global;

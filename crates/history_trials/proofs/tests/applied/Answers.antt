@@ -7,7 +7,7 @@ use Rattle.mc_text.specs.Commands.{commands_left}
 use Rattle.kv_history.specs.Log.{Logged, NoneVoid, applied_entry, commands, own}
 use Rattle.kv_history.proofs.Logs.{own-push}
 use Rattle.kv_history.proofs.Next.{is_next}
-use Rattle.kv_history.proofs.tests.applied.Goals as goal
+use Rattle.history_trials.proofs.tests.applied.Goals as goal
 
 pub apply-requires : goal.apply-requires
 apply-requires c =
