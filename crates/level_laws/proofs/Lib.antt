@@ -1,2 +1,3 @@
+pub mod Cohorts
 pub mod Holders
 pub mod Told

@@ -1,1 +1,2 @@
+pub mod Cohorts
 pub mod Laws

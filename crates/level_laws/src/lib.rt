@@ -6,6 +6,7 @@
 ghost use Rattle.std.specs.Prelude.{◌≡◌, ◌≢◌, ℕ, [], Bool};
 ghost use Rattle.lock_rules.specs.declared.view.Phase.{Phase};
 ghost use Rattle.level_laws.specs.Laws.{AtMostOneHolds, ContextsAreApart, KeptIsWaitedFor, HasTestsBehind};
+ghost use Rattle.level_laws.specs.Cohorts.{OneCohort};
 ghost use Rattle.clof_compose.specs.Calls.{ClosesWith};
 ghost use Rattle.clof_compose.specs.declared.root.Root.{Root};
 
@@ -33,6 +34,13 @@ pub fn contexts_are_apart<
 /// lock that counts its waiters, has begun and not yet taken.
 pub fn kept_is_waited_for<P: Payload, Pass: Resting, Held: Standing<P>>()
     ensures { (holds : Phase → Bool) → KeptIsWaitedFor P.calls P.tag Pass.rest Held.stand Held.stands holds }
+{}
+
+/// Among lawful turns, those of a stretch in which none left higher than a level, and the turn behind it, are of callers under one node of
+/// this level. With `keep_local::keeps_at_most`, by which at most as many turns of such a stretch left at the level as it keeps: one cohort
+/// has the high lock for at most its threshold of handovers.
+pub fn one_cohort()
+    ensures { OneCohort }
 {}
 
 /// What a release told is true of the trail, whatever turns others have made since: the turn behind those that were closed before the
