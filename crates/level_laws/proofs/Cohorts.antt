@@ -1,5 +1,5 @@
 -- Turns of one cohort.
-use Rattle.std.proofs.Common.{◌≡◌, ℕ, ◌<◌, ◌≤◌, List, [], ◌∷◌, ◌++◌, refl, sym, subst, arith, Some}
+use Rattle.std.proofs.Common.{◌≡◌, ℕ, ◌<◌, ◌≤◌, List, [], ◌∷◌, ◌++◌, refl, sym, subst, arith}
 use Rattle.std.specs.Prelude.{All}
 use Rattle.std.proofs.lemmas.List.{append_assoc}
 use Rattle.std.proofs.lemmas.List.Elements.{All-cons, All-head, All-nil, All-tail}
@@ -8,10 +8,10 @@ use native.Mathlib.Decide.{ℕ_discrete}
 use Rattle.keep_local.specs.declared.shape.Shape.{Shape}
 use Rattle.keep_local.specs.declared.turn.Turn.{Turn}
 use Rattle.keep_local.specs.Shapes.{IsWellFormed, callers_of, node_of, top_of}
-use Rattle.keep_local.specs.Turns.{last_turn, Begins, FollowEachOther, IsLawful}
+use Rattle.keep_local.specs.Turns.{Begins, FollowEachOther, IsLawful}
 use Rattle.keep_local.proofs.Checked.{climb_behind, near_behind}
 use Rattle.keep_local.proofs.Logs.{last_push}
-use Rattle.level_laws.specs.Cohorts.{AreOfOneCohort, IsStretch, OneCohort}
+use Rattle.level_laws.specs.Cohorts.{AreOfOneCohort, OneCohort}
 
 -- the last of turns that follow each other do so behind the others
 follow_back : (shape : Shape) (before xs ys : List Turn) → FollowEachOther shape before (xs ++ ys) → FollowEachOther shape (before ++ xs) ys

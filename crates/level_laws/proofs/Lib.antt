@@ -1,3 +1,4 @@
 pub mod Cohorts
 pub mod Holders
 pub mod Told
+pub mod Users

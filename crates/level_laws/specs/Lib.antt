@@ -1,2 +1,3 @@
 pub mod Cohorts
 pub mod Laws
+pub mod Uses

@@ -7,6 +7,7 @@ ghost use Rattle.std.specs.Prelude.{◌≡◌, ◌≢◌, ℕ, [], Bool};
 ghost use Rattle.lock_rules.specs.declared.view.Phase.{Phase};
 ghost use Rattle.level_laws.specs.Laws.{AtMostOneHolds, ContextsAreApart, KeptIsWaitedFor, HasTestsBehind};
 ghost use Rattle.level_laws.specs.Cohorts.{OneCohort};
+ghost use Rattle.level_laws.specs.Uses.{OneUser, NoUserOfHome};
 ghost use Rattle.clof_compose.specs.Calls.{ClosesWith};
 ghost use Rattle.clof_compose.specs.declared.root.Root.{Root};
 
@@ -28,6 +29,22 @@ pub fn contexts_are_apart<
     B: Basic<Own<P, H::Pass, H::Held>, Held = Holds<Own<P, H::Pass, H::Held>>>,
 >(_high: &H)
     ensures { ContextsAreApart H.Pass.rest H.Held.stand B.tag (H.has _high.now) (H.level _high.now) (H.tag _high.now) }
+{}
+
+/// Between any two atomic steps, each context of this lock is in the hands of one pass of one node's basic lock at most, which holds that
+/// lock: while this pass keeps the lock, while it takes or releases it, and before and after that. The context of a value at home is in no
+/// pass's hands.
+pub fn one_user_of_a_context<
+    P: Payload,
+    H: Composed<P>,
+    B: Basic<Own<P, H::Pass, H::Held>, Held = Holds<Own<P, H::Pass, H::Held>>>,
+>(_high: &H)
+    ensures user { (level : ℕ) (holds : Phase → Bool) → OneUser P.calls P.tag H.Pass.rest H.Held.stand H.Held.stands H.Queue.climb
+        H.Queue.climbs H.Leave.descent H.Leave.descends B.name B.tag B.count (H.has _high.now) (H.level _high.now) (H.tag _high.now)
+        level holds }
+    ensures home { (level : ℕ) (holds : Phase → Bool) → NoUserOfHome P.calls P.tag H.Pass.rest H.Held.stand H.Held.stands H.Queue.climb
+        H.Queue.climbs H.Leave.descent H.Leave.descends B.name B.tag B.count (H.has _high.now) (H.level _high.now) (H.tag _high.now)
+        level holds }
 {}
 
 /// Where the value of a node is at home with its high lock kept, nobody holds the node's basic lock, and somebody is queued there or, in a
