@@ -7,6 +7,7 @@ ghost use Rattle.std.specs.Prelude.{◌≡◌, ◌≢◌, ℕ, [], Bool};
 ghost use Rattle.lock_rules.specs.declared.view.Phase.{Phase};
 ghost use Rattle.level_laws.specs.Laws.{AtMostOneHolds, ContextsAreApart, KeptIsWaitedFor, HasTestsBehind};
 ghost use Rattle.level_laws.specs.Cohorts.{OneCohort};
+ghost use Rattle.level_laws.specs.Reach.{OneReaches, OneReachesTop};
 ghost use Rattle.level_laws.specs.Uses.{OneUser, NoUserOfHome};
 ghost use Rattle.clof_compose.specs.Calls.{ClosesWith};
 ghost use Rattle.clof_compose.specs.declared.root.Root.{Root};
@@ -45,6 +46,22 @@ pub fn one_user_of_a_context<
     ensures home { (level : ℕ) (holds : Phase → Bool) → NoUserOfHome P.calls P.tag H.Pass.rest H.Held.stand H.Held.stands H.Queue.climb
         H.Queue.climbs H.Leave.descent H.Leave.descends B.name B.tag B.count (H.has _high.now) (H.level _high.now) (H.tag _high.now)
         level holds }
+{}
+
+/// Between any two atomic steps the root is reached from one context of the top lock at most: the one whose pass holds its basic lock.
+pub fn one_reaches_the_top<V: Cargo>()
+    ensures { (holds : Phase → Bool) → OneReachesTop V.fit V.tag V.parked holds }
+{}
+
+/// Between any two atomic steps each context of this lock is reached from one context at most of a level over it: the one whose pass holds
+/// its node's basic lock, and keeps this lock by it. So, from the top lock down, the root is reached from one context at most of each level.
+pub fn one_reaches_a_context<
+    P: Payload,
+    H: Composed<P>,
+    B: Basic<Own<P, H::Pass, H::Held>, Held = Holds<Own<P, H::Pass, H::Held>>>,
+>(_high: &H)
+    ensures { (level : ℕ) (holds : Phase → Bool) → OneReaches P.calls P.tag H.Pass.rest H.Held.stand H.Held.stands B.name B.tag B.count
+        (H.has _high.now) (H.level _high.now) (H.tag _high.now) level holds }
 {}
 
 /// Where the value of a node is at home with its high lock kept, nobody holds the node's basic lock, and somebody is queued there or, in a
