@@ -1,5 +1,5 @@
 -- Who has which context of the high lock in hand.
-use Rattle.std.proofs.Common.{◌≡◌, ⊎_elim, ℕ, Bool, List, ap, sym, ◌∙◌, subst, Option, Some}
+use Rattle.std.proofs.Common.{◌≡◌, inl, inr, refl, ⊎_elim, ℕ, Bool, List, ap, sym, ◌∙◌, subst, Option, Some}
 use Rattle.std.specs.Prelude.{slice_get}
 use Rattle.atomic_table.specs.Table.{State}
 use Rattle.lock_rules.specs.Tag.{Tag}
@@ -9,13 +9,16 @@ use Rattle.lock_rules.specs.declared.view.View.{View}
 use Rattle.lock_rules.specs.declared.view.Waiters.{Waiters}
 use Rattle.lock_tables.specs.Points.{IsHomeValue, IsPassIn}
 use Rattle.clof_compose.specs.Contexts.{Context, own_tag}
+use Rattle.clof_compose.specs.Levels.{IsStanding, kept_stand}
 use Rattle.clof_compose.specs.Meanings.{Rest, Climb, Stand, Descent}
 use Rattle.clof_compose.specs.Nodes.{AreLocks, IsLockOf}
 use Rattle.clof_compose.specs.Owns.{context_in}
+use Rattle.clof_compose.specs.declared.own.High.{High}
+use Rattle.clof_compose.specs.declared.own.High.TheVariants.{Idle, Kept, Away}
 use Rattle.clof_compose.specs.declared.own.Own.{Own}
 use Rattle.clof_compose.specs.declared.root.Root.{Root}
 use Rattle.clof_compose.proofs.Contexts.{own_tag-tells}
-use Rattle.level_laws.specs.Uses.{AreNodes, Keeps, HasInHand, IsUser, NoUserOfHome, OneUser}
+use Rattle.level_laws.specs.Uses.{AreNodes, Keeps, HasInHand, HoldersHave, IsUser, NoUserOfHome, OneUser}
 use Rattle.level_laws.proofs.Holders.{one_head}
 
 pub some_is : {A : Type 0} (a b : A) → Some a ≡ Some b → a ≡ b
@@ -112,3 +115,33 @@ module _ {P Pass Held Queue Leave B : Type 0} (calls : P → List ℕ) (root_tag
     no_user_of_home locks choices queues states n m p b x nodes at home u =
         none_has calls root_tag rest stand stands name tag count has high_level root_tag_is holds uses told locks choices queues states
         nodes n m p b x at home u
+
+module _ {P Pass Held Queue Leave : Type 0} (LowQueue LowLeave : Type 0) (rest : Pass → Rest) (stand : Held → Stand (Root P))
+    (stands : Held → Type 0) (climb : Queue → Climb) (climbs : Queue → Type 0) (descent : Leave → Descent) (descends : Leave → Type 0) where
+  -- the context of a kept high lock is that of its holder
+  kept_context : (high : High Pass Held) → IsStanding stands high → (kept_stand stand high).context ≡ context_in rest stand high
+  kept_context (Idle p) h = absurd h
+  kept_context (Kept t) h = refl
+  kept_context Away h = absurd h
+
+  pub holders_have : HoldersHave LowQueue LowLeave rest stand stands climb climbs descent descends
+  holders_have = record {
+    rests = λ level low pass is tagged.
+        let same : context_in rest stand low.value.high ≡ (rest pass).context = ap (context_in rest stand) is in
+        inl (record {
+          low = low;
+          pass = pass;
+          at = refl;
+          high_is = is;
+          tag_same = ap (own_tag low.value.node) (sym same) ∙ tagged;
+          own = sym same;
+        });
+    keeps = λ h holding. inr (inl (record {
+      low = h.low;
+      at = refl;
+      holding = holding;
+      own = kept_context h.low.value.high holding.stands_is;
+    }));
+    takes = λ level low queue is. inr (inr (inl (record { low = low; queue = queue; at = refl; climbing = is.0; own = refl })));
+    releases = λ level low leave is. inr (inr (inr (record { low = low; leave = leave; at = refl; descending = is.0; own = refl })));
+  }

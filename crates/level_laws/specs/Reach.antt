@@ -1,5 +1,5 @@
--- From which contexts of a lock the root is reached, between any two steps: from those of the top lock, and from those of a level by way of the
--- high lock.
+-- From which contexts the root is reached, between any two steps: from those of the top lock, and by way of the high lock from those of a
+-- level.
 use Rattle.std.specs.Prelude.{◌≡◌, ℕ, Bool, List, Option}
 use Rattle.atomic_table.specs.Table.{State}
 use Rattle.lock_rules.specs.Tag.{Tag}

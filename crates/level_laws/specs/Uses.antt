@@ -14,13 +14,19 @@ use Rattle.clof_compose.specs.Contexts.{Context, own_tag}
 use Rattle.clof_compose.specs.Levels.{IsClimbing, IsDescending, IsHolding, IsStanding, kept_stand}
 use Rattle.clof_compose.specs.Meanings.{Rest, Climb, Stand, Descent}
 use Rattle.clof_compose.specs.Nodes.{AreLocks}
+use Rattle.clof_compose.specs.Stages.{IsLeaving, IsQueued}
 use Rattle.clof_compose.specs.Owns.{IsOwnFit, context_in, is_kept, own_tag_of}
 use Rattle.clof_compose.specs.declared.own.High.TheVariants.{Idle}
 use Rattle.clof_compose.specs.declared.own.Own.{Own}
+use Rattle.clof_compose.specs.declared.level_tokens.LevelHeld.{LevelHeld}
 use Rattle.clof_compose.specs.declared.root.Root.{Root}
+use Rattle.clof_compose.specs.declared.stage.QueueStage.{QueueStage}
+use Rattle.clof_compose.specs.declared.stage.QueueStage.TheVariants as waits
+use Rattle.clof_compose.specs.declared.stage.LeaveStage.{LeaveStage}
+use Rattle.clof_compose.specs.declared.stage.LeaveStage.TheVariants as leaves
 
--- Whoever holds a node's basic lock at this place has this context of the high lock in hand in one of four ways, as the value and the tokens
--- of the level say it
+-- Whoever holds a node's basic lock at this place has this context of the high lock in hand in one of four ways, as the value and the
+-- tokens of the level say it
 module _ (P Pass Held : Type 0) (level : ℕ) (place : Place) (c : Context) where
   -- the context's pass is at rest in the value: the high lock isn't taken yet, or is released again
   pub record Rests (rest : Pass → Rest) : Type 0 where
@@ -60,6 +66,29 @@ module _ (P Pass Held : Type 0) {Queue Leave : Type 0} (rest : Pass → Rest) (s
   abbrev pub HasInHand : Place → Context → Type 0
   HasInHand place c = Rests P Pass Held level place c rest ⊎ (Keeps P Pass Held level place c stand stands
       ⊎ (Takes P Pass Held level place c climb climbs ⊎ Releases P Pass Held level place c descent descends))
+
+-- `LowQueue` and `LowLeave` are tokens of the basic locks
+module _ {P Pass Held Queue Leave : Type 0} (LowQueue LowLeave : Type 0) (rest : Pass → Rest) (stand : Held → Stand (Root P))
+    (stands : Held → Type 0) (climb : Queue → Climb) (climbs : Queue → Type 0) (descent : Leave → Descent) (descends : Leave → Type 0) where
+  abbrev pub has_in_hand : ℕ → Holds (Own P Pass Held) → Context → Type 0
+  has_in_hand level low c = HasInHand P Pass Held rest stand stands climb climbs descent descends level (holder_of low).place c
+
+  -- a holder of a node's lock whose value has the pass at rest, and each token of a level that holds, or waits or leaves higher up, has the
+  -- context of the high lock in hand so
+  pub record HoldersHave : Type 0 where
+    pub rests : (level : ℕ) (low : Holds (Own P Pass Held)) (pass : Pass) → low.value.high ≡ Idle pass
+        → own_tag_of rest stand low.value.node low.value.high ≡ (holder_of low).place.tag
+        → has_in_hand level low (context_in rest stand low.value.high)
+    pub keeps : (h : LevelHeld P Pass Held) → IsHolding h.id.level h.low.value.node h.low.value.kept (holder_of h.low).place.tag
+        (IsStanding stands h.low.value.high) (kept_stand stand h.low.value.high)
+        → has_in_hand h.id.level h.low (context_in rest stand h.low.value.high)
+    pub takes : (level : ℕ) (low : Holds (Own P Pass Held)) (queue : Queue)
+        → (let stage : QueueStage P LowQueue Pass Held Queue = waits.High low queue in IsQueued climb climbs level stage)
+        → has_in_hand level low (climb queue).context
+    pub releases : (level : ℕ) (low : Holds (Own P Pass Held)) (leave : Leave)
+        → (let stage : LeaveStage P LowLeave Pass Held Leave = leaves.High low leave in
+        IsLeaving (λ _. Unit {0}) descent descends level stage)
+        → has_in_hand level low (descent leave).context
 
 -- The basic locks of a level's nodes at some moment, and the states of their tables. `uses` tells who has which
 -- context of the high lock in hand

@@ -8,7 +8,7 @@ ghost use Rattle.lock_rules.specs.declared.view.Phase.{Phase};
 ghost use Rattle.level_laws.specs.Laws.{AtMostOneHolds, ContextsAreApart, KeptIsWaitedFor, HasTestsBehind};
 ghost use Rattle.level_laws.specs.Cohorts.{OneCohort};
 ghost use Rattle.level_laws.specs.Reach.{OneReaches, OneReachesTop};
-ghost use Rattle.level_laws.specs.Uses.{OneUser, NoUserOfHome};
+ghost use Rattle.level_laws.specs.Uses.{OneUser, NoUserOfHome, HoldersHave};
 ghost use Rattle.clof_compose.specs.Calls.{ClosesWith};
 ghost use Rattle.clof_compose.specs.declared.root.Root.{Root};
 
@@ -34,7 +34,7 @@ pub fn contexts_are_apart<
 
 /// Between any two atomic steps, each context of this lock is in the hands of one pass of one node's basic lock at most, which holds that
 /// lock: while this pass keeps the lock, while it takes or releases it, and before and after that. The context of a value at home is in no
-/// pass's hands.
+/// pass's hands. The tokens of a level that hold a node's lock have its context in hand so.
 pub fn one_user_of_a_context<
     P: Payload,
     H: Composed<P>,
@@ -46,6 +46,8 @@ pub fn one_user_of_a_context<
     ensures home { (level : ℕ) (holds : Phase → Bool) → NoUserOfHome P.calls P.tag H.Pass.rest H.Held.stand H.Held.stands H.Queue.climb
         H.Queue.climbs H.Leave.descent H.Leave.descends B.name B.tag B.count (H.has _high.now) (H.level _high.now) (H.tag _high.now)
         level holds }
+    ensures holders { HoldersHave B.Queue B.Leave H.Pass.rest H.Held.stand H.Held.stands H.Queue.climb H.Queue.climbs H.Leave.descent
+        H.Leave.descends }
 {}
 
 /// Between any two atomic steps the root is reached from one context of the top lock at most: the one whose pass holds its basic lock.
@@ -54,7 +56,8 @@ pub fn one_reaches_the_top<V: Cargo>()
 {}
 
 /// Between any two atomic steps each context of this lock is reached from one context at most of a level over it: the one whose pass holds
-/// its node's basic lock, and keeps this lock by it. So, from the top lock down, the root is reached from one context at most of each level.
+/// its node's basic lock, and keeps this lock by it. So, from the top lock down, the root is reached from one context at most of each
+/// level.
 pub fn one_reaches_a_context<
     P: Payload,
     H: Composed<P>,
