@@ -17,7 +17,7 @@ use Rattle.clof_compose.specs.declared.root.Root.{Root}
 use Rattle.clof_compose.proofs.Contexts.{own_tag-tells}
 
 -- a list has one head
-one_head : (queue : List ℕ) (p q : ℕ) → IsHead p queue → IsHead q queue → p ≡ q
+pub one_head : (queue : List ℕ) (p q : ℕ) → IsHead p queue → IsHead q queue → p ≡ q
 one_head queue p q a b = let e : Some p ≡ Some q = sym a ∙ b in cc
 
 module _ {V : Type 0} (fit : V → Type 0) (tag_of : V → Tag) (parked : V → Bool) (holds : Phase → Bool) where

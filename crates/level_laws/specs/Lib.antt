@@ -1,1 +1,4 @@
+pub mod Cohorts
 pub mod Laws
+pub mod Reach
+pub mod Uses
