@@ -21,21 +21,32 @@ fn walks_on_cores<R: Threads + Wait + Sync + Abort>(
     input: &[u8],
     text: &[u8],
 ) -> Result<(), Fail> {
-    for locks in ["mcs-mcs", "mcsc-mcsc"] {
-        let words = [
-            "run",
-            "--walk",
-            "--levels",
-            "package,machine",
-            "--locks",
-            locks,
-            "--keep",
-            keep,
-            description,
-        ];
-        prints(rt, alloc, &words, input, text)?;
-    }
-    Ok(())
+    walks_under(rt, alloc, "mcs-mcs", keep, description, input, text)?;
+    walks_under(rt, alloc, "mcsc-mcsc", keep, description, input, text)
+}
+
+// Checks a walk under locks of two levels of these kinds, over the cores of a package and the machine.
+fn walks_under<R: Threads + Wait + Sync + Abort>(
+    rt: &R,
+    alloc: Global,
+    locks: &str,
+    keep: &str,
+    description: &str,
+    input: &[u8],
+    text: &[u8],
+) -> Result<(), Fail> {
+    let words = [
+        "run",
+        "--walk",
+        "--levels",
+        "package,machine",
+        "--locks",
+        locks,
+        "--keep",
+        keep,
+        description,
+    ];
+    prints(rt, alloc, &words, input, text)
 }
 
 // The second caller waits below the lock that the first one has, and gets it without a climb.
