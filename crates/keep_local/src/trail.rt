@@ -291,11 +291,12 @@ impl Trail {
         &self.log.shape
     }
 
-    /// How many turns the share's caller has in the trail. The number is that of a recorded trail; an unrecorded one shows the same of its
-    /// share, whose `turns_made` has the number.
+    /// How many turns the share's caller has in the trail, an open one included, as `Share::made` answers it: where these are more than 32
+    /// bits have, which is so of no recorded trail, it is the greatest number of 32 bits.
     pub fn agree(&mut self, share: &mut Share) -> u32
         requires own { share.old.name ≡ self.old.name }
         ensures made { self.old.recorded ≡ true → result ≡ share.old.made }
+        ensures most { result ≡ min share.old.made (2 ^ 32 - 1) }
         ensures trail { self.new ≡ self.old }
         ensures share { share.new ≡ share.old }
         ensures counted { IsShareOf self.old share.old }
