@@ -1,9 +1,10 @@
 -- How often callers stand in lists and tallies.
-use Rattle.std.proofs.Common.{◌≡◌, ◌≢◌, ℕ, suc, ◌+◌, ◌<◌, ◌≤◌, Bool, true, false, cond, ◌&&◌, List, [], ◌∷◌, ◌++◌, map, length, get_or}
-use Rattle.std.proofs.Common.{nat_le, nat_lt, ◌==◌, eq-eqb, ne_eqb, refl, ap, sym, subst, arith}
-use Rattle.std.specs.Prelude.{slice_index, sum, All}
+use Rattle.std.proofs.Common.{◌≡◌, ◌≢◌, ℕ, suc, ◌+◌, ◌*◌, ◌<◌, ◌≤◌, Bool, true, false, cond, ◌&&◌, List, [], ◌∷◌, ◌++◌, map, length, get_or}
+use Rattle.std.proofs.Common.{nat_le, nat_lt, ◌==◌, eq-eqb, ne_eqb, refl, ap, sym, ◌∙◌, subst, arith}
+use Rattle.std.specs.Prelude.{slice_index, sum, replicate, All}
 use Rattle.std.specs.List.{count_by, enumerate_from}
 use Rattle.std.proofs.lemmas.List.Sums.{sum_by-cons, sum_by-append, sum_by_push}
+use Rattle.std.proofs.lemmas.List.Folds.{sum_by-replicate}
 use Rattle.std.proofs.lemmas.List.Elements.{All-cons, All-head, All-tail}
 use Rattle.std.proofs.lemmas.Bool.Decides.{nat_tests}
 use Rattle.keep_local.specs.declared.view.Tally.{Tally}
@@ -12,17 +13,21 @@ use Rattle.keep_local.specs.Views.{times, new_tally, first_alone, behind_first}
 abbrev pub one_if : Bool → ℕ
 one_if b = cond b 1 0
 
--- one more caller
-pub times_push : (k : ℕ) (xs : List ℕ) (x : ℕ) → times k (xs ++ x ∷ []) ≡ times k xs + one_if (x == k)
-times_push k xs x = sum_by_push (λ (y : ℕ). one_if (y == k)) xs x
+-- so many more turns of one caller
+times_more : (k : ℕ) (xs : List ℕ) (x n : ℕ) → times k (xs ++ replicate n x) ≡ times k xs + n * one_if (x == k)
+times_more k xs x n =
+    let f : ℕ → ℕ = λ y. one_if (y == k) in
+    sum_by-append f xs (replicate n x) ∙ ap (λ (m : ℕ). times k xs + m) (sum_by-replicate f n x)
 
-pub times_same : (k : ℕ) (xs : List ℕ) (x : ℕ) → x ≡ k → times k (xs ++ x ∷ []) ≡ times k xs + 1
-times_same k xs x e = let b : (x == k) ≡ true = eq-eqb x k e in let p = times_push k xs x in let q : one_if (x == k) ≡ 1 = ap one_if b in
+pub times_own : (k : ℕ) (xs : List ℕ) (x n : ℕ) → x ≡ k → times k (xs ++ replicate n x) ≡ times k xs + n
+times_own k xs x n e = let p = times_more k xs x n in
+    let q : n * one_if (x == k) ≡ n * 1 = ap (λ (b : Bool). n * one_if b) (eq-eqb x k e) in
     omega (arith, p, q)
 
-pub times_other : (k : ℕ) (xs : List ℕ) (x : ℕ) → x ≢ k → times k (xs ++ x ∷ []) ≡ times k xs
-times_other k xs x n = let b : (x == k) ≡ false = ne_eqb x k n in let p = times_push k xs x in
-    let q : one_if (x == k) ≡ 0 = ap one_if b in omega (arith, p, q)
+pub times_others : (k : ℕ) (xs : List ℕ) (x n : ℕ) → x ≢ k → times k (xs ++ replicate n x) ≡ times k xs
+times_others k xs x n ne = let p = times_more k xs x n in
+    let q : n * one_if (x == k) ≡ n * 0 = ap (λ (b : Bool). n * one_if b) (ne_eqb x k ne) in
+    omega (arith, p, q)
 
 -- the callers from a number on are those of this number and those behind it
 abbrev from : ℕ → List ℕ → ℕ

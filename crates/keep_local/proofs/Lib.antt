@@ -8,6 +8,7 @@ pub mod Runs
 pub mod Trails
 pub mod Logs
 pub mod Steps
+pub mod Lone
 pub mod Parts
 pub mod Lawful
 pub mod Checked

@@ -76,13 +76,12 @@ shows id v other w s r at apart at' =
     kept_set s.words (record { words = s.words; homes = s.homes; views = set s.views id both }) first other w no_turns at'
     (λ own. record { home = away no_turns refl; known = none_first first.all; shown = none_first first.all })
 
--- the load by which the home seat adds a turn
-pub records : (t : Turn) (slots id : ℕ) (me : Knower) → me.0.home ≡ true
-    → Allows AreOneList slots id me 0 (λ n. n) (recorded t (step slots 0 0 0 none) me)
-records t slots id me home s r count at low =
+-- the load by which the home seat adds turns
+pub records : (more : List Turn) (slots id : ℕ) (me : Knower) → me.0.home ≡ true
+    → Allows AreOneList slots id me 0 (λ n. n) (recorded more (step slots 0 0 0 none) me)
+records more slots id me home s r count at low =
     let v : ReceiptView = me.0 in
-    let more : List Turn = t ∷ [] in
-    let w : ReceiptView = recorded_in t v in
+    let w : ReceiptView = recorded_in more v in
     let own : Knows r.all id v = r.each_seat id v at in
     let all : v.turns ≡ r.all = (own.home home).turns_are in
     let longer : v.turns ++ more ≡ r.all ++ more = ap (λ (l : List Turn). l ++ more) all in (

@@ -11,7 +11,7 @@ use Rattle.keep_local.specs.Turns.{run, last_turn, Begins}
 use Rattle.keep_local.specs.States.{TrailState, NotesState, ShareState, TieState, IsCounted, IsShareOf, IsTrail, MayLeave, option_list}
 use Rattle.keep_local.specs.States.{callers_in, all_turns, new_notes, new_trail, opened, tested, left_at}
 use Rattle.keep_local.specs.Trails.{log_state, IsKept}
-use Rattle.keep_local.proofs.Counts.{times_same}
+use Rattle.keep_local.proofs.Counts.{times_own}
 use Rattle.keep_local.proofs.Trails.{trail_opened, trail_noted, trail_left}
 use Rattle.keep_local.proofs.Runs.{run_none, run_above, run-le-length}
 use Rattle.keep_local.proofs.Lawful.{run_within}
@@ -38,7 +38,7 @@ counted_again tie share told = record {
   own = told.own;
   known = told.known;
   quota = told.quota;
-  made = let a = times_same share.caller tie.callers share.caller refl in let b = told.made in omega (arith, a, b);
+  made = let a = times_own share.caller tie.callers share.caller 1 refl in let b = told.made in omega (arith, a, b);
 }
 
 -- the log after a turn was opened
@@ -48,7 +48,7 @@ with_open l tie t turns = record l { tie = tie; current = Some t; turns = turns 
 -- a turn was opened
 pub turn_opened : (l : Log) (s : TrailState) (share share' : ShareState) (climb : ℕ) (tie : TieState) (turns : Vec Turn Global) (t : Turn)
     → HasState l s → s.current ≡ None → Begins s.shape s.closed (opened s share.caller climb)
-    → IsCounted l.tie share → length l.tie.callers < sum l.tie.quotas
+    → IsCounted l.tie share → length l.tie.callers + 1 ≤ sum l.tie.quotas
     → tie ≡ record l.tie { callers = l.tie.callers ++ share.caller ∷ [] } → share' ≡ record share { made = share.made + 1 }
     → t ≡ record { caller = share'.caller; climb = climb; tests = 0; left = top_of l.shape }
     → turns.items ≡ cond l.recorded (l.turns.items ++ t ∷ []) l.turns.items → vec_capacity turns ≡ vec_capacity l.turns
@@ -98,7 +98,7 @@ turn_opened l s share share' climb tie turns t has free begins told room tie_is 
     )
 
 -- there is room for a turn that may be opened
-pub room_for : (l : Log) (s : TrailState) → HasState l s → length l.tie.callers < sum l.tie.quotas → l.recorded ≡ true
+pub room_for : (l : Log) (s : TrailState) → HasState l s → length l.tie.callers + 1 ≤ sum l.tie.quotas → l.recorded ≡ true
     → length l.turns.items < vec_capacity l.turns
 room_for l s has room is =
     let kept = has.kept in

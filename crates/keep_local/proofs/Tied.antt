@@ -2,10 +2,11 @@
 use Rattle.std.proofs.Common.{◌≡◌, ◌≢◌, ℕ, zero, suc, ◌+◌, ◌%◌, ◌^◌, ◌<◌, ◌≤◌, Bool, true, false, List, [], ◌∷◌, ◌++◌, length, get_or}
 use Rattle.std.proofs.Common.{set, slice_index, nat_le, nat_lt, ◌==◌, ◌&&◌, eq-eqb, refl, ap, sym, ◌∙◌, subst, ⊎_elim, arith}
 use Rattle.std.proofs.Common.{length-append}
-use Rattle.std.specs.Prelude.{sum, All}
+use Rattle.std.specs.Prelude.{sum, replicate, All}
 use Rattle.std.specs.List.{sum_by, enumerate_from}
+use Rattle.std.proofs.lemmas.List.{length-replicate}
 use Rattle.std.proofs.lemmas.List.Sums.{sum_by_push, sum_by-cons}
-use Rattle.std.proofs.lemmas.List.Elements.{All-nil, All-cons, All-head, All-tail, All-push, All-append, All-map}
+use Rattle.std.proofs.lemmas.List.Elements.{All-nil, All-cons, All-head, All-tail, All-replicate, All-append, All-map}
 use Rattle.std.proofs.lemmas.List.FromFn.{length-enumerate_from, get_or-enumerate_from}
 use Rattle.std.proofs.lemmas.Grind.{get_or_default_zero}
 use Rattle.std.proofs.lemmas.Bool.Decides.{nat_tests}
@@ -20,10 +21,10 @@ use Rattle.keep_local.proofs.Sums.{sum_set, part_le, parts_le}
 use Rattle.keep_local.specs.declared.view.Tally.{Tally}
 use Rattle.keep_local.specs.declared.view.View.{View}
 use Rattle.keep_local.specs.Views.{times, stands_in, new_tally, first_view, first_alone, behind_first, without_first, first_split}
-use Rattle.keep_local.specs.Views.{joined_view, spent_view, with_turn, with_turn_of}
+use Rattle.keep_local.specs.Views.{joined_view, spent_view, with_turns, with_turns_of}
 use Rattle.keep_local.specs.Tie.{IsTallyOf, IsHome, SeatStands, HasHome, IsTied}
 use Rattle.keep_local.specs.Steps.{Seated, IsTold, appended, looked}
-use Rattle.keep_local.proofs.Counts.{one_if, times_same, times_other, turns_fit, tallied, tallied-cons, tallied-append, tallied_cut}
+use Rattle.keep_local.proofs.Counts.{one_if, times_own, times_others, turns_fit, tallied, tallied-cons, tallied-append, tallied_cut}
 use Rattle.keep_local.proofs.Counts.{none_tallied, span_tallied}
 
 abbrev St : Type 0
@@ -145,14 +146,14 @@ module _ (quotas : List ℕ) where
       }
 
   -- a tally of another caller stays right
-  stays : (callers : List ℕ) (caller : ℕ) (ts : List Tally) → tallied caller ts ≡ 0 → All (IsTallyOf quotas callers) ts
-      → All (IsTallyOf quotas (callers ++ caller ∷ [])) ts
-  stays callers caller ts absent had = λ i d h.
+  stays : (callers : List ℕ) (caller n : ℕ) (ts : List Tally) → tallied caller ts ≡ 0 → All (IsTallyOf quotas callers) ts
+      → All (IsTallyOf quotas (callers ++ replicate n caller)) ts
+  stays callers caller n ts absent had = λ i d h.
       let t : Tally = get_or ts i d in
       let other : t.caller ≢ caller = none_tallied caller ts absent i d h in
       let was : IsTallyOf quotas callers t = had i d h in record {
         known = was.known;
-        made = was.made ∙ sym (times_other t.caller callers caller (λ e. other (sym e)));
+        made = was.made ∙ sym (times_others t.caller callers caller n (λ e. other (sym e)));
         quota = was.quota;
       }
 
@@ -175,30 +176,34 @@ module _ (quotas : List ℕ) where
       λ i. record { words = sym words i; homes = s.homes; views = sym views i } in
       (me.0, keeps, tt, subst Rule same r, record { view = refl; told = tells s r id me.0 at is })
 
-  -- the addition by the home seat
-  pub appends : (slots id : ℕ) (me : Seated) (t : Tally) (ts : List Tally) → me.0.home ≡ true → me.0.tallies ≡ t ∷ ts → t.made < t.quota
-      → Allows Rule slots id me 0 (λ n. (n + 1) % 2 ^ 64) (appended (step slots 0 1 0 none) me)
-  appends slots id me t ts is first room s r count at low =
+  -- the addition of a number by the home seat
+  pub appends : (slots id n : ℕ) (me : Seated) (t : Tally) (ts : List Tally) → me.0.home ≡ true → me.0.tallies ≡ t ∷ ts
+      → t.made + n ≤ t.quota
+      → Allows Rule slots id me 0 (λ k. (k + n) % 2 ^ 64) (appended (step slots 0 n 0 none) me)
+  appends slots id n me t ts is first room s r count at low =
       let v : View = me.0 in
-      let w : View = record v { callers = v.callers ++ t.caller ∷ []; tallies = record t { made = t.made + 1 } ∷ ts } in
-      let w_is : with_turn v ≡ w = ap (with_turn_of v) first in
+      let more_callers : List ℕ = replicate n t.caller in
+      let w : View = record v { callers = v.callers ++ more_callers; tallies = record t { made = t.made + n } ∷ ts } in
+      let w_is : with_turns n v ≡ w = ap (with_turns_of v n) first in
       let stands : SeatStands quotas r.callers id v = r.each_seat id v at in
       let home : IsHome quotas r.callers id v = stands.home is in
       let told : IsTold v (slice_index s.words 0) = tells s r id v at is in
       let here : All (IsTallyOf quotas r.callers) (t ∷ ts) = subst (All (IsTallyOf quotas r.callers)) first stands.tallies in
       let own : IsTallyOf quotas r.callers t = All-head (IsTallyOf quotas r.callers) t ts here in
-      let callers : List ℕ = r.callers ++ t.caller ∷ [] in
-      let longer : length callers ≡ length r.callers + 1 = omega (arith, length-append r.callers (t.caller ∷ [])) in
-      let known : All (λ c. c < length quotas) callers = All-push (λ (c : ℕ). c < length quotas) r.callers t.caller r.known own.known in
+      let callers : List ℕ = r.callers ++ more_callers in
+      let longer : length callers ≡ length r.callers + n =
+      omega (arith, length-append r.callers more_callers, length-replicate n t.caller) in
+      let known : All (λ c. c < length quotas) callers = All-append (λ (c : ℕ). c < length quotas) r.callers more_callers r.known
+      (All-replicate (λ (c : ℕ). c < length quotas) n t.caller own.known) in
       let within : (k : ℕ) → k < length quotas → times k callers ≤ slice_index quotas k = λ k below. dite (ℕ_discrete t.caller k)
-      (λ e. let a = times_same k r.callers t.caller e in
+      (λ e. let a = times_own k r.callers t.caller n e in
       let b : t.made ≡ times k r.callers = own.made ∙ ap (λ (x : ℕ). times x r.callers) e in
       let c : t.quota ≡ slice_index quotas k = own.quota ∙ ap (slice_index quotas) e in omega (arith, a, b, c, room))
-      (λ ne. let a = times_other k r.callers t.caller ne in let b = r.within k below in omega (arith, a, b)) in
+      (λ ne. let a = times_others k r.callers t.caller n ne in let b = r.within k below in omega (arith, a, b)) in
       let fit : length callers ≤ sum quotas = turns_fit quotas callers known within in
       let found : slice_index s.words 0 ≡ length r.callers = ap (λ (ws : List ℕ). slice_index ws 0) r.word in
-      let more : (slice_index s.words 0 + 1) % 2 ^ 64 ≡ length callers = let f = r.fits in
-      let small : slice_index s.words 0 + 1 < 2 ^ 64 = omega (arith, found, longer, fit, f) in omega (arith, found, longer, small) in
+      let more : (slice_index s.words 0 + n) % 2 ^ 64 ≡ length callers = let f = r.fits in
+      let small : slice_index s.words 0 + n < 2 ^ 64 = omega (arith, found, longer, fit, f) in omega (arith, found, longer, small) in
       -- no other tally is of this caller
       let alone : (k : ℕ) → one_if (nat_lt k (length quotas)) ≤ 1 =
       λ k. elim (nat_lt k (length quotas)) as (λ b. one_if b ≤ 1) [ true ↦ omega arith | false ↦ omega arith ] in
@@ -210,10 +215,10 @@ module _ (quotas : List ℕ) where
       let none_else : (j : ℕ) (u : View) → j ≢ id → get_elem? s.views j ≡ some u
       → tallied t.caller u.tallies ≡ 0 = λ j u ne e. let p = parts_le (stands_in t.caller) s.views id j v u spent_view refl ne at e in
       let q = alone t.caller in omega (arith, p, q, mine, all) in
-      let rule : Rule (stepped s 0 ((slice_index s.words 0 + 1) % 2 ^ 64) id me.1 w keeps) = record {
+      let rule : Rule (stepped s 0 ((slice_index s.words 0 + n) % 2 ^ 64) id me.1 w keeps) = record {
         callers = callers;
         fits = r.fits;
-        word = ap (λ (ws : List ℕ). set ws 0 ((slice_index s.words 0 + 1) % 2 ^ 64)) r.word ∙ ap (λ (n : ℕ). n ∷ []) more;
+        word = ap (λ (ws : List ℕ). set ws 0 ((slice_index s.words 0 + n) % 2 ^ 64)) r.word ∙ ap (λ (k : ℕ). k ∷ []) more;
         known = known;
         within = within;
         home = home_set s.views id v w at refl r.home;
@@ -222,26 +227,26 @@ module _ (quotas : List ℕ) where
               home = λ _. record {
                 first = home.first;
                 quotas_are = home.quotas_are;
-                callers_are = ap (λ (cs : List ℕ). cs ++ t.caller ∷ []) home.callers_are;
+                callers_are = ap (λ (cs : List ℕ). cs ++ more_callers) home.callers_are;
               };
-              tallies = All-cons (IsTallyOf quotas callers) (record t { made = t.made + 1 }) ts
+              tallies = All-cons (IsTallyOf quotas callers) (record t { made = t.made + n }) ts
                   (record {
                     known = own.known;
-                    made = let a = times_same t.caller r.callers t.caller refl in let b = own.made in
+                    made = let a = times_own t.caller r.callers t.caller n refl in let b = own.made in
                         omega (arith, a, b);
                     quota = own.quota;
                   })
-                  (stays r.callers t.caller ts none_behind (All-tail (IsTallyOf quotas r.callers) t ts here));
+                  (stays r.callers t.caller n ts none_behind (All-tail (IsTallyOf quotas r.callers) t ts here));
             }))
             (λ (p : (j ≢ id) × (get_elem? s.views j ≡ some u)). let old = r.each_seat j u p.1 in record {
               home = λ h. let other = old.home h in absurd (p.0 (other.first ∙ sym home.first));
-              tallies = stays r.callers t.caller u.tallies (none_else j u p.0 p.1) old.tallies;
+              tallies = stays r.callers t.caller n u.tallies (none_else j u p.0 p.1) old.tallies;
             })
             (at_set s.views id j w u e);
         once = λ k.
             let a = sum_set (stands_in k) s.views id v w at in
             let b : stands_in k v ≡ one_if (t.caller == k) + tallied k ts = ap (tallied k) first ∙ tallied-cons k t ts in
-            let c = tallied-cons k (record t { made = t.made + 1 }) ts in
+            let c = tallied-cons k (record t { made = t.made + n }) ts in
             let d : ℕ = one_if (nat_lt k (length quotas)) in
             let h : sum_by (stands_in k) s.views ≡ d = r.once k in
             let goal : sum_by (stands_in k) (set s.views id w) ≡ d = omega (arith, a, b, c, h) in goal;

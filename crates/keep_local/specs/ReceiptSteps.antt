@@ -1,5 +1,5 @@
 -- The loads of the receipts' table, and what each makes of the home seat. Splitting and joining seats are the table's own.
-use Rattle.std.specs.Prelude.{◌≡◌, ℕ, [], ◌∷◌, ◌++◌}
+use Rattle.std.specs.Prelude.{◌≡◌, ℕ, List, [], ◌++◌}
 use Rattle.atomic_table.specs.Table.{Me, Step}
 use Rattle.keep_local.specs.ReceiptRule.{AreFirst}
 use Rattle.keep_local.specs.declared.turn.Turn.{Turn}
@@ -8,16 +8,16 @@ use Rattle.keep_local.specs.declared.receipt_view.ReceiptView.{ReceiptView}
 abbrev pub Knower : Type 0
 Knower = Me (Unit {0}) ReceiptView
 
--- the turn of a step whose proof picks none
-abbrev pub no_turn : Turn
-no_turn = record { caller = 0; climb = 0; tests = 0; left = 0 }
+-- the turns of a step whose proof picks none
+abbrev pub none_closed : List Turn
+none_closed = []
 
--- a turn came to the closed ones
-abbrev pub recorded_in : Turn → ReceiptView → ReceiptView
-recorded_in t v = record v { turns = v.turns ++ t ∷ [] }
+-- turns came to the closed ones
+abbrev pub recorded_in : List Turn → ReceiptView → ReceiptView
+recorded_in ts v = record v { turns = v.turns ++ ts }
 
-abbrev pub recorded : Turn → Step (Unit {0}) → Knower → ℕ → Knower → Type 0
-recorded t st me found me' = me' ≡ (recorded_in t me.0, me.1)
+abbrev pub recorded : List Turn → Step (Unit {0}) → Knower → ℕ → Knower → Type 0
+recorded ts st me found me' = me' ≡ (recorded_in ts me.0, me.1)
 
 -- nothing changes, and what the seat was shown are the first of the turns that it knows
 pub record Checked (me me' : Knower) : Type 0 where

@@ -1,6 +1,6 @@
 -- What a trail and a share are seen as.
 use Rattle.std.specs.Prelude.{◌≡◌, ℕ, ◌+◌, ◌-◌, ◌/◌, ◌^◌, ◌<◌, ◌≤◌, Bool, true, false, cond, if◌then◌else◌}
-use Rattle.std.specs.Prelude.{List, [], ◌∷◌, ◌++◌, length, map, max, min, sum, slice_index, replicate}
+use Rattle.std.specs.Prelude.{List, [], ◌∷◌, ◌++◌, length, map, max, min, sum, slice_index, slice_set, replicate}
 use Rattle.std.specs.Prelude.{All, IfSome, IfNone, Option, Some, None, bit_or}
 use Rattle.std.specs.Int.{bit_at}
 use Rattle.std.specs.List.{enumerate_from}
@@ -122,6 +122,20 @@ free_quotas callers = replicate callers (free_quota callers)
 -- an unrecorded trail before its first turn
 abbrev pub unrecorded_trail : TableId → TableId → Shape → TrailState
 unrecorded_trail name receipts shape = record (new_trail name receipts shape (free_quotas (callers_of shape))) { recorded = false }
+
+-- a caller's turn that climbed to the top and left there, since nobody was queued
+abbrev pub lone_turn : Shape → ℕ → Turn
+lone_turn shape caller = record { caller = caller; climb = top_of shape; tests = 0; left = top_of shape }
+
+-- an unrecorded trail whose caller 0 has made so many turns alone
+abbrev pub trail_behind : TableId → TableId → Shape → ℕ → TrailState
+trail_behind name receipts shape turns =
+    record (unrecorded_trail name receipts shape) { closed = replicate turns (lone_turn shape 0) }
+
+-- its shares: that of caller 0 has made these turns
+abbrev pub shares_behind : TableId → ℕ → ℕ → List ShareState
+shares_behind name callers turns = slice_set (new_shares name (free_quotas callers)) 0
+    (record (new_share name (0, free_quota callers)) { made = turns })
 
 -- the turns that stand in memory: all where the trail is recorded, and none where it isn't
 abbrev pub recorded_turns : TrailState → List Turn

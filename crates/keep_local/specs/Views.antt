@@ -1,5 +1,5 @@
 -- What the seats of a trail's table know, and how the steps change it.
-use Rattle.std.specs.Prelude.{ℕ, ◌+◌, true, false, List, [], ◌∷◌, ◌++◌, ◌==◌, map}
+use Rattle.std.specs.Prelude.{ℕ, ◌+◌, true, false, List, [], ◌∷◌, ◌++◌, ◌==◌, map, replicate}
 use Rattle.std.specs.List.{count_by, enumerate_from}
 use Rattle.keep_local.specs.declared.view.Tally.{Tally}
 use Rattle.keep_local.specs.declared.view.View.{View}
@@ -47,13 +47,13 @@ first_split v = away_view (first_alone v.tallies)
 abbrev pub joined_view : View → View → View
 joined_view v w = record v { tallies = w.tallies ++ v.tallies }
 
--- the caller of the first tally makes one more turn
-abbrev pub with_turn_of : View → List Tally → View
-with_turn_of v [] = v
-with_turn_of v (t ∷ ts) = record v { callers = v.callers ++ t.caller ∷ []; tallies = record t { made = t.made + 1 } ∷ ts }
+-- the caller of the first tally makes so many more turns
+abbrev pub with_turns_of : View → ℕ → List Tally → View
+with_turns_of v n [] = v
+with_turns_of v n (t ∷ ts) = record v { callers = v.callers ++ replicate n t.caller; tallies = record t { made = t.made + n } ∷ ts }
 
-abbrev pub with_turn : View → View
-with_turn v = with_turn_of v v.tallies
+abbrev pub with_turns : ℕ → View → View
+with_turns n v = with_turns_of v n v.tallies
 
 -- how often a number stands in a list
 abbrev pub times : ℕ → List ℕ → ℕ

@@ -27,7 +27,7 @@ pub use checker::{begins, is_lawful, level_to_leave, run_of};
 pub use laws::{keeps_at_most, receipts_are_shared, turn_is_fixed};
 pub use plays::{Append, Cut, Glue, Look, TieRule};
 pub use receipt::Receipt;
-pub use receipt_plays::{Check, ClosedTurn, Copy, ReceiptRule, Record, Show};
+pub use receipt_plays::{Check, ClosedTurns, Copy, ReceiptRule, Record, Show};
 pub use receipt_view::ReceiptView;
 pub use shape::Shape;
 pub use share::Share;

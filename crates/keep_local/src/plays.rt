@@ -34,7 +34,7 @@ impl Join<View> for Glue {
     ghost spent = { spent_view };
 }
 
-/// The addition by the home seat, by which the caller of its first tally makes a turn.
+/// The addition of a number by the home seat, by which the caller of its first tally makes so many turns.
 pub struct Append;
 
 impl Play<(), View> for Append {

@@ -1,10 +1,10 @@
 //! The table that the receipts of a trail come from.
-ghost use Rattle.std.specs.Prelude.{◌≡◌, [], ◌∷◌, ◌++◌, ◌≢◌, IfOk};
+ghost use Rattle.std.specs.Prelude.{◌≡◌, [], ◌++◌, ◌≢◌, IfOk, replicate};
 ghost use Rattle.keep_local.specs.ReceiptRule.{AreFirst};
 ghost use Rattle.keep_local.specs.States.{all_tests, new_notes};
 
 use crate::receipt::Receipt;
-use crate::receipt_plays::{Check, ClosedTurn, Copy, ReceiptRule, Record, Show};
+use crate::receipt_plays::{Check, ClosedTurns, Copy, ReceiptRule, Record, Show};
 use crate::receipt_view::ReceiptView;
 use crate::turn::Turn;
 use atomic_table::{Badge, Seat, Table};
@@ -46,17 +46,17 @@ impl Receipts {
         Ok(Receipts { table, home })
     }
 
-    /// A turn is closed. Nothing is written but what clauses see.
-    pub(crate) fn record(&mut self, turn: Turn)
-        ensures { self.new ≡ record self.old { turns = self.old.turns ++ turn ∷ [] } }
+    /// So many turns like this one are closed. Nothing is written but what clauses see.
+    pub(crate) fn record(&mut self, turn: Turn, times: u64)
+        ensures { self.new ≡ record self.old { turns = self.old.turns ++ replicate times turn } }
     {
-        self.record_as::<Brand>(turn);
+        self.record_as::<Brand>(turn, times);
     }
 
-    // The same for the turn that the proof of a call picks.
-    fn record_as<T: ClosedTurn>(&mut self, _turn: Turn)
-        requires { _turn ≡ T.turn }
-        ensures { self.new ≡ record self.old { turns = self.old.turns ++ T.turn ∷ [] } }
+    // The same for the turns that the proof of a call picks.
+    fn record_as<T: ClosedTurns>(&mut self, _turn: Turn, _times: u64)
+        requires { replicate _times _turn ≡ T.turns }
+        ensures { self.new ≡ record self.old { turns = self.old.turns ++ T.turns } }
     {
         let table = &self.table;
         table.shared.load::<Record<T>>(&mut self.home, WORD);

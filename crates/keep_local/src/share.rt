@@ -77,7 +77,7 @@ impl Share {
 }
 
 // The number, or the greatest of 32 bits where it has more.
-fn clamped(number: u64) -> u32
+pub(crate) fn clamped(number: u64) -> u32
     ensures { result ≡ min number (2 ^ 32 - 1) }
 {
     if number < 1 << 32 {

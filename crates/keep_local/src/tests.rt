@@ -499,3 +499,115 @@ fn a_trail_and_its_shares_may_go_to_other_threads(rt: HostRuntime) {
     let (trail, shares) = sent((trail, shares));
     assert!(rt; !trail.is_open() && shares.is_empty());
 }
+
+// What a share has made, in 64 bits and in 32, what its trail agrees to, and how many turns in a row left at the top.
+#[derive(Clone, Copy, PartialEq, Eq)]
+struct Counts {
+    made: u64,
+    shown: u32,
+    agreed: u32,
+    run: u32,
+}
+
+fn counts_of(trail: &mut Trail, share: &mut Share) -> Counts
+    requires own { share.old.name ≡ trail.old.name }
+    ensures trail { trail.new ≡ trail.old }
+    ensures share { share.new ≡ share.old }
+{
+    let top = trail.shape().keeps.as_slice().len() as u32;
+    Counts {
+        made: share.turns_made(),
+        shown: share.made(),
+        agreed: trail.agree(share),
+        run: trail.run(top),
+    }
+}
+
+// The counts of caller 0 behind this many turns of its own, then behind one more that leaves at the top, and then behind one that keeps the
+// lock for a turn of caller 1. There are none where a turn can't be made, or where another count differs.
+fn counts_behind(alloc: Global, turns: u64) -> Result<Option<[Counts; 3]>, OutOfMemory> {
+    let shape = shape_of(alloc, &KEPT_ONCE)?;
+    let callers = shape.paths.as_slice().len();
+    if !shape.is_well_formed() || callers != 2 || turns > 1 << 33 {
+        return Ok(None);
+    }
+    let (mut trail, mut shares) = Trail::unrecorded_behind(alloc, shape, turns)?;
+    let [first, second] = shares.as_mut_slice() else {
+        return Ok(None);
+    };
+    let begun = trail.last() == Some(LONE) && second.turns_made() == 0;
+    let start = counts_of(&mut trail, first);
+    let alone = hold_as(&mut trail, first, LONE);
+    let after = counts_of(&mut trail, first);
+    let handed = hands_over(&mut trail, first, second);
+    let end = counts_of(&mut trail, first);
+    let made = begun && alone && handed && second.turns_made() == 1;
+    Ok(made.then_some([start, after, end]))
+}
+
+// A turn of the first caller keeps the lock at level 0, and one of the second takes it there.
+fn hands_over(trail: &mut Trail, first: &mut Share, second: &mut Share) -> bool
+    requires first { first.old.name ≡ trail.old.name }
+    requires second { second.old.name ≡ trail.old.name }
+    ensures trail { trail.new.name ≡ trail.old.name }
+    ensures first { first.new.name ≡ first.old.name }
+    ensures second { second.new.name ≡ second.old.name }
+{
+    let kept = Turn {
+        tests: 1,
+        left: 0,
+        ..LONE
+    };
+    let taken = Turn {
+        caller: 1,
+        climb: 0,
+        ..LONE
+    };
+    let keeps = hold_as(trail, first, kept) && trail.run(0) == 1;
+    let takes = hold_as(trail, second, taken) && trail.run(0) == 0;
+    keeps && takes
+}
+
+// A turn of caller 0 behind which nobody is queued, where there are two levels.
+const LONE: Turn = Turn {
+    caller: 0,
+    climb: 1,
+    tests: 0,
+    left: 1,
+};
+
+#[test]
+fn counts_go_on_beyond_32_bits(rt: HostRuntime) {
+    let most = u32::MAX;
+    // The turns before, and at each moment the turns of caller 0 in 64 bits, and what 32 bits show of them.
+    let cases = [
+        (
+            4_294_967_294,
+            [
+                (4_294_967_294, most - 1),
+                (4_294_967_295, most),
+                (4_294_967_296, most),
+            ],
+        ),
+        (
+            4_294_967_301,
+            [
+                (4_294_967_301, most),
+                (4_294_967_302, most),
+                (4_294_967_303, most),
+            ],
+        ),
+    ];
+    for (turns, expected) in cases {
+        let Ok(Some(counts)) = counts_behind(rt.alloc(), turns) else {
+            panic!(rt; "the turns could not be made")
+        };
+        let wanted = expected.map(|(made, shown)| Counts {
+            made,
+            shown,
+            agreed: shown,
+            run: shown,
+        });
+        assert!(rt; counts == wanted);
+    }
+}

@@ -1,5 +1,5 @@
 //! The table that ties a trail and its shares.
-ghost use Rattle.std.specs.Prelude.{◌≡◌, ◌+◌, ◌^◌, ◌<◌, ◌≤◌, [], ◌∷◌, ◌++◌, length, map, sum, IfOk, vec_capacity};
+ghost use Rattle.std.specs.Prelude.{◌≡◌, ◌+◌, ◌^◌, ◌<◌, ◌≤◌, [], ◌∷◌, ◌++◌, length, map, replicate, sum, IfOk, vec_capacity};
 ghost use Rattle.std.specs.List.{enumerate_from};
 ghost use Rattle.keep_local.specs.States.{IsCounted, new_shares};
 ghost use Rattle.keep_local.specs.Views.{first_view, home_view};
@@ -55,22 +55,22 @@ impl Tie {
         Ok((Tie { table, home }, shares))
     }
 
-    /// Counts one more turn of the share's caller.
-    pub(crate) fn append(&mut self, share: &mut Share)
+    /// Counts so many more turns of the share's caller.
+    pub(crate) fn append(&mut self, share: &mut Share, turns: u64)
         requires own { share.old.name ≡ self.old.name }
-        requires left { share.old.made < share.old.quota }
-        ensures tie { self.new ≡ record self.old { callers = self.old.callers ++ share.old.caller ∷ [] } }
-        ensures share { share.new ≡ record share.old { made = share.old.made + 1 } }
+        requires left { share.old.made + turns ≤ share.old.quota }
+        ensures tie { self.new ≡ record self.old { callers = self.old.callers ++ replicate turns share.old.caller } }
+        ensures share { share.new ≡ record share.old { made = share.old.made + turns } }
         ensures told { IsCounted self.old share.old }
-        ensures room { length self.old.callers < sum self.old.quotas }
+        ensures room { length self.old.callers + turns ≤ sum self.old.quotas }
     {
         let badge = mem::replace(&mut share.badge, Badge::blank());
         let table = &self.table;
         let words = &table.shared;
         words.join_seat::<Glue>(&mut self.home, badge.into_seat());
-        words.fetch_add::<Append>(&mut self.home, TURNS, 1);
+        words.fetch_add::<Append>(&mut self.home, TURNS, turns);
         share.badge = words.split_seat::<Cut>(&mut self.home).into_badge();
-        share.made += 1;
+        share.made += turns;
     }
 
     /// Shows that the share's caller has made as many turns as the share says.

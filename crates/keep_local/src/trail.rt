@@ -1,18 +1,19 @@
 //! The record of all holds of a lock.
 ghost use Rattle.std.specs.Prelude.{◌≡◌, ℕ, ◌+◌, ◌-◌, ◌^◌, ◌<◌, ◌≤◌, ◌↔◌, ◌⊎◌, [], ◌∷◌, ◌++◌, length, sum, slice_index};
-ghost use Rattle.std.specs.Prelude.{slice_set, IfOk, IfSome, IsSome, IsTrue, None, Some, cond, max, min, option_map, replicate, true};
-ghost use Rattle.std.specs.Prelude.{vec_capacity, ◌≢◌};
+ghost use Rattle.std.specs.Prelude.{slice_set, IfOk, IfSome, IsSome, IsTrue, None, Some, cond, false, max, min, option_map, replicate};
+ghost use Rattle.std.specs.Prelude.{true, vec_capacity, ◌≢◌};
 ghost use Rattle.keep_local.specs.ReceiptRule.{AreFirst};
 ghost use Rattle.keep_local.specs.Shapes.{IsWellFormed, top_of, callers_of};
 ghost use Rattle.keep_local.specs.Turns.{run, last_turn, Begins};
 ghost use Rattle.keep_local.specs.States.{IsTrail, IsShareOf, MayLeave, all_tests, all_turns, free_quota, free_quotas, left_at};
-ghost use Rattle.keep_local.specs.States.{new_shares, new_trail, opened, option_list, tested, tests_of, unrecorded_trail};
+ghost use Rattle.keep_local.specs.States.{lone_turn, new_shares, new_trail, opened, option_list, shares_behind, tested};
+ghost use Rattle.keep_local.specs.States.{tests_of, trail_behind, unrecorded_trail};
 ghost use Rattle.keep_local.specs.States.{with_test as set_where_queued};
 
 use crate::receipt::Receipt;
 use crate::receipts::Receipts;
 use crate::shape::Shape;
-use crate::share::Share;
+use crate::share::{Share, clamped};
 use crate::tie::Tie;
 use crate::turn::Turn;
 use out_of_memory::OutOfMemory;
@@ -93,6 +94,52 @@ impl Trail {
         Trail::make(alloc, shape, &quotas, false, Vec::new(alloc))
     }
 
+    /// An unrecorded trail whose caller 0 has already made this many turns, each of which climbed to the top and left there with nobody
+    /// queued, and the shares. It is for tests whose counts begin where it would take too long to come by holds.
+    pub fn unrecorded_behind(
+        alloc: Global,
+        shape: Shape,
+        turns: u64,
+    ) -> Result<(Trail, Vec<Share>), OutOfMemory>
+        requires shape { IsWellFormed shape }
+        requires few { callers_of shape < 2 ^ 32 }
+        requires caller { 0 < callers_of shape }
+        requires quota { turns ≤ free_quota (callers_of shape) }
+        ensures trail { IfOk result (λ m. m.0 ≡ trail_behind m.0.name m.0.receipts shape turns) }
+        ensures shares { IfOk result (λ m. m.1.items ≡ shares_behind m.0.name (callers_of shape) turns) }
+        ensures lawful { IfOk result (λ m. IsTrail m.0) }
+    {
+        let (mut trail, mut shares) = Trail::unrecorded(alloc, shape)?;
+        trail.begin_behind(&mut shares[0], turns);
+        Ok((trail, shares))
+    }
+
+    // Gives an unrecorded trail without turns so many that the share's caller made alone.
+    fn begin_behind(&mut self, share: &mut Share, turns: u64)
+        requires unrecorded { self.old.recorded ≡ false }
+        requires none { self.old.closed ≡ [] }
+        requires closed { self.old.current ≡ None }
+        requires own { share.old.name ≡ self.old.name }
+        requires quota { share.old.made + turns ≤ share.old.quota }
+        ensures behind { self.new ≡ record self.old { closed = replicate turns (lone_turn self.old.shape share.old.caller) } }
+        ensures share { share.new ≡ record share.old { made = share.old.made + turns } }
+        ensures lawful { IsTrail self.new }
+    {
+        let log = &mut *self.log;
+        log.tie.append(share, turns);
+        let top = log.shape.top();
+        let caller = share.caller();
+        let turn = Turn {
+            caller,
+            climb: top,
+            tests: 0,
+            left: top,
+        };
+        log.receipts.record(turn, turns);
+        log.last = last_of(turn, turns);
+        log.runs[top as usize] = clamped(turns);
+    }
+
     // A trail without turns. A recorded one takes a list that has room for every turn.
     fn make(
         alloc: Global,
@@ -142,7 +189,7 @@ impl Trail {
         ensures lawful { IsTrail self.new }
     {
         let log = &mut *self.log;
-        log.tie.append(share);
+        log.tie.append(share, 1);
         let turn = Turn {
             caller: share.caller(),
             climb,
@@ -194,7 +241,7 @@ impl Trail {
             left: level,
             ..turn
         };
-        log.receipts.record(turn);
+        log.receipts.record(turn, 1);
         write_last(&mut log.turns, turn);
         log.current = None;
         log.last = Some(turn);
@@ -341,6 +388,13 @@ fn equal_part(callers: usize) -> u64
     } else {
         u64::MAX / callers as u64
     }
+}
+
+// The last of so many turns like this one.
+fn last_of(turn: Turn, turns: u64) -> Option<Turn>
+    ensures { result ≡ last_turn (replicate turns turn) }
+{
+    if turns == 0 { None } else { Some(turn) }
 }
 
 // Adds a turn where the trail is recorded.

@@ -1,4 +1,4 @@
-use Rattle.std.proofs.Common.{◌<◌, [], refl, ap, sym, ◌∙◌, rules}
+use Rattle.std.proofs.Common.{◌+◌, ◌≤◌, [], refl, ap, sym, ◌∙◌, rules}
 use Rattle.keep_local.specs.declared.view.Tally.{Tally}
 use Rattle.keep_local.proofs.Tied.{splits, joins, appends}
 use Rattle.keep_local.proofs.Seated.{view_is, at_table, joined_is, tally_is}
@@ -19,10 +19,10 @@ fetch_add-requires c =
     let t : Tally = record { caller = c.share.inside.caller; made = c.share.inside.made; quota = c.share.inside.quota } in
     let view = view_is _ _ _ _ c.replace-badge.ensures.value c.share.invariant.seated c.into_seat.ensures.2 in
     let me = joined_is c.self.inside.home.me c.join_seat.new.seat.me _ _ _ t c.join_seat.ensures.2 c.self.invariant.seated view in
-    let room : t.made < t.quota = search rules in (
+    let room : t.made + c.args.turns ≤ t.quota = search rules in (
       c.join_seat.ensures.0 ∙ c.self.invariant.own,
       search rules,
-      appends _ _ _ _ t [] (ap (λ m. m.0.home) me) (ap (λ m. m.0.tallies) me) room,
+      appends _ _ _ _ _ t [] (ap (λ m. m.0.home) me) (ap (λ m. m.0.tallies) me) room,
     )
 
 pub split_seat-requires : goal.split_seat-requires
