@@ -1,6 +1,6 @@
 -- Turns of one caller alone, each of which climbed to the top and left there.
 use Rattle.std.proofs.Common.{◌≡◌, ◌≢◌, ℕ, zero, suc, ◌+◌, ◌-◌, ◌^◌, ◌<◌, ◌≤◌, false, true, cond, List, [], ◌∷◌, ◌++◌, length, get_or, set, slice_index}
-use Rattle.std.proofs.Common.{refl, ap, sym, ◌∙◌, subst, arith, add-one, length-append, Option, Some, None}
+use Rattle.std.proofs.Common.{refl, ap, sym, ◌∙◌, subst, arith, add-one, Option, Some, None}
 use Rattle.std.specs.Prelude.{All, IfSome, min, sum, replicate}
 use Rattle.std.specs.Option.{option_map_or}
 use Rattle.std.proofs.lemmas.List.{append-nil, length-replicate, replicate_more, length-set, get_or-set_same, get_or-set_other}
@@ -17,9 +17,9 @@ use Rattle.keep_local.specs.Turns.{run, last_turn, climb_after, AreUnderOneNode,
 use Rattle.keep_local.specs.States.{TrailState, NotesState, ShareState, TieState, IsCounted, IsTrail, option_list, all_turns, callers_in}
 use Rattle.keep_local.specs.States.{free_quota, free_quotas, lone_turn, new_share, new_shares, shares_behind, trail_behind}
 use Rattle.keep_local.specs.States.{unrecorded_trail}
-use Rattle.keep_local.specs.Trails.{log_state, IsKept}
+use Rattle.keep_local.specs.Trails.{log_state}
 use Rattle.keep_local.proofs.Runs.{run_none, run_same, run_lower, run_higher, lawful_push}
-use Rattle.keep_local.proofs.Logs.{last_push, length-callers}
+use Rattle.keep_local.proofs.Logs.{last_push}
 use Rattle.keep_local.proofs.Steps.{HasState}
 
 -- one more turn stands last
@@ -165,8 +165,11 @@ first_share name (suc n) d some = refl
 pub trail_is : (s t : TrailState) (shape : Shape) (caller n : ℕ) → s ≡ unrecorded_trail s.name s.receipts shape → caller ≡ 0
     → t ≡ record s { closed = replicate n (lone_turn s.shape caller) } → t ≡ trail_behind t.name t.receipts shape n
 trail_is s t shape caller n new first behind =
-    let names : (s.name, s.receipts) ≡ (t.name, t.receipts) = λ i. (sym (ap (λ (x : TrailState). x.name) behind) i, sym
-    (ap (λ (x : TrailState). x.receipts) behind) i) in
+    let names : (s.name, s.receipts) ≡ (t.name, t.receipts) = λ i. (
+      sym (ap (λ (x : TrailState). x.name) behind) i,
+      sym
+          (ap (λ (x : TrailState). x.receipts) behind) i,
+    ) in
     behind ∙ (λ i. record (new i) { closed = replicate n (lone_turn (new i).shape (first i)) })
     ∙ ap (λ (x : TableId × TableId). trail_behind x.0 x.1 shape n) names
 

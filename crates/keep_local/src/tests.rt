@@ -532,15 +532,15 @@ fn counts_behind(alloc: Global, turns: u64) -> Result<Option<[Counts; 3]>, OutOf
         return Ok(None);
     }
     let (mut trail, mut shares) = Trail::unrecorded_behind(alloc, shape, turns)?;
-    let [first, second] = shares.as_mut_slice() else {
+    let (Some(mut second), Some(mut first)) = (shares.pop(), shares.pop()) else {
         return Ok(None);
     };
     let begun = trail.last() == Some(LONE) && second.turns_made() == 0;
-    let start = counts_of(&mut trail, first);
-    let alone = hold_as(&mut trail, first, LONE);
-    let after = counts_of(&mut trail, first);
-    let handed = hands_over(&mut trail, first, second);
-    let end = counts_of(&mut trail, first);
+    let start = counts_of(&mut trail, &mut first);
+    let alone = hold_as(&mut trail, &mut first, LONE);
+    let after = counts_of(&mut trail, &mut first);
+    let handed = hands_over(&mut trail, &mut first, &mut second);
+    let end = counts_of(&mut trail, &mut first);
     let made = begun && alone && handed && second.turns_made() == 1;
     Ok(made.then_some([start, after, end]))
 }
