@@ -1,5 +1,5 @@
 #!/usr/bin/env python3
-"""Asks memcached what it answers to the sections of crates/kv_history/src/tests.rt, over loopback.
+"""Asks memcached what it answers to the sections of crates/history_trials/src/tests.rt, over loopback.
 
 Run from anywhere: bench/memcached_store.py   (Debian's package memcached 1.6.18; it is no part of the gate)
 Each section is asked of a server of its own, so that uniques begin at 1. It prints each section that memcached answers
@@ -10,7 +10,7 @@ import re
 
 from memcached_server import LITERAL, ask, bytes_of, compare, server
 
-TESTS = pathlib.Path(__file__).parent.parent / "crates/kv_history/src/tests.rt"
+TESTS = pathlib.Path(__file__).parent.parent / "crates/history_trials/src/tests.rt"
 
 
 def sections():
