@@ -1,5 +1,6 @@
 -- Turns of one caller alone, each of which climbed to the top and left there.
-use Rattle.std.proofs.Common.{◌≡◌, ◌≢◌, ℕ, zero, suc, ◌+◌, ◌-◌, ◌^◌, ◌<◌, ◌≤◌, false, true, cond, List, [], ◌∷◌, ◌++◌, length, get_or, set, slice_index}
+use Rattle.std.proofs.Common.{◌≡◌, ◌≢◌, ℕ, zero, suc, ◌+◌, ◌-◌, ◌^◌, ◌<◌, ◌≤◌, false, true, cond, List, [], ◌∷◌, ◌++◌, length}
+use Rattle.std.proofs.Common.{get_or, set, slice_index}
 use Rattle.std.proofs.Common.{refl, ap, sym, ◌∙◌, subst, arith, add-one, Option, Some, None}
 use Rattle.std.specs.Prelude.{All, IfSome, min, sum, replicate}
 use Rattle.std.specs.Option.{option_map_or}
@@ -103,8 +104,8 @@ trail_begun s caller n is free known room =
 abbrev pub with_lone : Log → TieState → NotesState → Option Turn → List ℕ → Log
 with_lone l tie given last runs = record l { tie = tie; receipts = given; last = last; runs = runs }
 
-pub lone_begun : (l : Log) (s : TrailState) (share : ShareState) (n : ℕ) (tie : TieState) (given : NotesState) (last : Option Turn) (t : Turn)
-    (runs : List ℕ) → HasState l s → s.recorded ≡ false → s.closed ≡ [] → s.current ≡ None → IsCounted l.tie share
+pub lone_begun : (l : Log) (s : TrailState) (share : ShareState) (n : ℕ) (tie : TieState) (given : NotesState) (last : Option Turn)
+    (t : Turn) (runs : List ℕ) → HasState l s → s.recorded ≡ false → s.closed ≡ [] → s.current ≡ None → IsCounted l.tie share
     → length l.tie.callers + n ≤ sum l.tie.quotas → tie ≡ record l.tie { callers = l.tie.callers ++ replicate n share.caller }
     → t ≡ lone_turn l.shape share.caller → given ≡ record l.receipts { turns = l.receipts.turns ++ replicate n t }
     → last ≡ last_turn (replicate n t) → runs ≡ set l.runs (top_of l.shape) (min n (2 ^ 32 - 1))
@@ -130,8 +131,8 @@ lone_begun l s share n tie given last t runs has unrecorded none free told room 
     let trail : IsTrail (record z { closed = replicate n u }) =
     trail_begun z share.caller n kept.trail free' (omega (arith, known, quotas)) (omega (arith, room)) in
     let all : all_turns z ≡ [] = λ i. none' i ++ option_list (free' i) in
-    let all' : all_turns (log_state l') ≡ replicate n u = ap (λ (o : Option Turn). given.turns ++ option_list o) free' ∙ append-nil given.turns
-    ∙ turns in
+    let all' : all_turns (log_state l') ≡ replicate n u = ap (λ (o : Option Turn). given.turns ++ option_list o) free'
+    ∙ append-nil given.turns ∙ turns in
     let levels = kept.trail.shaped.levels in
     let counters = kept.counters in record {
       kept = record {
