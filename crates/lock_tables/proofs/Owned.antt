@@ -1,5 +1,5 @@
 -- The seats of a lock's own tokens, and those after its steps.
-use Rattle.std.proofs.Common.{◌≡◌, ℕ, ◌<◌, ◌≤◌, ◌^◌, ap, sym, ◌∙◌, arith}
+use Rattle.std.proofs.Common.{◌≡◌, ◌≤◌, ap, sym, ◌∙◌}
 use Rattle.atomic_table.specs.Seated.{TableId}
 use Rattle.atomic_table.specs.declared.shared.Seat.{Seat}
 use Rattle.lock_rules.specs.Passes.{IsOf}
@@ -7,19 +7,11 @@ use Rattle.lock_rules.specs.Rows.{row_of, IsRowOf}
 use Rattle.lock_rules.specs.Tag.{Tag}
 use Rattle.lock_rules.specs.Views.{IsPlain, lock_name, place_of}
 use Rattle.lock_rules.specs.declared.view.Algorithm.{Algorithm}
-use Rattle.lock_rules.specs.declared.view.Algorithm.TheVariants.{Ticket, Mcs, Clh, Hemlock}
 use Rattle.lock_rules.specs.declared.view.Opening.{Opening}
 use Rattle.lock_rules.specs.declared.view.View.{View}
 use Rattle.lock_rules.proofs.Names.{own_table, own_algorithm, own_waiters}
 use Rattle.lock_tables.specs.KeptKinds.{IsSame}
 use Rattle.lock_tables.specs.Seats.{IsSeatOf, longest_row}
-
--- how long a row may be
-pub few_words : (a : Algorithm) (n : ℕ) → n < 2 ^ 32 → row_of a n ≤ longest_row
-few_words Ticket n h = omega arith
-few_words Mcs n h = omega arith
-few_words Clh n h = omega arith
-few_words Hemlock n h = omega arith
 
 module _ {S V : Type 0} (a : Algorithm) (z : TableId) (key : Opening V) where
   -- the seat of a token of the lock

@@ -1,5 +1,4 @@
-use Rattle.std.proofs.Common.{ap, refl}
-use Rattle.lock_rules.specs.Holders.{held_view}
+use Rattle.std.proofs.Common.{ap}
 use Rattle.lock_rules.specs.Tokens.{view_of}
 use Rattle.lock_tables.proofs.Owned.{own_from}
 use Rattle.lock_tables.proofs.lock_words.LockWords.queue_parts.Goals as goal
