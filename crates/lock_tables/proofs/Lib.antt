@@ -8,3 +8,5 @@ pub mod Steps
 pub mod Waiting
 pub mod Implied
 pub mod Seats
+pub mod Makes
+pub mod Owned

@@ -6,3 +6,6 @@ pub mod Happened
 pub mod Laws
 pub mod Seats
 pub mod Counting
+pub mod Kinds
+pub mod KeptKinds
+pub mod Words

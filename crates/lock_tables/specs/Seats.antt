@@ -1,5 +1,5 @@
 -- A seat of a lock's table.
-use Rattle.std.specs.Prelude.{◌≡◌, ℕ, List}
+use Rattle.std.specs.Prelude.{◌≡◌, ℕ, ◌+◌, ◌*◌, ◌^◌, ◌≤◌, false, List}
 use Rattle.atomic_table.specs.Seated.{TableId}
 use Rattle.atomic_table.specs.declared.shared.Seat.{Seat}
 use Rattle.lock_rules.specs.Meanings.{Place}
@@ -9,6 +9,7 @@ use Rattle.lock_rules.specs.Tag.{Tag}
 use Rattle.lock_rules.specs.Views.{lock_name}
 use Rattle.lock_rules.specs.declared.view.Algorithm.{Algorithm}
 use Rattle.lock_rules.specs.declared.view.Opening.{Opening}
+use Rattle.lock_rules.specs.declared.view.View.{View}
 
 -- the table of a lock with this algorithm and n passes: its row of words, and one slot
 pub record IsSized (a : Algorithm) (n : ℕ) (z : TableId) : Type 0 where
@@ -23,3 +24,16 @@ module _ {V : Type 0} where
   -- a place in the lock with this algorithm, table and key
   abbrev pub IsOwn : (V → Tag) → Algorithm → TableId → Opening V → Place → Type 0
   IsOwn tag_of a z key place = IsOf (lock_name a key.waiters z) (tag_of key.value.value) place
+
+-- no row of a lock is longer, since it has less than 2 ^ 32 passes
+abbrev pub longest_row : ℕ
+longest_row = 16 * (2 ^ 32 + 2)
+
+-- a seat of the table z, of the lock with this algorithm and key
+pub record IsSeatOf {S V : Type 0} (a : Algorithm) (z : TableId) (key : Opening V) (s : Seat S View) : Type 0 where
+  pub table : s.table_id ≡ z
+  pub unspent : s.me.0.spent ≡ false
+  pub algorithm : s.me.0.algorithm ≡ a
+  pub chosen : s.me.0.waiters ≡ key.waiters
+  pub row : z.words ≡ row_of a s.me.0.count
+  pub few : z.words ≤ longest_row

@@ -1,11 +1,10 @@
 //! The steps by which a lock counts its waiters. A lock that doesn't count makes none of them.
-ghost use Rattle.std.specs.Prelude.{◌≡◌, true, false};
+ghost use Rattle.std.specs.Prelude.{◌≡◌, ◌<◌, true, false};
 ghost use Rattle.lock_rules.specs.Rows.{waiting};
 ghost use Rattle.lock_rules.specs.Views.{is_counted};
 ghost use Rattle.lock_rules.specs.declared.view.Phase.TheVariants.{Idle, Holding};
 ghost use Rattle.lock_tables.specs.Counting.{is_announced, Announced, Withdrawn, Counted, HasAnnounced, HasWithdrawn};
 ghost use Rattle.lock_tables.specs.Happened.{announced_view, withdrawn_view};
-ghost use Rattle.lock_tables.specs.Seats.{IsSized};
 
 use crate::rule::Disciplined;
 use crate::table::Words;
@@ -42,7 +41,7 @@ pub fn announce<V: Cargo, D: Disciplined>(
     waiters: Waiters,
     seat: &mut Seat<Option<V>, View>,
 )
-    requires size { IsSized D.discipline.algorithm words.now.key.passes words.now.table_id }
+    requires lined { 0 < words.now.table_id.words }
     requires key { words.now.key.waiters ≡ waiters }
     requires table { seat.old.table_id ≡ words.now.table_id }
     requires chosen { seat.old.me.0.waiters ≡ waiters }
@@ -60,7 +59,7 @@ pub fn announce<V: Cargo, D: Disciplined>(
 }
 
 fn add_waiting<V: Cargo, D: Disciplined>(words: &Words<V, D>, seat: &mut Seat<Option<V>, View>)
-    requires size { IsSized D.discipline.algorithm words.now.key.passes words.now.table_id }
+    requires lined { 0 < words.now.table_id.words }
     requires key { is_counted words.now.key.waiters ≡ true }
     requires table { seat.old.table_id ≡ words.now.table_id }
     requires chosen { is_counted seat.old.me.0.waiters ≡ true }
@@ -80,7 +79,7 @@ pub fn withdraw<V: Cargo, D: Disciplined>(
     waiters: Waiters,
     seat: &mut Seat<Option<V>, View>,
 )
-    requires size { IsSized D.discipline.algorithm words.now.key.passes words.now.table_id }
+    requires lined { 0 < words.now.table_id.words }
     requires key { words.now.key.waiters ≡ waiters }
     requires table { seat.old.table_id ≡ words.now.table_id }
     requires chosen { seat.old.me.0.waiters ≡ waiters }
@@ -98,7 +97,7 @@ pub fn withdraw<V: Cargo, D: Disciplined>(
 }
 
 fn subtract_waiting<V: Cargo, D: Disciplined>(words: &Words<V, D>, seat: &mut Seat<Option<V>, View>)
-    requires size { IsSized D.discipline.algorithm words.now.key.passes words.now.table_id }
+    requires lined { 0 < words.now.table_id.words }
     requires key { is_counted words.now.key.waiters ≡ true }
     requires table { seat.old.table_id ≡ words.now.table_id }
     requires holds { seat.old.me.0.phase ≡ Holding }
@@ -116,7 +115,7 @@ pub fn count_waiting<V: Cargo, D: Disciplined>(
     words: &Words<V, D>,
     seat: &mut Seat<Option<V>, View>,
 ) -> u64
-    requires size { IsSized D.discipline.algorithm words.now.key.passes words.now.table_id }
+    requires lined { 0 < words.now.table_id.words }
     requires table { seat.old.table_id ≡ words.now.table_id }
     requires holds { seat.old.me.0.phase ≡ Holding }
     requires unspent { seat.old.me.0.spent ≡ false }

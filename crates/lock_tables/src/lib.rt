@@ -3,13 +3,19 @@
 
 mod counting;
 mod cuts;
+mod kinds;
+mod lock_words;
+mod play;
 mod rule;
 mod ruled;
 mod slot;
 mod table;
+mod words;
 
 pub use counting::{AddWaiting, LoadWaiting, SubtractWaiting, announce, count_waiting, withdraw};
 pub use cuts::{Cut, Glue};
+pub use kinds::{Finding, KindOf, Storing};
+pub use lock_words::LockWords;
 pub use rule::{Disciplined, QueueRule, rule_is_basic};
 pub use ruled::Ruled;
 pub use slot::{put, take};

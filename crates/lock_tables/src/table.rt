@@ -99,7 +99,7 @@ pub fn join_passes<V: Cargo, D: Disciplined>(
     words: &Words<V, D>,
     mut passes: Vec<Pass>,
 ) -> Seat<Option<V>, View>
-    requires size { IsSized D.discipline.algorithm words.now.key.passes words.now.table_id }
+    requires lined { 0 < words.now.table_id.words }
     requires some { 0 < words.now.key.passes }
     requires all { AreAll (λ p. badge_place p.badge) (lock_name D.discipline.algorithm words.now.key.waiters words.now.table_id)
         (V.tag words.now.key.value.value) words.now.key.passes passes.items }
@@ -126,7 +126,7 @@ pub fn into_value<V: Cargo, D: Disciplined>(
     seat: Seat<Option<V>, View>,
 ) -> V
     requires table { seat.table_id ≡ table.shared.table_id }
-    requires size { IsSized D.discipline.algorithm table.shared.key.passes table.shared.table_id }
+    requires one_slot { table.shared.table_id.slots ≡ 1 }
     requires idle { seat.me.0.phase ≡ Idle }
     requires silent { seat.me.0.announced ≡ false }
     requires all { passes_of seat.me.0 ≡ table.shared.key.passes }

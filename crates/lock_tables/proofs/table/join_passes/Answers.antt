@@ -28,12 +28,11 @@ join_seat-requires g c =
     c.loop-pass.invariant.listed in
     let parts = c.into_parts-other.ensures in
     let view = ap (λ m. m.0) parts.view in
-    let plain : IsPlain c.into_parts-other.result.0.me.0 = subst IsPlain (sym view) c.in-Some-pop.pass.idle.plain in
-    let words = c.requires.size.row in (
+    let plain : IsPlain c.into_parts-other.result.0.me.0 = subst IsPlain (sym view) c.in-Some-pop.pass.idle.plain in (
       c.loop-pass.invariant.table,
       parts.table ∙ (lock_name-tells _ _ _ _ _ _ (ap (λ p. p.lock) out.1)).2,
       ap (λ m. m.1) parts.view,
-      omega (arith, words),
+      c.requires.lined,
       joins g.V.Cargo.fit g.V.Cargo.tag g.V.Cargo.parked _ c.is_disciplined.ensures _ _ _ _ _ _ _ c.loop-pass.invariant.unspent
           (ap (λ v. v.phase) view ∙ c.in-Some-pop.pass.idle.stands) plain (silent_view _ _ view c.in-Some-pop.pass.idle),
     )
