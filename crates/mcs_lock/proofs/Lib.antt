@@ -3,5 +3,5 @@ pub mod Core
 pub mod Queue
 pub mod Links
 pub mod Words
+pub mod Tokens
 pub mod Kept
-pub mod Own
