@@ -20,78 +20,71 @@ use Rattle.mcs_lock.specs.Kinds.{cleared_view, raised_view, linked_view, looked_
 use Rattle.mcs_lock.specs.Kinds.{fetch_and_store_tail, store_predecessor_next, load_locked, load_tail, load_next, store_successor_locked}
 use Rattle.mcs_lock.specs.Kinds.{compare_and_swap_tail}
 use Rattle.mcs_lock.specs.Rule.{tail, next, locked, name, pass_named, IsPlaced, NamesBehind, IsLinked, mcs_discipline}
-use Rattle.mcs_lock.proofs.Places.{tail_waiting, next_waiting, locked_waiting, none_left, no_seats, KeepsLinks, live_at, below_at}
-use Rattle.mcs_lock.proofs.Places.{placed_at}
-use Rattle.mcs_lock.proofs.Links.{core_clears, core_raises, core_enters, core_takes, core_links, core_loads, core_passes, core_ends}
-use Rattle.mcs_lock.proofs.Links.{alone_is, names_alone}
-
--- no event, by a pass that doesn't hold and stays in its phase
-waiting_still : (s : Moment mcs_discipline) (word now : ℕ) (w : View) → w.phase ≡ s.view.phase → is_holder true s.view.phase ≡ false
-    → CoreAfter mcs_discipline s word now w s.seats → MakesEvent mcs_discipline s word now w no_event
-waiting_still s word now w same free core =
-    let idle : is_holder true w.phase ≡ false = ap (is_holder true) same ∙ free in record {
-      calm = inl same;
-      busy = ap (is_busy true) same;
-      holds = ap (is_holder true) same;
-      tested = λ h _. absurd (no_true (sym h ∙ idle));
-      followed = λ h _. absurd (no_true (sym h ∙ idle));
-      core = core;
-    }
+use Rattle.mcs_lock.proofs.Places.{none_left, no_seats, live_at, below_at, placed_at}
+use Rattle.mcs_lock.proofs.Links.{core_clears, core_raises, core_enters, core_takes, core_links, core_loads, core_passes, core_ends, alone_is}
 
 module _ (s : Moment mcs_discipline) where
+  -- no event, by a pass that doesn't hold and stays in its phase
+  waiting_still : (word now : ℕ) (w : View) → w.phase ≡ s.view.phase → is_holder true s.view.phase ≡ false
+      → CoreAfter mcs_discipline s word now w s.seats → MakesEvent mcs_discipline s word now w no_event
+  waiting_still word now w same free core =
+      let idle : is_holder true w.phase ≡ false = ap (is_holder true) same ∙ free in record {
+        calm = inl same;
+        busy = ap (is_busy true) same;
+        holds = ap (is_holder true) same;
+        tested = λ h _. absurd (no_true (sym h ∙ idle));
+        followed = λ h _. absurd (no_true (sym h ∙ idle));
+        core = core;
+      }
+
   -- the links after a load by a pass in the queue
-  loaded : (word : ℕ) (w : View) → KeepsLinks s.view w → is_busy true s.view.phase ≡ true
-      → (w.unlinked ≡ true → s.view.unlinked ≡ true) → (w.raised ≡ true → s.view.raised ≡ true)
+  loaded : (word : ℕ) (w : View) → (w.number ≡ s.view.number) × (w.predecessor ≡ s.view.predecessor) × (w.linked ≡ s.view.linked)
+      × (w.unlinked ≡ s.view.unlinked) × (w.raised ≡ s.view.raised) → (w.phase ≡ Queued → s.view.phase ≡ Queued)
+      → is_busy true s.view.phase ≡ true
       → ((i : ℕ) → IsPlaced s.seats s.views i s.view → w.successor ≢ 0 → NamesBehind s.seats s.views i w.successor)
       → CoreAfter mcs_discipline s word (slice_index s.words word) w s.seats
-  loaded word w keeps busy a b own =
+  loaded word w same queued busy own =
       loaded_core (λ words. IsLinked s.passes words s.seats (set s.views s.seat w)) s.words word
-      (core_loads s.passes s.tag s.words s.seats s.views s.queued s.seat s.view w s.at s.live keeps busy a b own)
+      (core_loads s.queued s.seat s.at s.live w
+      (record { number = same.0; predecessor = same.1; linked = λ e. same.2 ∙ e; queued = queued }) busy same.3 same.4 own)
 
   -- a word that is none, or names a pass of the lock
-  behind_within : (i x : ℕ) → NamesBehind s.seats s.views i x → x ≤ s.passes
+  behind_within : (i x : ℕ) → NamesBehind s.seats s.views i x → x ≤ s.view.count
   behind_within i x b =
-      let l = below_at s.passes s.tag s.words s.seats s.views s.queued b.placed.seat b.view b.placed.at
-      (live_at s.passes s.tag s.words s.seats s.views s.queued (suc i) b.view b.placed) in
-      let e = b.named in omega (arith, l, e)
+      let l = below_at s.queued b.placed.seat b.view b.placed.at (live_at s.queued (suc i) b.view b.placed) in
+      let e = b.named in let c = (s.queued.each_seat s.seat s.view s.at).counted s.live in omega (arith, l, e, c)
 
-  tail_within : slice_index s.words tail ≤ s.passes
-  tail_within = elim (length s.seats) as (λ x. length s.seats ≡ x → slice_index s.words tail ≤ s.passes) [
+  tail_within : slice_index s.words tail ≤ s.view.count
+  tail_within = elim (length s.seats) as (λ x. length s.seats ≡ x → slice_index s.words tail ≤ s.view.count) [
     | zero ↦ λ e. let z = s.queued.core.empty e in omega (arith, z)
     | suc m ↦ λ e.
-        let u = placed_at s.passes s.tag s.words s.seats s.views s.queued m (omega (arith, e)) in
-        let l = below_at s.passes s.tag s.words s.seats s.views s.queued u.1.seat u.0 u.1.at
-        (live_at s.passes s.tag s.words s.seats s.views s.queued m u.0 u.1) in
-        let z = s.queued.core.last m u.0 u.1 e in omega (arith, l, z)
+        let u = placed_at s.queued m (omega (arith, e)) in
+        let l = below_at s.queued u.1.seat u.0 u.1.at (live_at s.queued m u.0 u.1) in
+        let z = s.queued.core.last m u.0 u.1 e in
+        let c = (s.queued.each_seat s.seat s.view s.at).counted s.live in omega (arith, l, z, c)
   ] refl
 
   -- a holder has the first place
   first : is_holder true s.view.phase ≡ true → get_elem? s.seats 0 ≡ some s.seat
   first held = (s.queued.each_seat s.seat s.view s.at).first held
 
-  next_within : is_holder true s.view.phase ≡ true → slice_index s.words (next s.view.number) ≤ s.passes
-  next_within held = dite (ℕ_discrete (slice_index s.words (next s.view.number)) 0)
-      (λ e. omega (arith, e))
-      (λ ne. behind_within 0 (slice_index s.words (next s.view.number))
-      (s.queued.core.links 0 s.view (record { seat = s.seat; place = first held; at = s.at }) ne))
-
-  counted : (x : ℕ) → x ≤ s.passes → x ≤ s.view.count
-  counted x h = let c = (s.queued.each_seat s.seat s.view s.at).counted s.live in omega (arith, c, h)
+  next_within : is_holder true s.view.phase ≡ true → slice_index s.words (next s.view.number) ≤ s.view.count
+  next_within held = let x : ℕ = slice_index s.words (next s.view.number) in dite (ℕ_discrete x 0)
+      (λ e. omega (arith, e)) (λ ne. behind_within 0 x (s.queued.core.links 0 s.view (record { seat = s.seat; place = first held; at = s.at }) ne))
 
   -- a pass whose `locked` is 0 is the first
   first_at : (i : ℕ) → get_elem? s.seats i ≡ some s.seat → slice_index s.words (locked s.view.number) ≡ 0
       → get_elem? s.seats 0 ≡ some s.seat
   first_at zero p e = p
   first_at (suc i) p e =
-      let u = placed_at s.passes s.tag s.words s.seats s.views s.queued i (let b = at_below s.seats (suc i) s.seat p in omega arith) in
+      let u = placed_at s.queued i (let b = at_below s.seats (suc i) s.seat p in omega arith) in
       let b = (s.queued.core.behind i u.0 s.view u.1 (record { seat = s.seat; place = p; at = s.at })).waits in
       absurd (omega (arith, b, e))
 
   -- where `tail` names another than the holder, another pass is queued
   others_behind : is_holder true s.view.phase ≡ true → slice_index s.words tail ≢ name s.view.number → 1 < length s.seats
   others_behind held other = dite (ℕ_discrete (length s.seats) 1)
-      (λ one. absurd
-      (other (names_alone s.passes s.tag s.words s.seats s.views s.queued s.seat s.view s.at s.live (first held) one)))
+      (λ one. absurd (other (s.queued.core.last 0 s.view (record { seat = s.seat; place = first held; at = s.at }) one)))
       (λ ne. let b = at_below s.seats 0 s.seat (first held) in omega arith)
 
 said_yes : (v : View) (found : ℕ) → answer_of (others_wait v found) ≡ Yes → found ≢ name v.number
@@ -103,10 +96,10 @@ pub clears : IsKept mcs_discipline store_next
 clears = record {
   noted = λ v found. record { same = refl; steps = refl; entered = refl; read = (refl, refl, refl) };
   keeps = λ s asks low. record {
-    apart = next_waiting s.view.number;
+    apart = λ e. omega arith;
     told = tt;
     kept = waiting_still s (next s.view.number) 0 (cleared_view s.view) refl (ap (is_holder true) asks)
-        (core_clears s.passes s.tag s.words s.seats s.views s.queued s.seat s.view s.at s.live asks);
+        (core_clears s.queued s.seat s.at s.live asks);
   };
 }
 
@@ -114,10 +107,10 @@ pub raises : IsKept mcs_discipline store_locked
 raises = record {
   noted = λ v found. record { same = refl; steps = refl; entered = refl; read = (refl, refl, refl) };
   keeps = λ s asks low. record {
-    apart = locked_waiting s.view.number;
+    apart = λ e. omega arith;
     told = tt;
     kept = waiting_still s (locked s.view.number) 1 (raised_view s.view) refl (ap (is_holder true) asks)
-        (core_raises s.passes s.tag s.words s.seats s.views s.queued s.seat s.view s.at s.live asks);
+        (core_raises s.queued s.seat s.at s.live asks);
   };
 }
 
@@ -125,30 +118,25 @@ pub swaps : IsKept mcs_discipline fetch_and_store_tail
 swaps = record {
   noted = λ v found. (
     record { same = refl; steps = refl; entered = refl; read = (refl, refl) },
-    record {
-      same = refl;
-      steps = refl;
-      entered = refl;
-      read = (refl, refl, refl);
-    },
+    record { same = refl; steps = refl; entered = refl; read = (refl, refl, refl) },
   );
   keeps = λ s asks low. record {
-    apart = tail_waiting;
-    told = counted s (slice_index s.words tail) (tail_within s);
+    apart = λ e. omega arith;
+    told = tail_within s;
     kept = (
       λ e. record {
         idle = asks.0;
-        empty = no_seats s.passes s.tag s.words s.seats s.views s.queued e;
+        empty = no_seats s.queued e;
         held = refl;
         untested = refl;
         alone = refl;
-        core = core_takes s.passes s.tag s.words s.seats s.views s.queued s.seat s.view s.at s.live asks.2;
+        core = core_takes s.queued s.seat s.at s.live asks.2;
       },
       λ ne. record {
         idle = asks.0;
         queued = refl;
         announced = asks.1;
-        core = core_enters s.passes s.tag s.words s.seats s.views s.queued s.seat s.view s.at s.live asks.0 asks.2 asks.3 ne;
+        core = core_enters s.queued s.seat s.at s.live asks.0 asks.2 asks.3 ne;
       },
     );
   };
@@ -157,11 +145,11 @@ swaps = record {
 pub links : IsKept mcs_discipline store_predecessor_next
 links = record {
   noted = λ v found. record { same = refl; steps = refl; entered = refl; read = (refl, refl, refl) };
-  keeps = λ s asks low. let x : ℕ = pass_named s.view.predecessor in record {
-    apart = next_waiting x;
+  keeps = λ s asks low. record {
+    apart = λ e. omega arith;
     told = tt;
-    kept = waiting_still s (next x) (name s.view.number) (linked_view s.view) refl (ap (is_holder true) asks.0)
-        (core_links s.passes s.tag s.words s.seats s.views s.queued s.seat s.view s.at s.live x asks.0 asks.1 refl);
+    kept = waiting_still s (next (pass_named s.view.predecessor)) (name s.view.number) (linked_view s.view) refl
+        (ap (is_holder true) asks.0) (core_links s.queued s.seat s.at s.live asks.0 asks.1);
   };
 }
 
@@ -169,18 +157,13 @@ pub polls : IsKept mcs_discipline load_locked
 polls = record {
   noted = λ v found. (
     record { same = refl; steps = refl; entered = refl; read = refl },
-    record {
-      same = refl;
-      steps = refl;
-      entered = refl;
-      read = refl;
-    },
+    record { same = refl; steps = refl; entered = refl; read = refl },
   );
   keeps = λ s asks low.
       let word : ℕ = locked s.view.number in
       let busy : is_busy true s.view.phase ≡ true = ap (is_busy true) asks in
       let p = (s.queued.each_seat s.seat s.view s.at).placed busy in record {
-        apart = locked_waiting s.view.number;
+        apart = λ e. omega arith;
         told = tt;
         kept = (
           λ e. record {
@@ -190,13 +173,10 @@ polls = record {
             held = refl;
             untested = refl;
             alone = refl;
-            core = loaded s word (took_view s.view)
-                (record { number = refl; predecessor = refl; linked = λ e'. e'; queued = λ _. asks }) busy (λ e'. e') (λ e'. e')
-                (λ i p' ne. s.queued.core.noted i s.view p' ne);
+            core = loaded s word (took_view s.view) (refl, refl, refl, refl, refl) (λ _. asks) busy (λ i. s.queued.core.noted i s.view);
           },
           λ ne. waiting_still s word (slice_index s.words word) (missed_view s.view) refl (ap (is_holder true) asks)
-              (loaded s word (missed_view s.view) (record { number = refl; predecessor = refl; linked = λ e'. e'; queued = λ e'. e' }) busy
-              (λ e'. e') (λ e'. e') (λ i p' ne'. s.queued.core.noted i s.view p' ne')),
+              (loaded s word (missed_view s.view) (refl, refl, refl, refl, refl) (λ e. e) busy (λ i. s.queued.core.noted i s.view)),
         );
       };
 }
@@ -206,8 +186,8 @@ waits = record {
   noted = λ v found. record { same = refl; steps = refl; entered = refl; read = refl };
   keeps = λ s asks low.
       let found : ℕ = slice_index s.words tail in
-      let held : is_holder true s.view.phase ≡ true = ap (is_holder true) asks.0 in record {
-        apart = tail_waiting;
+      let busy = held_busy true s.view.phase (ap (is_holder true) asks.0) in record {
+        apart = λ e. omega arith;
         told = tt;
         kept = record {
           calm = inl refl;
@@ -215,9 +195,8 @@ waits = record {
           holds = refl;
           tested = λ h noted. (asks.1, inl (others_behind s h (said_yes s.view found noted)));
           followed = (s.queued.each_seat s.seat s.view s.at).followed;
-          core = loaded s tail (tested_view s.view (others_wait s.view found))
-              (record { number = refl; predecessor = refl; linked = λ e. e; queued = λ e. e }) (held_busy true s.view.phase held)
-              (λ e. e) (λ e. e) (λ i p ne. s.queued.core.noted i s.view p ne);
+          core = loaded s tail (tested_view s.view (others_wait s.view found)) (refl, refl, refl, refl, refl) (λ e. e) busy
+              (λ i. s.queued.core.noted i s.view);
         };
       };
 }
@@ -225,64 +204,54 @@ waits = record {
 pub looks : IsKept mcs_discipline load_next
 looks = record {
   noted = λ v found. record { same = refl; steps = refl; entered = refl; read = refl };
-  keeps = λ s asks low.
-      let word : ℕ = next s.view.number in record {
-        apart = next_waiting s.view.number;
-        told = counted s (slice_index s.words word) (next_within s asks);
-        kept = record {
-          calm = inl refl;
-          busy = refl;
-          holds = refl;
-          tested = (s.told.each s.seat s.view s.at).tested;
-          followed = (s.queued.each_seat s.seat s.view s.at).followed;
-          core = loaded s word (looked_view s.view (slice_index s.words word))
-              (record { number = refl; predecessor = refl; linked = λ e. e; queued = λ e. e }) (held_busy true s.view.phase asks)
-              (λ e. e) (λ e. e) (λ i p ne. s.queued.core.links i s.view p ne);
-        };
-      };
+  keeps = λ s asks low. let word : ℕ = next s.view.number in record {
+    apart = λ e. omega arith;
+    told = next_within s asks;
+    kept = record {
+      calm = inl refl;
+      busy = refl;
+      holds = refl;
+      tested = (s.told.each s.seat s.view s.at).tested;
+      followed = (s.queued.each_seat s.seat s.view s.at).followed;
+      core = loaded s word (looked_view s.view (slice_index s.words word)) (refl, refl, refl, refl, refl) (λ e. e)
+          (held_busy true s.view.phase asks) (λ i. s.queued.core.links i s.view);
+    };
+  };
 }
 
 pub passes : IsKept mcs_discipline store_successor_locked
 passes = record {
   noted = λ v found. record { same = refl; steps = refl; entered = refl; read = (refl, refl, refl) };
-  keeps = λ s asks low.
-      let x : ℕ = pass_named s.view.successor in
-      let cut = head_cut s.seats s.seat (first s asks.0) in record {
-        apart = locked_waiting x;
-        told = tt;
-        kept = record {
-          silent = asks.1;
-          held = asks.0;
-          tail = cut.0;
-          cut = cut.1;
-          free = refl;
-          unheld = refl;
-          core = core_passes s.passes s.tag s.words s.seats s.views s.queued s.seat s.view s.at s.live x cut.0 cut.1
-              (held_busy true s.view.phase asks.0) asks.2 refl;
-        };
-      };
+  keeps = λ s asks low. let cut = head_cut s.seats s.seat (first s asks.0) in record {
+    apart = λ e. omega arith;
+    told = tt;
+    kept = record {
+      silent = asks.1;
+      held = asks.0;
+      tail = cut.0;
+      cut = cut.1;
+      free = refl;
+      unheld = refl;
+      core = core_passes s.queued s.seat s.at s.live cut.0 cut.1 (held_busy true s.view.phase asks.0) asks.2;
+    };
+  };
 }
 
 pub exchanges : IsKept mcs_discipline compare_and_swap_tail
 exchanges = record {
   noted = λ v found. (
     record { same = refl; steps = refl; entered = refl; read = (refl, refl, refl) },
-    record {
-      same = refl;
-      steps = refl;
-      entered = refl;
-      read = (refl, refl, refl);
-    },
+    record { same = refl; steps = refl; entered = refl; read = (refl, refl, refl) },
   );
   keeps = λ s asks low.
       let held : is_holder true s.view.phase ≡ true = ap (is_holder true) asks.0 in
       let busy = held_busy true s.view.phase held in record {
-        apart = tail_waiting;
+        apart = λ e. omega arith;
         told = tt;
         kept = (
           λ e.
               let cut = head_cut s.seats s.seat (first s held) in
-              let one = alone_is s.passes s.tag s.words s.seats s.views s.queued s.seat s.view s.at s.live (first s held) e in
+              let one = alone_is s.queued s.seat s.at s.live (first s held) e in
               let none = none_left cut.0 (let z : length s.seats ≡ suc (length cut.0) = ap length cut.1 in omega (arith, z, one)) in record {
                 silent = asks.1;
                 held = held;
@@ -290,7 +259,7 @@ exchanges = record {
                 cut = cut.1 ∙ ap (λ (l : List ℕ). s.seat ∷ l) none;
                 free = refl;
                 unheld = refl;
-                core = core_ends s.passes s.tag s.words s.seats s.views s.queued s.seat s.view s.at s.live busy;
+                core = core_ends s.queued s.seat s.at s.live busy;
               },
           λ ne. record {
             calm = inr (refl, asks.1);
@@ -298,9 +267,8 @@ exchanges = record {
             holds = sym held;
             tested = λ _ _. (asks.1, inl (others_behind s held ne));
             followed = λ _ _. others_behind s held ne;
-            core = loaded s tail (followed_view s.view)
-                (record { number = refl; predecessor = refl; linked = λ e. e; queued = λ e. absurd (let z : Leaving ≡ Queued = e in cc) })
-                busy (λ e. e) (λ e. e) (λ i p ne'. s.queued.core.noted i s.view p ne');
+            core = loaded s tail (followed_view s.view) (refl, refl, refl, refl, refl)
+                (λ e. absurd (let z : Leaving ≡ Queued = e in cc)) busy (λ i. s.queued.core.noted i s.view);
           },
         );
       };

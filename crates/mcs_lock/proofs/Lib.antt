@@ -1,5 +1,4 @@
 pub mod Places
-pub mod Core
 pub mod Queue
 pub mod Links
 pub mod Words

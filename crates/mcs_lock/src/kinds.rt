@@ -11,6 +11,7 @@ pub struct StoreNext;
 impl KindOf<McsWords> for StoreNext {
     ghost kind = { store_next };
 
+    #[tactic(auto, using(crate::proofs::Kept::clears))]
     fn is_kept() {}
 }
 
@@ -20,6 +21,7 @@ pub struct StoreLocked;
 impl KindOf<McsWords> for StoreLocked {
     ghost kind = { store_locked };
 
+    #[tactic(auto, using(crate::proofs::Kept::raises))]
     fn is_kept() {}
 }
 
@@ -29,6 +31,7 @@ pub struct FetchAndStoreTail;
 impl KindOf<McsWords> for FetchAndStoreTail {
     ghost kind = { fetch_and_store_tail };
 
+    #[tactic(auto, using(crate::proofs::Kept::swaps))]
     fn is_kept() {}
 }
 
@@ -38,6 +41,7 @@ pub struct StorePredecessorNext;
 impl KindOf<McsWords> for StorePredecessorNext {
     ghost kind = { store_predecessor_next };
 
+    #[tactic(auto, using(crate::proofs::Kept::links))]
     fn is_kept() {}
 }
 
@@ -47,6 +51,7 @@ pub struct LoadLocked;
 impl KindOf<McsWords> for LoadLocked {
     ghost kind = { load_locked };
 
+    #[tactic(auto, using(crate::proofs::Kept::polls))]
     fn is_kept() {}
 }
 
@@ -56,6 +61,7 @@ pub struct LoadTail;
 impl KindOf<McsWords> for LoadTail {
     ghost kind = { load_tail };
 
+    #[tactic(auto, using(crate::proofs::Kept::waits))]
     fn is_kept() {}
 }
 
@@ -65,6 +71,7 @@ pub struct LoadNext;
 impl KindOf<McsWords> for LoadNext {
     ghost kind = { load_next };
 
+    #[tactic(auto, using(crate::proofs::Kept::looks))]
     fn is_kept() {}
 }
 
@@ -74,6 +81,7 @@ pub struct StoreSuccessorLocked;
 impl KindOf<McsWords> for StoreSuccessorLocked {
     ghost kind = { store_successor_locked };
 
+    #[tactic(auto, using(crate::proofs::Kept::passes))]
     fn is_kept() {}
 }
 
@@ -83,5 +91,6 @@ pub struct CompareAndSwapTail;
 impl KindOf<McsWords> for CompareAndSwapTail {
     ghost kind = { compare_and_swap_tail };
 
+    #[tactic(auto, using(crate::proofs::Kept::exchanges))]
     fn is_kept() {}
 }
