@@ -1,7 +1,6 @@
 pub mod Places
-pub mod Core
 pub mod Queue
 pub mod Links
 pub mod Words
+pub mod Tokens
 pub mod Kept
-pub mod Own

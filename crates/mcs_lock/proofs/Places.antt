@@ -1,37 +1,26 @@
 -- The seats of an MCS lock's queue, by their places.
 use Rattle.std.proofs.Common.{◌≡◌, ◌≢◌, ℕ, zero, suc, ◌<◌, ◌≤◌, true, false, List, [], ◌∷◌, length, slice_index, refl}
-use Rattle.std.proofs.Common.{ap, sym, ◌∙◌, inl, arith}
-use mathlib.Core.Option.{some, some-injective}
+use Rattle.std.proofs.Common.{ap, sym, ◌∙◌, subst, inl, inr, ⊎_elim, arith}
+use mathlib.Core.Option.{some, some-injective, some-ne-none}
 use lib.ListN.{get_elem?}
-use Rattle.lock_rules.specs.Rows.{waiting}
 use Rattle.lock_rules.specs.Tag.{Tag}
 use Rattle.lock_rules.specs.declared.view.Phase.TheVariants.{Queued}
 use Rattle.lock_rules.specs.declared.view.View.{View}
 use Rattle.lock_tables.specs.Rule.{is_busy, IsQueued}
-use Rattle.lock_tables.proofs.Lists.{at_below, there}
+use Rattle.lock_tables.proofs.Lists.{at_below, there, no_true}
 use Rattle.lock_tables.proofs.Numbers.{number_below, one_number}
 use Rattle.lock_tables.specs.Numbers.{by_pass}
 use Rattle.lock_tables.proofs.Stands.{has_stands}
 use Rattle.lock_tables.proofs.Queues.{lives, no_place, one_seat_of}
-use Rattle.mcs_lock.specs.Rule.{tail, next, locked, name, IsPlaced, NamesBehind, mcs_discipline}
-
--- words of passes, and of their names, are none that counts waiters
-pub tail_waiting : tail ≢ waiting
-tail_waiting e = absurd (omega arith)
-
-pub next_waiting : (p : ℕ) → next p ≢ waiting
-next_waiting p e = absurd (omega arith)
-
-pub locked_waiting : (p : ℕ) → locked p ≢ waiting
-locked_waiting p e = absurd (omega arith)
+use Rattle.mcs_lock.specs.Rule.{tail, next, locked, name, IsPlaced, NamesBehind, IsPrepared, IsLinked, mcs_discipline}
 
 pub none_left : (l : List ℕ) → length l ≡ 0 → l ≡ []
 none_left [] e = refl
 none_left (x ∷ xs) e = absurd (omega arith)
 
 -- a seat's view at a place is one
-pub one_view : (seats : List ℕ) (views : List View) (i : ℕ) (u v : View) → IsPlaced seats views i u → IsPlaced seats views i v → u ≡ v
-one_view seats views i u v p q =
+pub one_view : {seats : List ℕ} {views : List View} {i : ℕ} {u v : View} → IsPlaced seats views i u → IsPlaced seats views i v → u ≡ v
+one_view {seats} {views} {i} {u} {v} p q =
     let same : p.seat ≡ q.seat = some-injective p.seat q.seat (sym p.place ∙ q.place) in
     some-injective u v (sym p.at ∙ ap (get_elem? views) same ∙ q.at)
 
@@ -58,40 +47,76 @@ pub record IsStill (seats : List ℕ) (views : List View) (i : ℕ) (u : View) :
   pub keeps : KeepsLinks u view
 
 -- where each place had a view like that it has, each has one like it had
-pub still : (seats : List ℕ) (views views' : List View) → length views ≤ length views'
+pub still : {seats : List ℕ} {views views' : List View} → length views ≤ length views'
     → ((i : ℕ) (u : View) → IsPlaced seats views' i u → WasPlaced seats views i u)
     → (i : ℕ) (u : View) → IsPlaced seats views i u → IsStill seats views' i u
-still seats views views' long was i u p =
+still {seats} {views} {views'} long was i u p =
     let b = at_below views p.seat u p.at in
     let t = there views' p.seat (omega (arith, b, long)) in
-    let p' : IsPlaced seats views' i t.0 = record { seat = p.seat; place = p.place; at = t.1 } in
-    let w = was i t.0 p' in
-    let same : w.view ≡ u = one_view seats views i w.view u w.placed p in record {
+    let w = was i t.0 (record { seat = p.seat; place = p.place; at = t.1 }) in record {
       view = t.0;
-      placed = p';
-      keeps = record {
-        number = w.keeps.number ∙ ap (λ (x : View). x.number) same;
-        predecessor = w.keeps.predecessor ∙ ap (λ (x : View). x.predecessor) same;
-        linked = λ e. w.keeps.linked (ap (λ (x : View). x.linked) same ∙ e);
-        queued = λ e. sym (ap (λ (x : View). x.phase) same) ∙ w.keeps.queued e;
-      };
+      placed = record { seat = p.seat; place = p.place; at = t.1 };
+      keeps = subst (λ (x : View). KeepsLinks x t.0) (one_view w.placed p) w.keeps;
     }
 
 -- a name of the pass behind stays one
-pub names_still : (seats : List ℕ) (views views' : List View) (i x : ℕ)
+pub names_still : {seats : List ℕ} {views views' : List View} {i x : ℕ}
     → ((u : View) → IsPlaced seats views (suc i) u → IsStill seats views' (suc i) u) → NamesBehind seats views i x
     → NamesBehind seats views' i x
-names_still seats views views' i x stay b = let s = stay b.view b.placed in record {
-  view = s.view;
-  placed = s.placed;
-  named = b.named ∙ ap name (sym s.keeps.number);
-  linked = s.keeps.linked b.linked;
+names_still stay b = let s = stay b.view b.placed in
+    record { view = s.view; placed = s.placed; named = b.named ∙ ap name (sym s.keeps.number); linked = s.keeps.linked b.linked }
+
+pub names_as : {seats : List ℕ} {views : List View} {i x y : ℕ} → x ≡ y → NamesBehind seats views i x → NamesBehind seats views i y
+names_as e b = record { view = b.view; placed = b.placed; named = sym e ∙ b.named; linked = b.linked }
+
+-- a view that has stored no words
+pub fresh_prepared : (words : List ℕ) (v : View) → v.unlinked ≡ false → v.raised ≡ false → IsPrepared words v
+fresh_prepared words v a b = record { unlinked = λ e. absurd (no_true (sym e ∙ a)); raised = λ e. absurd (no_true (sym e ∙ b)) }
+
+-- the links of an empty queue
+pub core_empty : {n : ℕ} {words : List ℕ} {views : List View} → slice_index words tail ≡ 0
+    → ((j : ℕ) (u : View) → get_elem? views j ≡ some u → u.spent ≡ false → IsPrepared words u) → IsLinked n words [] views
+core_empty ends prepared = record {
+  empty = λ _. ends;
+  last = λ i v p. absurd (some-ne-none p.seat (sym p.place));
+  first = λ v p. absurd (some-ne-none p.seat (sym p.place));
+  behind = λ i u v p. absurd (some-ne-none p.seat (sym p.place));
+  links = λ i v p. absurd (some-ne-none p.seat (sym p.place));
+  noted = λ i v p. absurd (some-ne-none p.seat (sym p.place));
+  prepared = prepared;
 }
 
-pub names_as : (seats : List ℕ) (views : List View) (i x y : ℕ) → x ≡ y → NamesBehind seats views i x → NamesBehind seats views i y
-names_as seats views i x y e b = record { view = b.view; placed = b.placed; named = sym e ∙ b.named; linked = b.linked }
+-- the links after a step that leaves the queue
+module _ {n : ℕ} {words : List ℕ} (words' : List ℕ) {seats : List ℕ} {views : List View} (views' : List View)
+    (k : IsLinked n words seats views) where
+  pub core_from : slice_index words' tail ≡ slice_index words tail → length views ≤ length views'
+      → ((i : ℕ) (u : View) → IsPlaced seats views' i u → WasPlaced seats views i u)
+      → ((i : ℕ) (u : View) → IsPlaced seats views i u → slice_index words' (locked u.number) ≡ slice_index words (locked u.number))
+      → ((i : ℕ) (u : View) → IsPlaced seats views i u → slice_index words' (next u.number) ≢ 0
+      → NamesBehind seats views' i (slice_index words' (next u.number)))
+      → ((i : ℕ) (u : View) → IsPlaced seats views' i u → u.successor ≢ 0 → NamesBehind seats views' i u.successor)
+      → ((j : ℕ) (u : View) → get_elem? views' j ≡ some u → u.spent ≡ false → IsPrepared words' u)
+      → IsLinked n words' seats views'
+  core_from ends long was locks links noted prepared = record {
+    empty = λ e. ends ∙ k.empty e;
+    last = λ i u p e. let w = was i u p in ends ∙ k.last i w.view w.placed e ∙ ap name (sym w.keeps.number);
+    first = λ u p. let w = was 0 u p in let f = k.first w.view w.placed in record {
+      free = ⊎_elim (λ (e : w.view.predecessor ≡ 0). inl (w.keeps.predecessor ∙ e))
+          (λ (e : slice_index words (locked w.view.number) ≡ 0). inr (ap (λ (x : ℕ). slice_index words' (locked x)) w.keeps.number
+          ∙ locks 0 w.view w.placed ∙ e)) f.free;
+      linked = λ e. w.keeps.linked (f.linked (w.keeps.queued e));
+    };
+    behind = λ i u v p r. let a = was i u p in let b = was (suc i) v r in let h = k.behind i a.view b.view a.placed b.placed in record {
+      named = b.keeps.predecessor ∙ h.named ∙ ap name (sym a.keeps.number);
+      waits = ap (λ (x : ℕ). slice_index words' (locked x)) b.keeps.number ∙ locks (suc i) b.view b.placed ∙ h.waits;
+    };
+    links = λ i u p ne. let w = was i u p in let same = ap (λ (x : ℕ). slice_index words' (next x)) w.keeps.number in
+        names_as (sym same) (links i w.view w.placed (λ e. ne (same ∙ e)));
+    noted = noted;
+    prepared = prepared;
+  }
 
-module _ (n : ℕ) (tag : Tag) (words seats : List ℕ) (views : List View) (q : IsQueued mcs_discipline n tag words seats views) where
+module _ {n : ℕ} {tag : Tag} {words seats : List ℕ} {views : List View} (q : IsQueued mcs_discipline n tag words seats views) where
   pub busy_at : (i : ℕ) (v : View) → IsPlaced seats views i v → is_busy true v.phase ≡ true
   busy_at i v p =
       let b = q.each_place i p.seat p.place in

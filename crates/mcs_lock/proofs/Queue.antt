@@ -2,7 +2,8 @@
 use Rattle.std.proofs.Common.{◌≡◌, ◌≢◌, ℕ, zero, suc, ◌<◌, ◌≤◌, Bool, true, false, cond, ◌&&◌, ◌==◌, eq-eqb, List, [], ◌∷◌, ◌++◌, length}
 use Rattle.std.proofs.Common.{map, take, set, slice_index, replicate, refl, ap, sym, ◌∙◌, subst, ⊎_elim, arith, length-append}
 use Rattle.std.proofs.Math.ListN.{length-set}
-use Rattle.std.proofs.lemmas.List.{map-append}
+use Rattle.std.proofs.Math.Seq.{take-length}
+use Rattle.std.proofs.lemmas.List.{map-append, length-replicate}
 use mathlib.Core.Option.{some, some-injective, some-ne-none}
 use lib.ListN.{get_elem?}
 use borrow.Author.Tests.{eqb-true}
@@ -19,9 +20,8 @@ use Rattle.lock_tables.proofs.Lists.{number_is, at_below, no_true, both_true, wr
 use Rattle.lock_tables.proofs.Queues.{IsSame, WasAt, lives, few_seats, placed_before_split, placed_before_join, after_split, after_join}
 use Rattle.lock_tables.proofs.Queues.{one_seat_of}
 use Rattle.mcs_lock.specs.Rule.{tail, next, locked, name, before, passes_to, queue_of, IsPlaced, IsPrepared, IsLinked, mcs_discipline}
-use Rattle.mcs_lock.proofs.Places.{tail_waiting, next_waiting, locked_waiting, none_left, KeepsLinks, WasPlaced, still, names_still}
-use Rattle.mcs_lock.proofs.Places.{names_as, busy_at, live_at, placed_at}
-use Rattle.mcs_lock.proofs.Core.{core_from}
+use Rattle.mcs_lock.proofs.Places.{none_left, KeepsLinks, WasPlaced, still, names_still, names_as, fresh_prepared, core_empty, core_from}
+use Rattle.mcs_lock.proofs.Places.{busy_at, live_at, placed_at}
 
 -- the name of the pass before, read off the view that the seat j has
 before_is : (words : List ℕ) (views : List View) (j : ℕ) (v : View) → get_elem? views j ≡ some v → is_busy true v.phase ≡ true
@@ -47,32 +47,19 @@ take_next [] i x e = absurd (some-ne-none x (sym e))
 take_next (y ∷ ys) zero x e = λ k. some-injective y x e k ∷ []
 take_next (y ∷ ys) (suc i) x e = λ k. y ∷ take_next ys i x e k
 
-take_all : (l : List ℕ) → take (length l) l ≡ l
-take_all [] = refl
-take_all (x ∷ xs) = λ k. x ∷ take_all xs k
-
 none_to : (words : List ℕ) (views : List View) (most : ℕ) → passes_to words views most 0 ≡ []
 none_to words views zero = refl
 none_to words views (suc most) = refl
-
-long_replicate : (k : ℕ) → length {A = ℕ} (replicate k 0) ≡ k
-long_replicate zero = refl
-long_replicate (suc k) = ap suc (long_replicate k)
 
 index_replicate : (k i : ℕ) → slice_index (replicate k 0) i ≡ 0
 index_replicate zero i = refl
 index_replicate (suc k) zero = refl
 index_replicate (suc k) (suc i) = index_replicate k i
 
--- a view that has stored no words
-fresh_prepared : (words : List ℕ) (v : View) → v.unlinked ≡ false → v.raised ≡ false → IsPrepared words v
-fresh_prepared words v a b = record { unlinked = λ e. absurd (no_true (sym e ∙ a)); raised = λ e. absurd (no_true (sym e ∙ b)) }
-
 first_prepared : (c : Waiters) (n : ℕ) (tag : Tag) (words : List ℕ) (j : ℕ) (v : View)
     → get_elem? (first_view Mcs c n tag ∷ []) j ≡ some v → IsPrepared words v
-first_prepared c n tag words zero v e = let s : first_view Mcs c n tag ≡ v =
-    some-injective (first_view Mcs c n tag) v e
-    in fresh_prepared words v (ap (λ (x : View). x.unlinked) (sym s)) (ap (λ (x : View). x.raised) (sym s))
+first_prepared c n tag words zero v e =
+    subst (IsPrepared words) (some-injective (first_view Mcs c n tag) v e) (fresh_prepared words (first_view Mcs c n tag) refl refl)
 first_prepared c n tag words (suc j) v e = absurd (some-ne-none v (sym e))
 
 -- the name that `locked` at 1 lets through
@@ -86,11 +73,11 @@ none_is : (b : Bool) (x : ℕ) → x ≡ 0 → cond b x 0 ≡ 0
 none_is true x e = e
 none_is false x e = refl
 
-module _ (n : ℕ) (tag : Tag) (words seats : List ℕ) (views : List View) (q : IsQueued mcs_discipline n tag words seats views) where
+module _ {n : ℕ} {tag : Tag} {words seats : List ℕ} {views : List View} (q : IsQueued mcs_discipline n tag words seats views) where
   before_at : (i : ℕ) (v : View) → IsPlaced seats views i v
       → before words views v.number ≡ cond (slice_index words (locked v.number) == 1) v.predecessor 0
-  before_at i v p = before_is words views p.seat v p.at (busy_at n tag words seats views q i v p)
-      (λ k u at b e. one_seat_of mcs_discipline n tag words seats views q p.seat k v u p.at at (live_at n tag words seats views q i v p)
+  before_at i v p = before_is words views p.seat v p.at (busy_at q i v p)
+      (λ k u at b e. one_seat_of mcs_discipline n tag words seats views q p.seat k v u p.at at (live_at q i v p)
       (lives mcs_discipline n tag words seats views q k u at b) e)
 
   -- the first names none, or needn't wait
@@ -118,7 +105,7 @@ module _ (n : ℕ) (tag : Tag) (words seats : List ℕ) (views : List View) (q :
       ∙ (λ k. sym (number_of zero v p) k ∷ [])
       ∙ ap (map (number_at views)) (sym (take_next seats zero p.seat p.place))
   passes_are (suc i) (suc most) v p h =
-      let u = placed_at n tag words seats views q i (let b = at_below seats (suc i) p.seat p.place in omega arith) in
+      let u = placed_at q i (let b = at_below seats (suc i) p.seat p.place in omega arith) in
       let rest : passes_to words views most (name u.0.number) ≡ map (number_at views) (take (suc i) seats) =
       passes_are i most u.0 u.1 (omega arith) in
       let e = before_next i u.0 v u.1 p in
@@ -132,12 +119,12 @@ module _ (n : ℕ) (tag : Tag) (words seats : List ℕ) (views : List View) (q :
     | zero ↦ λ e. ap (passes_to words views (length words)) (q.core.empty e) ∙ none_to words views (length words)
         ∙ ap (map (number_at views)) (sym (none_left seats e))
     | suc m ↦ λ e.
-        let u = placed_at n tag words seats views q m (omega (arith, e)) in
+        let u = placed_at q m (omega (arith, e)) in
         let few = few_seats mcs_discipline n tag words seats views q in
         let long = q.long in
         ap (passes_to words views (length words)) (q.core.last m u.0 u.1 e)
         ∙ passes_are m (length words) u.0 u.1 (omega (arith, few, long, e))
-        ∙ ap (map (number_at views)) (ap (λ (x : ℕ). take x seats) (sym e) ∙ take_all seats)
+        ∙ ap (map (number_at views)) (ap (λ (x : ℕ). take x seats) (sym e) ∙ take-length seats)
   ] refl
 
 -- a view that is the same but for the passes that its seat has
@@ -155,9 +142,9 @@ all_kept words = record { tails = refl; nexts = λ p. refl; lockeds = λ p. refl
 
 wrote_waiting : (words : List ℕ) (x : ℕ) → AreKept words (set words waiting x)
 wrote_waiting words x = record {
-  tails = wrote_else words waiting tail x tail_waiting;
-  nexts = λ p. wrote_else words waiting (next p) x (next_waiting p);
-  lockeds = λ p. wrote_else words waiting (locked p) x (locked_waiting p);
+  tails = wrote_else words waiting tail x (λ e. omega arith);
+  nexts = λ p. wrote_else words waiting (next p) x (λ e. omega arith);
+  lockeds = λ p. wrote_else words waiting (locked p) x (λ e. omega arith);
 }
 
 same_prepared : (words words' : List ℕ) (u v : View) → AreKept words words' → IsSame u v → IsPrepared words v → IsPrepared words' u
@@ -200,35 +187,25 @@ core_same : (n : ℕ) (words words' seats : List ℕ) (views views' : List View)
     → ((j : ℕ) (u : View) → get_elem? views' j ≡ some u → u.spent ≡ false → IsPrepared words' u)
     → IsLinked n words' seats views'
 core_same n words words' seats views views' same k long was prepared =
-    let placed = λ (i : ℕ) (u : View) (p : IsPlaced seats views' i u). let w =
-    was i p.seat u p.place p.at in let r : IsPlaced seats views i w.view = record { seat = p.seat; place = p.place; at = w.at } in r in
-    let before_it : (i : ℕ) (u : View) → IsPlaced seats views' i u → WasPlaced seats views i u
-    = λ i u p. (let w = was i p.seat u p.place p.at
-    in record { view = w.view; placed = placed i u p; keeps = same_links u w.view w.same }) in
-    core_from n words words' seats views views' k same.tails long before_it (λ i u p. same.lockeds u.number)
-    (λ i u p ne. names_still seats views views' i (slice_index words' (next u.number)) (still seats views views' long before_it (suc i))
-    (names_as seats views i (slice_index words (next u.number)) (slice_index words' (next u.number)) (sym (same.nexts u.number))
-    (k.links i u p (λ e. ne (same.nexts u.number ∙ e)))))
-    (λ i u p ne.
-    let w = was i p.seat u p.place p.at in
-    let b = k.noted i w.view (placed i u p) (λ e. ne (w.same.successor ∙ e)) in
-    names_still seats views views' i u.successor (still seats views views' long before_it (suc i))
-    (names_as seats views i w.view.successor u.successor (sym w.same.successor) b))
+    let before_it : (i : ℕ) (u : View) → IsPlaced seats views' i u → WasPlaced seats views i u = λ i u p.
+    (let w = was i p.seat u p.place p.at in record {
+      view = w.view;
+      placed = record { seat = p.seat; place = p.place; at = w.at };
+      keeps = same_links u w.view w.same;
+    }) in
+    core_from words' views' k same.tails long before_it (λ i u p. same.lockeds u.number)
+    (λ i u p ne. names_still (still long before_it (suc i))
+    (names_as (sym (same.nexts u.number)) (k.links i u p (λ e. ne (same.nexts u.number ∙ e)))))
+    (λ i u p ne. let w = was i p.seat u p.place p.at in names_still (still long before_it (suc i))
+    (names_as (sym w.same.successor) (k.noted i w.view (before_it i u p).placed (λ e. ne (w.same.successor ∙ e)))))
     prepared
 
 pub disciplined : IsDisciplined mcs_discipline
 disciplined = record {
-  opens_long = λ n. long_replicate (row_of Mcs n);
+  opens_long = λ n. length-replicate (row_of Mcs n) 0;
   opens_unannounced = λ n. index_replicate (row_of Mcs n) waiting;
-  opens = λ c n tag some_pass few. record {
-    empty = λ _. index_replicate (row_of Mcs n) tail;
-    last = λ i v p. absurd (some-ne-none p.seat (sym p.place));
-    first = λ v p. absurd (some-ne-none p.seat (sym p.place));
-    behind = λ i u v p. absurd (some-ne-none p.seat (sym p.place));
-    links = λ i v p. absurd (some-ne-none p.seat (sym p.place));
-    noted = λ i v p. absurd (some-ne-none p.seat (sym p.place));
-    prepared = λ j v e live. first_prepared c n tag (replicate (row_of Mcs n) 0) j v e;
-  };
+  opens = λ c n tag some_pass few. core_empty (index_replicate (row_of Mcs n) tail)
+      (λ j v e live. first_prepared c n tag (replicate (row_of Mcs n) 0) j v e);
   notes = λ n words seats views x id v w at noted k. core_same n words (set words waiting x) seats views (set views id w)
       (wrote_waiting words x) k (let a = length-set views id w in omega (arith, a))
       (λ i j u _ e. was_noted views id v w at noted j u e)
@@ -243,8 +220,7 @@ disciplined = record {
       (λ j u e live'. ⊎_elim
       (λ (t : WasAt views j u). same_prepared words words u t.view (all_kept words) t.same
       (q.core.prepared j t.view t.at (sym t.same.spent ∙ live')))
-      (λ (t : (j ≡ length views) × (next_split v ≡ u)). fresh_prepared words u (ap (λ (x : View). x.unlinked) (sym t.1))
-      (ap (λ (x : View). x.raised) (sym t.1)))
+      (λ (t : (j ≡ length views) × (next_split v ≡ u)). subst (IsPrepared words) t.1 (fresh_prepared words (next_split v) refl refl))
       (after_split views id v at j u e));
   joins = λ n tag words seats views id v other w q at live apart at' idle plain. core_same n words words seats views
       (set (set views id (joined_view v w)) other spent_view) (all_kept words) q.core
@@ -254,8 +230,7 @@ disciplined = record {
       (λ j u e live'. ⊎_elim
       (λ (t : (j ≢ other) × WasAt views j u). same_prepared words words u t.1.view (all_kept words) t.1.same
       (q.core.prepared j t.1.view t.1.at (sym t.1.same.spent ∙ live')))
-      (λ (t : (j ≡ other) × (spent_view ≡ u)). fresh_prepared words u (ap (λ (x : View). x.unlinked) (sym t.1))
-      (ap (λ (x : View). x.raised) (sym t.1)))
+      (λ (t : (j ≡ other) × (spent_view ≡ u)). subst (IsPrepared words) t.1 (fresh_prepared words spent_view refl refl))
       (after_join views id v other w at j u e));
-  queue_is = queue_is;
+  queue_is = λ n tag words seats views q. queue_is q;
 }

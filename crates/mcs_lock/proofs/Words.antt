@@ -17,7 +17,7 @@ none_mapped : (f : ℕ → ℕ) (l : List ℕ) → map f l ≡ [] → length l �
 none_mapped f [] e = omega arith
 none_mapped f (x ∷ xs) e = let z : suc (length (map f xs)) ≡ 0 = ap length e in absurd (omega (arith, z))
 
-module _ (n : ℕ) (tag : Tag) (words seats : List ℕ) (views : List View) (q : IsQueued mcs_discipline n tag words seats views) where
+module _ {n : ℕ} {tag : Tag} {words seats : List ℕ} {views : List View} (q : IsQueued mcs_discipline n tag words seats views) where
   abbrev passes : List ℕ
   passes = map (number_at views) seats
 
@@ -36,7 +36,7 @@ module _ (n : ℕ) (tag : Tag) (words seats : List ℕ) (views : List View) (q :
           place = placed_pass (suc i) b.view b.placed;
           seat = b.placed.seat;
           view = b.view;
-          at = record { at = b.placed.at; unspent = live_at n tag words seats views q (suc i) b.view b.placed };
+          at = record { at = b.placed.at; unspent = live_at q (suc i) b.view b.placed };
           pass = refl;
           linked = b.linked;
         },
@@ -45,7 +45,7 @@ module _ (n : ℕ) (tag : Tag) (words seats : List ℕ) (views : List View) (q :
   passes_linked : HasLinks passes words views
   passes_linked = record {
     empty = λ e. q.core.empty (none_mapped (number_at views) seats e);
-    only_empty = λ e. ap (map (number_at views)) (no_seats n tag words seats views q e);
+    only_empty = λ e. ap (map (number_at views)) (no_seats q e);
     links = λ i p e.
         let m = mapped (number_at views) seats i p e in
         let b = q.each_place i m.0 m.1 in
@@ -60,4 +60,4 @@ module _ (n : ℕ) (tag : Tag) (words seats : List ℕ) (views : List View) (q :
   }
 
   pub has_links : HasLinks (queue_of words views) words views
-  has_links = subst (λ (l : List ℕ). HasLinks l words views) (sym (queue_is n tag words seats views q)) passes_linked
+  has_links = subst (λ (l : List ℕ). HasLinks l words views) (sym (queue_is q)) passes_linked

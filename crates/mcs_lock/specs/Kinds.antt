@@ -1,14 +1,13 @@
 -- The kinds of atomic step of an MCS lock: the word, what the step does to the view of its seat, and its event in the queue.
 use Rattle.std.specs.Prelude.{◌≡◌, ◌≢◌, ℕ, ◌+◌, ◌≤◌, Bool, true, false, ◌==◌, not}
-use Rattle.atomic_table.specs.Table.{keeps, gives}
-use Rattle.lock_rules.specs.Tag.{Tag}
+use Rattle.lock_rules.specs.Views.{is_counted}
 use Rattle.lock_rules.specs.declared.step.Answer.TheVariants.{Open}
 use Rattle.lock_rules.specs.declared.view.Phase.TheVariants.{Idle, Queued, Holding, Leaving}
 use Rattle.lock_rules.specs.declared.view.View.{View}
-use Rattle.lock_tables.specs.Happened.{Seated, Stepped, SteppedAndTook, missed_view, took_view, tested_view}
-use Rattle.lock_tables.specs.Queue.{Enters, Takes, EntersAndTakes, Leaves, Stays}
-use Rattle.lock_tables.specs.Rule.{IsLock}
-use Rattle.mcs_lock.specs.Rule.{tail, next, locked, name, pass_named, queue_of, mcs_discipline}
+use Rattle.lock_tables.specs.Happened.{missed_view, took_view, tested_view}
+use Rattle.lock_tables.specs.Kinds.{StepKind, load, store, swap, exchange, no_event, enter, take, enter_and_take, leave, always, showing}
+use Rattle.lock_tables.specs.Rule.{is_holder}
+use Rattle.mcs_lock.specs.Rule.{tail, next, locked, name, pass_named}
 
 -- the pass has stored 0 in its `next`
 abbrev pub cleared_view : View → View
@@ -18,35 +17,25 @@ cleared_view v = record v { steps = v.steps + 1; unlinked = true }
 abbrev pub raised_view : View → View
 raised_view v = record v { steps = v.steps + 1; raised = true }
 
--- the pass is queued behind the one that its swap found
-abbrev pub queued_view : View → ℕ → View
-queued_view v found =
-    record v {
-      phase = Queued;
-      steps = v.steps + 1;
-      entries = v.entries + 1;
-      predecessor = found;
-      unlinked = false;
-      raised = false;
-      linked = false;
-      successor =
-          0;
-    }
-
--- the pass holds: its swap found none
-abbrev pub entered_view : View → View
-entered_view v = record v {
-  phase = Holding;
+-- after its swap: the word that it found, and nothing stored for a swap to come
+abbrev pub swapped_view : View → ℕ → View
+swapped_view v found = record v {
   steps = v.steps + 1;
   entries = v.entries + 1;
-  tested = Open;
-  predecessor = 0;
+  predecessor = found;
   unlinked = false;
   raised = false;
   linked = false;
   successor = 0;
-  followed = false;
 }
+
+-- the pass is queued behind the one that its swap found
+abbrev pub queued_view : View → ℕ → View
+queued_view v found = record (swapped_view v found) { phase = Queued }
+
+-- the pass holds: its swap found none
+abbrev pub entered_view : View → View
+entered_view v = record (swapped_view v 0) { phase = Holding; tested = Open; followed = false }
 
 -- the pass has stored its link
 abbrev pub linked_view : View → View
@@ -68,74 +57,105 @@ left_view v = record v { phase = Idle; steps = v.steps + 1; followed = false }
 abbrev pub others_wait : View → ℕ → Bool
 others_wait v found = not (found == name v.number)
 
-module _ {V : Type 0} (fit : V → Type 0) (tag_of : V → Tag) (parked : V → Bool) where
-  -- Store of own `next`: no event
-  abbrev pub Cleared : Seated V → Seated V → Type 0
-  Cleared me me' = (found : ℕ) × Stepped (IsLock mcs_discipline fit tag_of parked) queue_of Stays keeps (next me.0.number) found 0 me
-      (cleared_view me.0) me'
+-- Store of own `next` by an idle pass: no event
+abbrev pub store_next : StepKind
+store_next = record {
+  form = store;
+  word = λ v. next v.number;
+  operand = λ v. 0;
+  asks = λ v. v.phase ≡ Idle;
+  tells = λ v found. Unit {0};
+  outcome = always (record { event = no_event; after = λ v found. cleared_view v });
+}
 
-  -- Store of own `locked`: no event
-  abbrev pub Raised : Seated V → Seated V → Type 0
-  Raised me me' = (found : ℕ) × Stepped (IsLock mcs_discipline fit tag_of parked) queue_of Stays keeps (locked me.0.number) found 1 me
-      (raised_view me.0) me'
+-- Store of own `locked` by an idle pass: no event
+abbrev pub store_locked : StepKind
+store_locked = record {
+  form = store;
+  word = λ v. locked v.number;
+  operand = λ v. 1;
+  asks = λ v. v.phase ≡ Idle;
+  tells = λ v found. Unit {0};
+  outcome = always (record { event = no_event; after = λ v found. raised_view v });
+}
 
-  -- Swap of `tail`: Enter; Enter and Take where it found none
-  abbrev pub Entered : Seated V → ℕ → Seated V → Type 0
-  Entered me found me' =
-      (found ≤ me.0.count) × Stepped (IsLock mcs_discipline fit tag_of parked) queue_of Enters keeps tail found (name me.0.number) me
-      (queued_view me.0 found) me'
+-- Swap of `tail` by an idle pass, which has stored both words and is announced where the lock counts: Enter; Enter and Take where it found
+-- none
+abbrev pub fetch_and_store_tail : StepKind
+fetch_and_store_tail = record {
+  form = swap;
+  word = λ v. tail;
+  operand = λ v. name v.number;
+  asks = λ v. (v.phase ≡ Idle) × (v.announced ≡ is_counted v.waiters) × (v.unlinked ≡ true) × (v.raised ≡ true);
+  tells = λ v found. found ≤ v.count;
+  outcome = showing (λ v. 0) (record { event = enter_and_take; after = λ v found. entered_view v })
+      (record { event = enter; after = queued_view });
+}
 
-  abbrev pub EnteredAndTook : Seated V → ℕ → Seated V → Type 0
-  EnteredAndTook me found me' =
-      SteppedAndTook (IsLock mcs_discipline fit tag_of parked) queue_of fit tag_of EntersAndTakes tail found (name me.0.number) me
-      (entered_view me.0) me'
+-- Store of the predecessor's `next` by a queued pass, which hasn't stored its link: no event
+abbrev pub store_predecessor_next : StepKind
+store_predecessor_next = record {
+  form = store;
+  word = λ v. next (pass_named v.predecessor);
+  operand = λ v. name v.number;
+  asks = λ v. (v.phase ≡ Queued) × (v.linked ≡ false);
+  tells = λ v found. Unit {0};
+  outcome = always (record { event = no_event; after = λ v found. linked_view v });
+}
 
-  abbrev pub Swapped : Seated V → ℕ → Seated V → Type 0
-  Swapped me found me' = (found ≡ 0 → EnteredAndTook me found me') × (found ≢ 0 → Entered me found me')
+-- Load of own `locked` by a queued pass: Take where it is 0, else no event
+abbrev pub load_locked : StepKind
+load_locked = record {
+  form = load;
+  word = λ v. locked v.number;
+  operand = λ v. 0;
+  asks = λ v. v.phase ≡ Queued;
+  tells = λ v found. Unit {0};
+  outcome = showing (λ v. 0) (record { event = take; after = λ v found. took_view v })
+      (record { event = no_event; after = λ v found. missed_view v });
+}
 
-  -- Store of the predecessor's `next`: no event
-  abbrev pub Linked : Seated V → Seated V → Type 0
-  Linked me me' = (found : ℕ)
-      × Stepped (IsLock mcs_discipline fit tag_of parked) queue_of Stays keeps (next (pass_named me.0.predecessor)) found
-      (name me.0.number) me (linked_view me.0) me'
+-- Load of `tail` by `waiter`: no event
+abbrev pub load_tail : StepKind
+load_tail = record {
+  form = load;
+  word = λ v. tail;
+  operand = λ v. 0;
+  asks = λ v. (v.phase ≡ Holding) × (v.announced ≡ false);
+  tells = λ v found. Unit {0};
+  outcome = always (record { event = no_event; after = λ v found. tested_view v (others_wait v found) });
+}
 
-  -- Load of own `locked`: Take where it is 0, else no event
-  abbrev pub Took : Seated V → ℕ → Seated V → Type 0
-  Took me found me' = SteppedAndTook (IsLock mcs_discipline fit tag_of parked) queue_of fit tag_of Takes
-      (locked me.0.number) found found me (took_view me.0) me'
+-- Load of own `next` by a holder: no event
+abbrev pub load_next : StepKind
+load_next = record {
+  form = load;
+  word = λ v. next v.number;
+  operand = λ v. 0;
+  asks = λ v. is_holder true v.phase ≡ true;
+  tells = λ v found. found ≤ v.count;
+  outcome = always (record { event = no_event; after = looked_view });
+}
 
-  abbrev pub Missed : Seated V → ℕ → Seated V → Type 0
-  Missed me found me' =
-      Stepped (IsLock mcs_discipline fit tag_of parked) queue_of Stays keeps (locked me.0.number) found found me (missed_view me.0) me'
+-- Store of the successor's `locked` by a holder, which has seen its successor: Leave
+abbrev pub store_successor_locked : StepKind
+store_successor_locked = record {
+  form = store;
+  word = λ v. locked (pass_named v.successor);
+  operand = λ v. 0;
+  asks = λ v. (is_holder true v.phase ≡ true) × (v.announced ≡ false) × (v.successor ≢ 0);
+  tells = λ v found. Unit {0};
+  outcome = always (record { event = leave; after = λ v found. left_view v });
+}
 
-  abbrev pub Polled : Seated V → ℕ → Seated V → Type 0
-  Polled me found me' = (found ≡ 0 → Took me found me') × (found ≢ 0 → Missed me found me')
-
-  -- Load of `tail` by `waiter`: no event
-  abbrev pub Tested : Seated V → ℕ → Seated V → Type 0
-  Tested me found me' =
-      Stepped (IsLock mcs_discipline fit tag_of parked) queue_of Stays keeps tail found found me
-      (tested_view me.0 (others_wait me.0 found)) me'
-
-  -- Load of own `next`: no event
-  abbrev pub Looked : Seated V → ℕ → Seated V → Type 0
-  Looked me found me' =
-      (found ≤ me.0.count) × Stepped (IsLock mcs_discipline fit tag_of parked) queue_of Stays keeps (next me.0.number) found found me
-      (looked_view me.0 found) me'
-
-  -- Store of the successor's `locked`: Leave
-  abbrev pub Passed : Seated V → Seated V → Type 0
-  Passed me me' = (found : ℕ)
-      × Stepped (IsLock mcs_discipline fit tag_of parked) queue_of Leaves gives (locked (pass_named me.0.successor)) found 0 me
-      (left_view me.0) me'
-
-  -- Exchange of `tail` from own to 0: Leave where done, else no event
-  abbrev pub Ended : Seated V → ℕ → Seated V → Type 0
-  Ended me found me' = Stepped (IsLock mcs_discipline fit tag_of parked) queue_of Leaves gives tail found 0 me (left_view me.0) me'
-
-  abbrev pub Followed : Seated V → ℕ → Seated V → Type 0
-  Followed me found me' =
-      Stepped (IsLock mcs_discipline fit tag_of parked) queue_of Stays keeps tail found found me (followed_view me.0) me'
-
-  abbrev pub Exchanged : Seated V → ℕ → Seated V → Type 0
-  Exchanged me found me' = (found ≡ name me.0.number → Ended me found me') × (found ≢ name me.0.number → Followed me found me')
+-- Exchange of `tail` from the holder's name to 0: Leave where done, else no event
+abbrev pub compare_and_swap_tail : StepKind
+compare_and_swap_tail = record {
+  form = exchange;
+  word = λ v. tail;
+  operand = λ v. 0;
+  asks = λ v. (v.phase ≡ Holding) × (v.announced ≡ false);
+  tells = λ v found. Unit {0};
+  outcome = showing (λ v. name v.number) (record { event = leave; after = λ v found. left_view v })
+      (record { event = no_event; after = λ v found. followed_view v });
+}

@@ -1,7 +1,6 @@
 pub mod Rule
 pub mod Links
 pub mod Kinds
-pub mod Own
 pub mod Leaves
 pub mod Calls
 pub mod Choice

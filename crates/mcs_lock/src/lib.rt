@@ -5,37 +5,37 @@
 //! `locked`; `L` is the tail:
 //!
 //! ```text
-//! acquire   I->next := nil                                     begin           steps::store_next
-//!           I->locked := true                                                  steps::store_locked
-//!           predecessor := fetch_and_store (L, I)                              steps::fetch_and_store_tail
+//! acquire   I->next := nil                                     begin           store::<StoreNext>
+//!           I->locked := true                                                  store::<StoreLocked>
+//!           predecessor := fetch_and_store (L, I)                              swap::<FetchAndStoreTail>
 //!           if predecessor != nil
-//!               predecessor->next := I                                         steps::store_predecessor_next
-//!               repeat while I->locked                         poll, once      steps::load_locked
-//! release   if I->next = nil                                   begin_release   steps::load_next
-//!               if compare_and_swap (L, I, nil) return                         steps::compare_and_swap_tail
-//!               repeat while I->next = nil                     poll_release    steps::load_next
-//!           I->next->locked := false                           either          steps::store_successor_locked
+//!               predecessor->next := I                                         store::<StorePredecessorNext>
+//!               repeat while I->locked                         poll, once      load::<LoadLocked>
+//! release   if I->next = nil                                   begin_release   load::<LoadNext>
+//!               if compare_and_swap (L, I, nil) return                         compare_exchange::<CompareAndSwapTail>
+//!               repeat while I->next = nil                     poll_release    load::<LoadNext>
+//!           I->next->locked := false                           either          store::<StoreSuccessorLocked>
 //! ```
 //!
 //! `locked` is stored before the swap, where the paper stores it behind, so that each pass of the queue but the first has it at 1 from its
 //! swap on. The waiter test, by which a holder learns whether the tail names another, is that of Chehab and others, "CLoF: A Compositional
-//! Lock Framework for Multi-level NUMA Systems", SOSP 2021: `waiter`, `steps::load_tail`. The value is taken out of its slot behind the
+//! Lock Framework for Multi-level NUMA Systems", SOSP 2021: `waiter`, `load::<LoadTail>`. The value is taken out of its slot behind the
 //! step that found no predecessor or `locked` at 0, and put back before the steps of the release. Each step is a sequentially consistent
 //! operation on one word.
 //!
 //! A lock that counts its waiters has one word more, `waiting`, which `begin` raises by one before its other steps, the call that takes
 //! lowers by one behind the take, and `waiter` loads in place of the tail.
 //!
-//! The tail and the records stand on lines of their own in one `atomic_table`. `specs/Rule` says what holds of them, `specs/Kinds` has the
+//! The tail and the records stand on lines of their own in one `LockWords`. `specs/Rule` says what holds of them, `specs/Kinds` has the
 //! kinds of step, `specs/Calls` what each call did.
 #![tactic(auto)]
 
+mod calls;
 mod departing;
 mod kinds;
 mod laws;
 mod leave;
 mod lock;
-mod steps;
 
 pub use kinds::{
     CompareAndSwapTail, FetchAndStoreTail, LoadLocked, LoadNext, LoadTail, StoreLocked, StoreNext,

@@ -1,8 +1,0 @@
-use Rattle.std.proofs.Common.{refl}
-use Rattle.mcs_lock.proofs.Own.{own_from}
-use Rattle.mcs_lock.proofs.steps.Words.leave_parts.Goals as goal
-
-pub returns-clause-own : goal.returns-clause-own
-returns-clause-own g c =
-    let l = c.args.leave in
-    own_from _ _ _ _ _ _ l.seat.me.0 c.requires.of l.plain l.row refl refl l.marked c.args.self.now.sized.row
