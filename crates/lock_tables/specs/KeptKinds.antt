@@ -64,12 +64,12 @@ IsRead add e v w = IsUnread e v w
 IsRead exchange e v w = IsUnread e v w
 
 -- an entering step is recorded, and no other is recorded as one
-abbrev pub entries_of : Event → ℕ
-entries_of no_event = 0
-entries_of enter = 1
-entries_of take = 0
-entries_of enter_and_take = 1
-entries_of leave = 0
+abbrev pub IsEntered : Event → View → View → Type 0
+IsEntered no_event v w = w.entries ≡ v.entries
+IsEntered enter v w = w.entries ≡ v.entries + 1
+IsEntered take v w = w.entries ≡ v.entries
+IsEntered enter_and_take v w = w.entries ≡ v.entries + 1
+IsEntered leave v w = w.entries ≡ v.entries
 
 module _ (d : Discipline) (s : Moment d) (word now : ℕ) (w : View) where
   abbrev pub CoreAfter : List ℕ → Type 0
@@ -131,7 +131,7 @@ module _ (d : Discipline) (s : Moment d) (word now : ℕ) (w : View) where
 pub record IsNoted (f : Form) (e : Event) (v w : View) : Type 0 where
   pub same : IsSame v w
   pub steps : w.steps ≡ v.steps + 1
-  pub entries : w.entries ≡ v.entries + entries_of e
+  pub entered : IsEntered e v w
   pub read : IsRead f e v w
 
 abbrev pub IsNotedBy : Form → Outcome → View → ℕ → Type 0

@@ -1,13 +1,11 @@
 -- The kinds of atomic step of a Ticket lock: the word, what the step does to the view of its seat, and its event in the queue.
-use Rattle.std.specs.Prelude.{◌≡◌, ◌≢◌, ℕ, ◌+◌, ◌%◌, ◌^◌, Bool, false, ◌==◌, not}
-use Rattle.atomic_table.specs.Table.{keeps, gives}
-use Rattle.lock_rules.specs.Tag.{Tag}
-use Rattle.lock_rules.specs.declared.view.Phase.TheVariants.{Idle, Queued}
+use Rattle.std.specs.Prelude.{◌≡◌, ℕ, ◌+◌, ◌%◌, ◌^◌, Bool, false, ◌==◌, not}
+use Rattle.lock_rules.specs.Views.{is_counted}
+use Rattle.lock_rules.specs.declared.view.Phase.TheVariants.{Idle, Queued, Holding}
 use Rattle.lock_rules.specs.declared.view.View.{View}
-use Rattle.lock_tables.specs.Happened.{Seated, Stepped, SteppedAndTook, missed_view, took_view, tested_view}
-use Rattle.lock_tables.specs.Queue.{Enters, Takes, Leaves, Stays}
-use Rattle.lock_tables.specs.Rule.{IsLock}
-use Rattle.ticket_lock.specs.Rule.{next, serving, queue_of, ticket_discipline}
+use Rattle.lock_tables.specs.Happened.{missed_view, took_view, tested_view}
+use Rattle.lock_tables.specs.Kinds.{StepKind, load, store, add, no_event, enter, take, leave, always, showing}
+use Rattle.ticket_lock.specs.Rule.{next, serving}
 
 -- the ticket behind this one
 abbrev pub after : ℕ → ℕ
@@ -25,30 +23,47 @@ left_view v = record v { phase = Idle; steps = v.steps + 1; followed = false }
 abbrev pub others_wait : View → ℕ → Bool
 others_wait v found = not (found == after v.ticket)
 
-module _ {V : Type 0} (fit : V → Type 0) (tag_of : V → Tag) (parked : V → Bool) where
-  -- Addition to `next`: Enter
-  abbrev pub Entered : Seated V → ℕ → Seated V → Type 0
-  Entered me found me' = Stepped (IsLock ticket_discipline fit tag_of parked) queue_of Enters keeps next found (after found) me
-      (queued_view me.0 found) me'
+-- Addition to `next` by an idle pass, which is announced where the lock counts: Enter
+abbrev pub add_next : StepKind
+add_next = record {
+  form = add;
+  word = λ v. next;
+  operand = λ v. 1;
+  asks = λ v. (v.phase ≡ Idle) × (v.announced ≡ is_counted v.waiters);
+  tells = λ v found. Unit {0};
+  outcome = always (record { event = enter; after = queued_view });
+}
 
-  -- Load of `serving`: Take where it is the ticket, else no event
-  abbrev pub Took : Seated V → ℕ → Seated V → Type 0
-  Took me found me' = SteppedAndTook (IsLock ticket_discipline fit tag_of parked) queue_of fit tag_of Takes serving found found me
-      (took_view me.0) me'
+-- Load of `serving` by a queued pass: Take where it is the ticket, else no event
+abbrev pub load_serving : StepKind
+load_serving = record {
+  form = load;
+  word = λ v. serving;
+  operand = λ v. 0;
+  asks = λ v. v.phase ≡ Queued;
+  tells = λ v found. Unit {0};
+  outcome = showing (λ v. v.ticket) (record { event = take; after = λ v found. took_view v })
+      (record { event = no_event; after = λ v found. missed_view v });
+}
 
-  abbrev pub Missed : Seated V → ℕ → Seated V → Type 0
-  Missed me found me' = Stepped (IsLock ticket_discipline fit tag_of parked) queue_of Stays keeps serving found found me
-      (missed_view me.0) me'
+-- Load of `next` by `waiter`: no event
+abbrev pub load_next : StepKind
+load_next = record {
+  form = load;
+  word = λ v. next;
+  operand = λ v. 0;
+  asks = λ v. (v.phase ≡ Holding) × (v.announced ≡ false);
+  tells = λ v found. Unit {0};
+  outcome = always (record { event = no_event; after = λ v found. tested_view v (others_wait v found) });
+}
 
-  abbrev pub Polled : Seated V → ℕ → Seated V → Type 0
-  Polled me found me' = (found ≡ me.0.ticket → Took me found me') × (found ≢ me.0.ticket → Missed me found me')
-
-  -- Load of `next` by `waiter`: no event
-  abbrev pub Tested : Seated V → ℕ → Seated V → Type 0
-  Tested me found me' = Stepped (IsLock ticket_discipline fit tag_of parked) queue_of Stays keeps next found found me
-      (tested_view me.0 (others_wait me.0 found)) me'
-
-  -- Store of `serving`: Leave
-  abbrev pub Left : Seated V → ℕ → Seated V → Type 0
-  Left me stored me' = (found : ℕ) × Stepped (IsLock ticket_discipline fit tag_of parked) queue_of Leaves gives serving found stored me
-      (left_view me.0) me'
+-- Store of the next ticket in `serving` by a holder: Leave
+abbrev pub store_serving : StepKind
+store_serving = record {
+  form = store;
+  word = λ v. serving;
+  operand = λ v. after v.ticket;
+  asks = λ v. (v.phase ≡ Holding) × (v.announced ≡ false);
+  tells = λ v found. Unit {0};
+  outcome = always (record { event = leave; after = λ v found. left_view v });
+}

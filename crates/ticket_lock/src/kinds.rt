@@ -1,33 +1,41 @@
 //! The kinds of step on the words of a Ticket lock.
-ghost use Rattle.ticket_lock.specs.Kinds.{Entered, Polled, Tested, Left};
+ghost use Rattle.ticket_lock.specs.Kinds.{add_next, load_serving, load_next, store_serving};
 
-use atomic_table::Play;
-use lock_rules::{Cargo, View};
+use crate::laws::TicketWords;
+use lock_tables::KindOf;
 
 /// The addition to `next`, by which a pass enters the queue.
 pub struct AddNext;
 
-impl<V: Cargo> Play<Option<V>, View> for AddNext {
-    ghost then = { λ _. Entered V.fit V.tag V.parked };
+impl KindOf<TicketWords> for AddNext {
+    ghost kind = { add_next };
+
+    fn is_kept() {}
 }
 
 /// The load of `serving`, by which a pass takes where it is its turn.
 pub struct LoadServing;
 
-impl<V: Cargo> Play<Option<V>, View> for LoadServing {
-    ghost then = { λ _. Polled V.fit V.tag V.parked };
+impl KindOf<TicketWords> for LoadServing {
+    ghost kind = { load_serving };
+
+    fn is_kept() {}
 }
 
 /// The load of `next`, by which a holder learns of waiters.
 pub struct LoadNext;
 
-impl<V: Cargo> Play<Option<V>, View> for LoadNext {
-    ghost then = { λ _. Tested V.fit V.tag V.parked };
+impl KindOf<TicketWords> for LoadNext {
+    ghost kind = { load_next };
+
+    fn is_kept() {}
 }
 
 /// The store of `serving`, by which a holder leaves the queue.
 pub struct StoreServing;
 
-impl<V: Cargo> Play<Option<V>, View> for StoreServing {
-    ghost then = { λ _. Left V.fit V.tag V.parked };
+impl KindOf<TicketWords> for StoreServing {
+    ghost kind = { store_serving };
+
+    fn is_kept() {}
 }

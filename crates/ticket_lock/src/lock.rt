@@ -1,6 +1,5 @@
 //! The lock and its calls.
 ghost use Rattle.std.specs.Prelude.{◌≡◌, ◌≢◌, ◌+◌, true, false, refl};
-ghost use Rattle.crossbeam_utils.specs.Padded.{padded_value};
 ghost use Rattle.lock_rules.specs.declared.view.Algorithm.TheVariants.{Ticket as ticket_algorithm};
 ghost use Rattle.lock_rules.specs.declared.step.Answer.TheVariants.{Open, Yes};
 ghost use Rattle.lock_rules.specs.Views.{lock_name, answer_of};
@@ -9,20 +8,26 @@ ghost use Rattle.lock_rules.specs.Steps.{IfNot, IfGot, IsNot, IsGot};
 ghost use Rattle.lock_rules.specs.Passes.{IsOf, AreAll};
 ghost use Rattle.lock_rules.specs.Tokens.{view_of, badge_place, badge_waiting};
 ghost use Rattle.lock_tables.specs.Happened.{counting};
-ghost use Rattle.lock_tables.specs.Seats.{IsOwn};
+ghost use Rattle.lock_tables.specs.Words.{words_key, words_table, IsOwnOf};
 ghost use Rattle.ticket_lock.specs.Choice.{ticket_waiters};
 ghost use Rattle.ticket_lock.specs.Calls.{HasEntered, HasMissed, HasTaken, HasAsked, HasLeft};
 
+use crate::kinds::{AddNext, LoadNext, LoadServing, StoreServing};
 use crate::laws::TicketWords;
-use crate::steps::Words;
 use lock_rules::{Basic, Cargo, Held, Left, Pass, Queue, Refused, Step, Waiters};
-use lock_tables::Ruled;
+use lock_tables::{LockWords, Ruled};
 use std::alloc::Global;
 
-/// The Ticket lock. Its words and its slot lie in one table.
+const NEXT: usize = 16;
+
+const SERVING: usize = 32;
+
+const OPENING: [u64; 48] = [0; 48];
+
+/// The Ticket lock: the words `next` and `serving`, each on a line of its own, and its slot.
 #[derive(Drop)]
 pub struct Ticket<V: Cargo> {
-    words: Words<V>,
+    words: LockWords<V, TicketWords>,
 }
 
 impl<V: Cargo> Ticket<V> {
@@ -30,7 +35,7 @@ impl<V: Cargo> Ticket<V> {
     pub fn waiters(&self) -> Waiters
         ensures { result ≡ ticket_waiters self.now }
     {
-        self.words.waiters
+        self.words.waiters()
     }
 }
 
@@ -45,12 +50,11 @@ impl<V: Cargo> Basic<V> for Ticket<V> {
 
     type Leave = Left;
 
-    ghost name = { λ l. lock_name ticket_algorithm (padded_value l.words.table).shared.key.waiters
-        (padded_value l.words.table).shared.table_id };
+    ghost name = { λ l. lock_name ticket_algorithm (words_key l.words).waiters (words_table l.words) };
 
-    ghost tag = { λ l. V.tag (padded_value l.words.table).shared.key.value.value };
+    ghost tag = { λ l. V.tag (words_key l.words).value.value };
 
-    ghost count = { λ l. (padded_value l.words.table).shared.key.passes };
+    ghost count = { λ l. (words_key l.words).passes };
 
     ghost made = { λ l waiters. ticket_waiters l ≡ waiters };
 
@@ -60,14 +64,13 @@ impl<V: Cargo> Basic<V> for Ticket<V> {
         passes: u32,
         value: V,
     ) -> Result<(Ticket<V>, Vec<Pass>), Refused<V>> {
-        let (words, list) = Words::make(alloc, waiters, passes, value)?;
+        let (words, list) = LockWords::make(alloc, &OPENING, waiters, passes, value)?;
         Ok((Ticket { words }, list))
     }
 
     /// The answer is always `Not`: a pass draws its ticket, and looks whether it is served by `poll` alone.
     fn begin(&self, pass: Pass) -> Step<Queue, Held<V>>
-        requires own { IsOwn V.tag ticket_algorithm (padded_value self.now.words.table).shared.table_id
-            (padded_value self.now.words.table).shared.key (badge_place pass.badge) }
+        requires own { IsOwnOf V.tag ticket_algorithm self.now.words (badge_place pass.badge) }
         ensures only_queues { IsNot result }
         ensures did { IfNot result (λ q. HasEntered V.fit V.tag V.parked pass.badge q.badge) }
         ensures queue { IfNot result (λ q. (badge_waiting q.badge).place ≡ badge_place pass.badge) }
@@ -76,19 +79,18 @@ impl<V: Cargo> Basic<V> for Ticket<V> {
             ≡ (view_of pass.badge).steps + counting (view_of pass.badge).waiters + 1) }
         ensures held { IfGot result (λ h. (holder_of h).place ≡ badge_place pass.badge) }
         ensures fit { IfGot result (λ h. V.fit h.value) }
-        ensures tagged { IfGot result (λ h. V.tag h.value ≡ V.tag (padded_value self.now.words.table).shared.key.value.value) }
+        ensures tagged { IfGot result (λ h. V.tag h.value ≡ V.tag (words_key self.now.words).value.value) }
         ensures untested { IfGot result (λ h. (holder_of h).tested ≡ Open) }
     {
-        let mut seat = self.words.pass_seat(pass);
+        let (mut seat, _) = self.words.pass_parts(pass);
         self.words.announce(&mut seat);
-        let ticket = self.words.fetch_and_increment_next(&mut seat);
+        let ticket = self.words.fetch_add::<AddNext>(&mut seat, NEXT, 1);
         Step::Not(Queue::of(seat, ticket, 0))
     }
 
     /// The answer is `Not` exactly where the loaded word isn't the pass's ticket. Else the value that was at home is the holder's.
     fn poll(&self, queue: Queue) -> Step<Queue, Held<V>>
-        requires own { IsOwn V.tag ticket_algorithm (padded_value self.now.words.table).shared.table_id
-            (padded_value self.now.words.table).shared.key (badge_waiting queue.badge).place }
+        requires own { IsOwnOf V.tag ticket_algorithm self.now.words (badge_waiting queue.badge).place }
         ensures missed { IfNot result (λ q. HasMissed V.fit V.tag V.parked queue.badge q.badge) }
         ensures took { IfGot result (λ h. HasTaken V.fit V.tag V.parked queue.badge h) }
         ensures queue { IfNot result (λ q. (badge_waiting q.badge).place ≡ (badge_waiting queue.badge).place) }
@@ -99,11 +101,11 @@ impl<V: Cargo> Basic<V> for Ticket<V> {
             ≡ (view_of queue.badge).steps + 1 + counting (view_of queue.badge).waiters) }
         ensures held { IfGot result (λ h. (holder_of h).place ≡ (badge_waiting queue.badge).place) }
         ensures fit { IfGot result (λ h. V.fit h.value) }
-        ensures tagged { IfGot result (λ h. V.tag h.value ≡ V.tag (padded_value self.now.words.table).shared.key.value.value) }
+        ensures tagged { IfGot result (λ h. V.tag h.value ≡ V.tag (words_key self.now.words).value.value) }
         ensures untested { IfGot result (λ h. (holder_of h).tested ≡ Open) }
     {
         let (mut seat, ticket, predecessor) = self.words.queue_parts(queue);
-        if self.words.load_serving(&mut seat) != ticket {
+        if self.words.load::<LoadServing>(&mut seat, SERVING) != ticket {
             return Step::Not(Queue::of(seat, ticket, predecessor));
         }
         let value = self.words.take(&mut seat);
@@ -113,8 +115,7 @@ impl<V: Cargo> Basic<V> for Ticket<V> {
 
     /// The answer is yes exactly where the loaded word isn't the ticket behind the holder's or, in a lock that counts, isn't 0.
     fn waiter(&self, held: &mut Held<V>) -> bool
-        requires own { IsOwn V.tag ticket_algorithm (padded_value self.now.words.table).shared.table_id
-            (padded_value self.now.words.table).shared.key (holder_of held.old).place }
+        requires own { IsOwnOf V.tag ticket_algorithm self.now.words (holder_of held.old).place }
         ensures asked { HasAsked V.fit V.tag V.parked held.old held.new result }
         ensures place { (holder_of held.new).place ≡ (holder_of held.old).place }
         ensures value { held.new.value ≡ held.old.value }
@@ -122,20 +123,19 @@ impl<V: Cargo> Basic<V> for Ticket<V> {
         ensures noted { (holder_of held.new).tested ≡ answer_of result }
         ensures steps { (held_view held.new).steps ≡ (held_view held.old).steps + 1 }
     {
-        let ticket = self.words.held_ticket(held);
+        let ticket = self.words.held_mark(held);
         let seat = &mut held.seat.seat;
-        match self.words.waiters {
-            Waiters::Queue => self.words.load_next(seat) != ticket.wrapping_add(1),
+        match self.words.waiters() {
+            Waiters::Queue => self.words.load::<LoadNext>(seat, NEXT) != ticket.wrapping_add(1),
             Waiters::Count => self.words.count_waiting(seat) != 0,
         }
     }
 
     /// The answer is never `Not`: the value is put back, and the next ticket is served.
     fn begin_release(&self, held: Held<V>) -> Step<Left, Pass>
-        requires own { IsOwn V.tag ticket_algorithm (padded_value self.now.words.table).shared.table_id
-            (padded_value self.now.words.table).shared.key (holder_of held).place }
+        requires own { IsOwnOf V.tag ticket_algorithm self.now.words (holder_of held).place }
         requires fit { V.fit held.value }
-        requires tagged { V.tag held.value ≡ V.tag (padded_value self.now.words.table).shared.key.value.value }
+        requires tagged { V.tag held.value ≡ V.tag (words_key self.now.words).value.value }
         requires relied_on { V.parked held.value ≡ true → (holder_of held).tested ≡ Yes }
         requires said { V.said held.value ≢ Open → V.said held.value ≡ (holder_of held).tested }
         ensures leaves_at_once { IsGot result }
@@ -147,17 +147,16 @@ impl<V: Cargo> Basic<V> for Ticket<V> {
         ensures pass { IfGot result (λ p. badge_place p.badge ≡ (holder_of held).place) }
         ensures steps { IfGot result (λ p. (view_of p.badge).steps ≡ (held_view held).steps + 1) }
     {
-        let (mut seat, value, ticket) = self.words.held_parts(held);
+        let (mut seat, value, ticket, _) = self.words.held_parts(held);
         self.words.put(&mut seat, value);
         let next = ticket.wrapping_add(1);
-        self.words.store_serving(&mut seat, next);
+        self.words.store::<StoreServing>(&mut seat, SERVING, next);
         Step::Got(Pass::of(seat, ticket))
     }
 
     /// The answer is never `Not`.
     fn poll_release(&self, leave: Left) -> Step<Left, Pass>
-        requires own { IsOwn V.tag ticket_algorithm (padded_value self.now.words.table).shared.table_id
-            (padded_value self.now.words.table).shared.key (badge_waiting leave.pass.badge).place }
+        requires own { IsOwnOf V.tag ticket_algorithm self.now.words (badge_waiting leave.pass.badge).place }
         ensures leaves_at_once { IsGot result }
         ensures leave { IfNot result (λ l. (badge_waiting l.pass.badge).place ≡ (badge_waiting leave.pass.badge).place) }
         ensures loaded { IfNot result (λ l. (badge_waiting l.pass.badge).loads ≡ (badge_waiting leave.pass.badge).loads + 1) }
@@ -170,11 +169,10 @@ impl<V: Cargo> Basic<V> for Ticket<V> {
     }
 
     fn close(self, passes: Vec<Pass>) -> V
-        requires all { AreAll (λ p. badge_place p.badge) (lock_name ticket_algorithm (padded_value self.words.table).shared.key.waiters
-            (padded_value self.words.table).shared.table_id)
-            (V.tag (padded_value self.words.table).shared.key.value.value) (padded_value self.words.table).shared.key.passes passes.items }
+        requires all { AreAll (λ p. badge_place p.badge) (lock_name ticket_algorithm (words_key self.words).waiters (words_table self.words))
+            (V.tag (words_key self.words).value.value) (words_key self.words).passes passes.items }
         ensures fit { V.fit result }
-        ensures tagged { V.tag result ≡ V.tag (padded_value self.words.table).shared.key.value.value }
+        ensures tagged { V.tag result ≡ V.tag (words_key self.words).value.value }
         ensures unparked { V.parked result ≡ false }
     {
         let Ticket { words } = self;
@@ -185,9 +183,9 @@ impl<V: Cargo> Basic<V> for Ticket<V> {
 impl<V: Cargo> Ruled<V> for Ticket<V> {
     type Algorithm = TicketWords;
 
-    ghost table = { λ l. (padded_value l.words.table).shared.table_id };
+    ghost table = { λ l. words_table l.words };
 
-    ghost waiters = { λ l. (padded_value l.words.table).shared.key.waiters };
+    ghost waiters = { λ l. (words_key l.words).waiters };
 
     ghost named = { λ l. refl };
 }
