@@ -9,10 +9,10 @@ use Rattle.lock_rules.specs.declared.view.View.{View}
 use Rattle.lock_rules.specs.declared.view.Waiters.{Waiters}
 use Rattle.lock_rules.specs.declared.view.Waiters.TheVariants.{Queue, Count}
 use Rattle.lock_tables.specs.Counting.{is_announced, Counted, HasAnnounced, HasWithdrawn}
-use Rattle.lock_tables.specs.Happened.{Seated, announced_view, missed_view, took_view}
-use Rattle.lock_tables.specs.Kinds.{StepKind, take, no_event, Did, Made}
-use Rattle.clh_lock.specs.Kinds.{others_wait, store_pending, fetch_and_store_tail, load_tail, store_granted}
-use Rattle.clh_lock.specs.Rule.{flag, granted, clh_discipline}
+use Rattle.lock_tables.specs.Happened.{Seated, announced_view, took_view}
+use Rattle.lock_tables.specs.Kinds.{StepKind, Made}
+use Rattle.clh_lock.specs.Kinds.{others_wait, store_pending, fetch_and_store_tail, load_watched, load_tail, store_granted}
+use Rattle.clh_lock.specs.Rule.{granted, clh_discipline}
 
 module _ {V : Type 0} (fit : V → Type 0) (tag_of : V → Tag) (parked : V → Bool) where
   -- the record of a step of this kind
@@ -35,16 +35,14 @@ module _ {V : Type 0} (fit : V → Type 0) (tag_of : V → Tag) (parked : V → 
   pub record HasMissed (before after : Badge View) : Type 0 where
     pub found : ℕ
     pub other : found ≢ granted
-    pub step : Did clh_discipline fit tag_of parked no_event (flag (view_of before).predecessor) found found (view_of before, [])
-        (missed_view (view_of before)) (view_of after, [])
+    pub step : HasMade load_watched (view_of before, []) found (view_of after, [])
 
   -- a load of the predecessor's flag that showed it granted; the value that was at home is the holder's. Behind it, in a counted lock, the
   -- subtraction from `waiting`
   pub record HasTaken (before : Badge View) (after : Held V) : Type 0 where
     pub found : ℕ
     pub shown : found ≡ granted
-    pub step : Did clh_discipline fit tag_of parked take (flag (view_of before).predecessor) found found (view_of before, [])
-        (took_view (view_of before)) (took_view (view_of before), (0, Some after.value) ∷ [])
+    pub step : HasMade load_watched (view_of before, []) found (took_view (view_of before), (0, Some after.value) ∷ [])
     pub withdrawn : HasWithdrawn clh_discipline fit tag_of parked (view_of before).waiters (took_view (view_of before), (0, None) ∷ [])
         (held_view after, (0, None) ∷ [])
 
