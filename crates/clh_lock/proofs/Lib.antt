@@ -2,5 +2,4 @@ pub mod Nodes
 pub mod Chain
 pub mod Queue
 pub mod Kept
-pub mod Tokens
 pub mod Owners

@@ -1,14 +1,11 @@
--- The kinds of atomic step of a CLH lock, but for those on `waiting`: the word, what the step does to the view of its seat, and its event
--- in the queue.
-use Rattle.std.specs.Prelude.{◌≡◌, ◌≢◌, ℕ, ◌+◌, ◌≤◌, Bool, true, false, ◌==◌, not, List, Option}
-use Rattle.atomic_table.specs.Table.{Act, keeps, gives}
-use Rattle.lock_rules.specs.Tag.{Tag}
-use Rattle.lock_rules.specs.declared.view.Phase.TheVariants.{Idle, Queued}
+-- The kinds of atomic step of a CLH lock: the word, what the step does to the view of its seat, and its event in the queue.
+use Rattle.std.specs.Prelude.{◌≡◌, ℕ, ◌+◌, ◌≤◌, Bool, true, false, ◌==◌, not}
+use Rattle.lock_rules.specs.Views.{is_counted}
+use Rattle.lock_rules.specs.declared.view.Phase.TheVariants.{Idle, Queued, Holding}
 use Rattle.lock_rules.specs.declared.view.View.{View}
-use Rattle.lock_tables.specs.Happened.{Seated, Stepped, SteppedAndTook, missed_view, took_view, tested_view}
-use Rattle.lock_tables.specs.Queue.{Enters, Takes, Leaves, Stays}
-use Rattle.lock_tables.specs.Rule.{IsLock}
-use Rattle.clh_lock.specs.Rule.{tail, flag, pending, granted, queue_of, clh_discipline}
+use Rattle.lock_tables.specs.Happened.{missed_view, took_view, tested_view}
+use Rattle.lock_tables.specs.Kinds.{StepKind, load, store, swap, no_event, enter, take, leave, always, showing}
+use Rattle.clh_lock.specs.Rule.{tail, flag, pending, granted}
 
 -- the pass has stored its flag
 abbrev pub raised_view : View → View
@@ -26,34 +23,59 @@ left_view v = record v { phase = Idle; steps = v.steps + 1; node = v.predecessor
 abbrev pub others_wait : View → ℕ → Bool
 others_wait v found = not (found == v.node)
 
-module _ {V : Type 0} (fit : V → Type 0) (tag_of : V → Tag) (parked : V → Bool) where
-  -- a step on a word, under the rule of a CLH lock
-  abbrev pub ClhStep : (ℕ → List ℕ → List ℕ → Type 0) → Act (Option V) → ℕ → ℕ → ℕ → Seated V → View → Seated V → Type 0
-  ClhStep = Stepped (IsLock clh_discipline fit tag_of parked) queue_of
+-- Store of own flag by an idle pass: no event
+abbrev pub store_pending : StepKind
+store_pending = record {
+  form = store;
+  word = λ v. flag v.node;
+  operand = λ v. pending;
+  asks = λ v. v.phase ≡ Idle;
+  tells = λ v found. Unit {0};
+  outcome = always (record { event = no_event; after = λ v found. raised_view v });
+}
 
-  -- Store of own flag: no event
-  abbrev pub Raised : Seated V → Seated V → Type 0
-  Raised me me' = (found : ℕ) × ClhStep Stays keeps (flag me.0.node) found pending me (raised_view me.0) me'
+-- Swap of `tail` with the own node by an idle pass that has stored its flag and is announced where the lock counts: Enter. What was found
+-- is a node of the lock
+abbrev pub fetch_and_store_tail : StepKind
+fetch_and_store_tail = record {
+  form = swap;
+  word = λ v. tail;
+  operand = λ v. v.node;
+  asks = λ v. (v.phase ≡ Idle) × (v.raised ≡ true) × (v.announced ≡ is_counted v.waiters);
+  tells = λ v found. found ≤ v.count;
+  outcome = always (record { event = enter; after = queued_view });
+}
 
-  -- Swap of `tail` with the own node: Enter. What was found is a node of the lock
-  abbrev pub Entered : Seated V → ℕ → Seated V → Type 0
-  Entered me found me' = (found ≤ me.0.count) × ClhStep Enters keeps tail found me.0.node me (queued_view me.0 found) me'
+-- Load of the predecessor's flag by a queued pass: Take where it is granted, else no event
+abbrev pub load_watched : StepKind
+load_watched = record {
+  form = load;
+  word = λ v. flag v.predecessor;
+  operand = λ v. 0;
+  asks = λ v. v.phase ≡ Queued;
+  tells = λ v found. Unit {0};
+  outcome = showing (λ v. granted) (record { event = take; after = λ v found. took_view v })
+      (record { event = no_event; after = λ v found. missed_view v });
+}
 
-  -- Load of the predecessor's flag: Take where it is granted, else no event
-  abbrev pub Took : Seated V → ℕ → Seated V → Type 0
-  Took me found me' = SteppedAndTook (IsLock clh_discipline fit tag_of parked) queue_of fit tag_of Takes
-      (flag me.0.predecessor) found found me (took_view me.0) me'
+-- Load of `tail` by `waiter`: no event
+abbrev pub load_tail : StepKind
+load_tail = record {
+  form = load;
+  word = λ v. tail;
+  operand = λ v. 0;
+  asks = λ v. (v.phase ≡ Holding) × (v.announced ≡ false);
+  tells = λ v found. Unit {0};
+  outcome = always (record { event = no_event; after = λ v found. tested_view v (others_wait v found) });
+}
 
-  abbrev pub Missed : Seated V → ℕ → Seated V → Type 0
-  Missed me found me' = ClhStep Stays keeps (flag me.0.predecessor) found found me (missed_view me.0) me'
-
-  abbrev pub Polled : Seated V → ℕ → Seated V → Type 0
-  Polled me found me' = (found ≡ granted → Took me found me') × (found ≢ granted → Missed me found me')
-
-  -- Load of `tail` by `waiter`: no event
-  abbrev pub Tested : Seated V → ℕ → Seated V → Type 0
-  Tested me found me' = ClhStep Stays keeps tail found found me (tested_view me.0 (others_wait me.0 found)) me'
-
-  -- Store of own flag, by which the predecessor's node becomes own: Leave
-  abbrev pub Left : Seated V → Seated V → Type 0
-  Left me me' = (found : ℕ) × ClhStep Leaves gives (flag me.0.node) found granted me (left_view me.0) me'
+-- Store of own flag by a holder, by which the predecessor's node becomes own: Leave
+abbrev pub store_granted : StepKind
+store_granted = record {
+  form = store;
+  word = λ v. flag v.node;
+  operand = λ v. granted;
+  asks = λ v. (v.phase ≡ Holding) × (v.announced ≡ false);
+  tells = λ v found. Unit {0};
+  outcome = always (record { event = leave; after = λ v found. left_view v });
+}

@@ -1,40 +1,50 @@
 //! The kinds of step on the words of a CLH lock, but for `waiting`.
-ghost use Rattle.clh_lock.specs.Kinds.{Raised, Entered, Polled, Tested, Left};
+ghost use Rattle.clh_lock.specs.Kinds.{store_pending, fetch_and_store_tail, load_watched, load_tail, store_granted};
 
-use atomic_table::Play;
-use lock_rules::{Cargo, View};
+use crate::laws::ClhWords;
+use lock_tables::KindOf;
 
 /// The store of own flag, by which a pass makes its node pending for its swap.
 pub struct StorePending;
 
-impl<V: Cargo> Play<Option<V>, View> for StorePending {
-    ghost then = { λ _ me _. Raised V.fit V.tag V.parked me };
+impl KindOf<ClhWords> for StorePending {
+    ghost kind = { store_pending };
+
+    fn is_kept() {}
 }
 
 /// The swap of `tail`, by which a pass enters the queue.
 pub struct FetchAndStoreTail;
 
-impl<V: Cargo> Play<Option<V>, View> for FetchAndStoreTail {
-    ghost then = { λ _. Entered V.fit V.tag V.parked };
+impl KindOf<ClhWords> for FetchAndStoreTail {
+    ghost kind = { fetch_and_store_tail };
+
+    fn is_kept() {}
 }
 
 /// The load of the predecessor's flag, by which a pass takes where it is granted.
 pub struct LoadWatched;
 
-impl<V: Cargo> Play<Option<V>, View> for LoadWatched {
-    ghost then = { λ _. Polled V.fit V.tag V.parked };
+impl KindOf<ClhWords> for LoadWatched {
+    ghost kind = { load_watched };
+
+    fn is_kept() {}
 }
 
 /// The load of `tail`, by which a holder learns of waiters.
 pub struct LoadTail;
 
-impl<V: Cargo> Play<Option<V>, View> for LoadTail {
-    ghost then = { λ _. Tested V.fit V.tag V.parked };
+impl KindOf<ClhWords> for LoadTail {
+    ghost kind = { load_tail };
+
+    fn is_kept() {}
 }
 
 /// The store of own flag, by which a holder grants its node and leaves the queue.
 pub struct StoreGranted;
 
-impl<V: Cargo> Play<Option<V>, View> for StoreGranted {
-    ghost then = { λ _ me _. Left V.fit V.tag V.parked me };
+impl KindOf<ClhWords> for StoreGranted {
+    ghost kind = { store_granted };
+
+    fn is_kept() {}
 }

@@ -5,10 +5,10 @@
 //! 8th International Parallel Processing Symposium, 1994:
 //!
 //! ```text
-//! request   myreq.state := PENDING                 begin           steps::store_pending
-//!           watch := fetch_and_store(tail, myreq)                  steps::fetch_and_store_tail
-//!           repeat until watch.state = GRANTED     poll, once      steps::load_watched
-//! grant     myreq.state := GRANTED                 begin_release   steps::store_granted
+//! request   myreq.state := PENDING                 begin           store::<StorePending>
+//!           watch := fetch_and_store(tail, myreq)                  swap::<FetchAndStoreTail>
+//!           repeat until watch.state = GRANTED     poll, once      load::<LoadWatched>
+//! grant     myreq.state := GRANTED                 begin_release   store::<StoreGranted>
 //!           myreq := watch
 //! ```
 //!
@@ -17,21 +17,21 @@
 //! that it leaves behind can still be watched.
 //!
 //! The waiter test, by which a holder learns whether `tail` still is its own node, is that of Chehab and others, "CLoF: A
-//! Compositional Lock Framework for Multi-level NUMA Systems", SOSP 2021: `waiter`, `steps::load_tail`. The value is taken out of its
+//! Compositional Lock Framework for Multi-level NUMA Systems", SOSP 2021: `waiter`, `load::<LoadTail>`. The value is taken out of its
 //! slot behind the load that showed the flag granted, and put back before the store. Each step is a sequentially consistent operation
 //! on one word.
 //!
 //! In a lock that counts its waiters, `begin` adds 1 to the word `waiting` before its other steps, a `poll` that takes subtracts 1 from it
 //! as its last step, and `waiter` loads it in place of `tail`. These three steps are those of `lock_tables`.
 //!
-//! `waiting`, `tail` and the flags stand on lines of their own in one `atomic_table`. `specs/Rule` says what holds of `tail` and the flags,
-//! `specs/Kinds` has the kinds of step, and `specs/Nodes` what the rule says of the nodes.
+//! `waiting`, `tail` and the flags stand on lines of their own in one `LockWords`. `specs/Rule` says what holds of `tail` and the flags,
+//! `specs/Kinds` has the kinds of step: the word, what a step does to it and to the view of its seat, and its event in the queue.
+//! `specs/Nodes` has what the rule says of the nodes.
 #![tactic(auto)]
 
 mod kinds;
 mod laws;
 mod lock;
-mod steps;
 
 pub use kinds::{FetchAndStoreTail, LoadTail, LoadWatched, StoreGranted, StorePending};
 pub use laws::{ClhWords, rule_has_nodes};

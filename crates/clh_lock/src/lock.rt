@@ -1,6 +1,5 @@
 //! The lock and its calls.
-ghost use Rattle.std.specs.Prelude.{◌≡◌, ◌≢◌, ◌+◌, true, false, refl};
-ghost use Rattle.crossbeam_utils.specs.Padded.{padded_value};
+ghost use Rattle.std.specs.Prelude.{◌≡◌, ◌≢◌, ◌+◌, ◌<◌, ◌^◌, true, false, refl, IfOk};
 ghost use Rattle.lock_rules.specs.declared.view.Algorithm.TheVariants.{Clh as clh_algorithm};
 ghost use Rattle.lock_rules.specs.declared.step.Answer.TheVariants.{Open, Yes};
 ghost use Rattle.lock_rules.specs.Views.{lock_name, answer_of};
@@ -9,28 +8,57 @@ ghost use Rattle.lock_rules.specs.Steps.{IfNot, IfGot, IsNot, IsGot};
 ghost use Rattle.lock_rules.specs.Passes.{IsOf, AreAll};
 ghost use Rattle.lock_rules.specs.Tokens.{view_of, badge_place, badge_waiting};
 ghost use Rattle.lock_tables.specs.Happened.{counting};
-ghost use Rattle.lock_tables.specs.Seats.{IsOwn};
-ghost use Rattle.clh_lock.specs.Choice.{clh_waiters};
+ghost use Rattle.lock_tables.specs.Seats.{IsSized};
+ghost use Rattle.lock_tables.specs.Words.{words_key, words_table, IsOwnOf};
 ghost use Rattle.clh_lock.specs.Calls.{HasEntered, HasMissed, HasTaken, HasAsked, HasLeft};
+ghost use Rattle.clh_lock.specs.Rule.{flag, opens};
 
+use crate::kinds::{FetchAndStoreTail, LoadTail, LoadWatched, StoreGranted, StorePending};
 use crate::laws::ClhWords;
-use crate::steps::{GRANTED, Words};
 use lock_rules::{Basic, Cargo, Held, Left, Pass, Queue, Refused, Step, Waiters};
-use lock_tables::Ruled;
-use std::alloc::Global;
+use lock_tables::{LockWords, Ruled};
+use std::alloc::{AllocError, Global};
 
-/// The CLH lock. Its words and its slot lie in one table.
+const PENDING: u64 = 1;
+
+const GRANTED: u64 = 0;
+
+/// How many words a line has, and how many stand before the first.
+const LINE: usize = 16;
+
+const TAIL: usize = 16;
+
+/// The words of a new lock.
+fn open(alloc: Global, passes: u32) -> Result<Vec<u64>, AllocError>
+    ensures { IfOk result (λ w. w.items ≡ opens passes) }
+{
+    let mut words = vec![in alloc; GRANTED; LINE * (passes as usize + 3)]?;
+    words[TAIL] = u64::from(passes);
+    Ok(words)
+}
+
+/// Where the flag of a node is.
+fn flag_of(node: u64) -> usize
+    requires { node < 2 ^ 32 }
+    ensures { result ≡ flag node }
+{
+    LINE * (node as usize + 2)
+}
+
+/// The CLH lock: the words `waiting` and `tail` and the flags, each on a line of its own, and its slot.
 #[derive(Drop)]
 pub struct Clh<V: Cargo> {
-    words: Words<V>,
+    words: LockWords<V, ClhWords>,
+    ghost sized: { IsSized clh_algorithm (words_key words).passes (words_table words) },
+    ghost few: { (words_key words).passes < 2 ^ 32 },
 }
 
 impl<V: Cargo> Clh<V> {
     /// How it learns of waiters.
     pub fn waiters(&self) -> Waiters
-        ensures { result ≡ clh_waiters self.now }
+        ensures { result ≡ (words_key self.now.words).waiters }
     {
-        self.words.waiters
+        self.words.waiters()
     }
 }
 
@@ -45,14 +73,13 @@ impl<V: Cargo> Basic<V> for Clh<V> {
 
     type Leave = Left;
 
-    ghost name = { λ l. lock_name clh_algorithm (padded_value l.words.table).shared.key.waiters
-        (padded_value l.words.table).shared.table_id };
+    ghost name = { λ l. lock_name clh_algorithm (words_key l.words).waiters (words_table l.words) };
 
-    ghost tag = { λ l. V.tag (padded_value l.words.table).shared.key.value.value };
+    ghost tag = { λ l. V.tag (words_key l.words).value.value };
 
-    ghost count = { λ l. (padded_value l.words.table).shared.key.passes };
+    ghost count = { λ l. (words_key l.words).passes };
 
-    ghost made = { λ l c. clh_waiters l ≡ c };
+    ghost made = { λ l waiters. (words_key l.words).waiters ≡ waiters };
 
     fn make(
         alloc: Global,
@@ -60,14 +87,16 @@ impl<V: Cargo> Basic<V> for Clh<V> {
         passes: u32,
         value: V,
     ) -> Result<(Clh<V>, Vec<Pass>), Refused<V>> {
-        let (words, list) = Words::make(alloc, waiters, passes, value)?;
+        let Ok(opening) = open(alloc, passes) else {
+            return Err(Refused { value });
+        };
+        let (words, list) = LockWords::make(alloc, &opening, waiters, passes, value)?;
         Ok((Clh { words }, list))
     }
 
     /// The answer is always `Not`: a pass swaps its node into `tail`, and looks whether the node before it is granted by `poll` alone.
     fn begin(&self, pass: Pass) -> Step<Queue, Held<V>>
-        requires own { IsOwn V.tag clh_algorithm (padded_value self.now.words.table).shared.table_id
-            (padded_value self.now.words.table).shared.key (badge_place pass.badge) }
+        requires own { IsOwnOf V.tag clh_algorithm self.now.words (badge_place pass.badge) }
         ensures only_queues { IsNot result }
         ensures did { IfNot result (λ q. HasEntered V.fit V.tag V.parked pass.badge q.badge) }
         ensures steps { IfNot result (λ q. (view_of q.badge).steps
@@ -76,21 +105,21 @@ impl<V: Cargo> Basic<V> for Clh<V> {
         ensures entered { IfNot result (λ q. (view_of q.badge).entries ≡ (view_of pass.badge).entries + 1) }
         ensures held { IfGot result (λ h. (holder_of h).place ≡ badge_place pass.badge) }
         ensures fit { IfGot result (λ h. V.fit h.value) }
-        ensures tagged { IfGot result (λ h. V.tag h.value ≡ V.tag (padded_value self.now.words.table).shared.key.value.value) }
+        ensures tagged { IfGot result (λ h. V.tag h.value ≡ V.tag (words_key self.now.words).value.value) }
         ensures untested { IfGot result (λ h. (holder_of h).tested ≡ Open) }
     {
         let (mut seat, node) = self.words.pass_parts(pass);
         self.words.announce(&mut seat);
-        self.words.store_pending(&mut seat, node);
-        let predecessor = self.words.fetch_and_store_tail(&mut seat, node);
+        self.words
+            .store::<StorePending>(&mut seat, flag_of(node), PENDING);
+        let predecessor = self.words.swap::<FetchAndStoreTail>(&mut seat, TAIL, node);
         Step::Not(Queue::of(seat, node, predecessor))
     }
 
     /// The answer is `Not` exactly where the flag of the node that the pass watches isn't granted. Else the value that was at home is the
     /// holder's.
     fn poll(&self, queue: Queue) -> Step<Queue, Held<V>>
-        requires own { IsOwn V.tag clh_algorithm (padded_value self.now.words.table).shared.table_id
-            (padded_value self.now.words.table).shared.key (badge_waiting queue.badge).place }
+        requires own { IsOwnOf V.tag clh_algorithm self.now.words (badge_waiting queue.badge).place }
         ensures missed { IfNot result (λ q. HasMissed V.fit V.tag V.parked queue.badge q.badge) }
         ensures took { IfGot result (λ h. HasTaken V.fit V.tag V.parked queue.badge h) }
         ensures steps { IfNot result (λ q. (view_of q.badge).steps ≡ (view_of queue.badge).steps + 1) }
@@ -101,11 +130,15 @@ impl<V: Cargo> Basic<V> for Clh<V> {
         ensures unready { IfNot result (λ q. (badge_waiting q.badge).ready ≡ false) }
         ensures held { IfGot result (λ h. (holder_of h).place ≡ (badge_waiting queue.badge).place) }
         ensures fit { IfGot result (λ h. V.fit h.value) }
-        ensures tagged { IfGot result (λ h. V.tag h.value ≡ V.tag (padded_value self.now.words.table).shared.key.value.value) }
+        ensures tagged { IfGot result (λ h. V.tag h.value ≡ V.tag (words_key self.now.words).value.value) }
         ensures untested { IfGot result (λ h. (holder_of h).tested ≡ Open) }
     {
         let (mut seat, node, predecessor) = self.words.queue_parts(queue);
-        if self.words.load_watched(&mut seat, predecessor) != GRANTED {
+        if self
+            .words
+            .load::<LoadWatched>(&mut seat, flag_of(predecessor))
+            != GRANTED
+        {
             return Step::Not(Queue::of(seat, node, predecessor));
         }
         let value = self.words.take(&mut seat);
@@ -115,8 +148,7 @@ impl<V: Cargo> Basic<V> for Clh<V> {
 
     /// The answer is yes exactly where `tail` isn't the holder's own node or, in a lock that counts its waiters, `waiting` isn't 0.
     fn waiter(&self, held: &mut Held<V>) -> bool
-        requires own { IsOwn V.tag clh_algorithm (padded_value self.now.words.table).shared.table_id
-            (padded_value self.now.words.table).shared.key (holder_of held.old).place }
+        requires own { IsOwnOf V.tag clh_algorithm self.now.words (holder_of held.old).place }
         ensures asked { HasAsked V.fit V.tag V.parked held.old held.new result }
         ensures steps { (held_view held.new).steps ≡ (held_view held.old).steps + 1 }
         ensures place { (holder_of held.new).place ≡ (holder_of held.old).place }
@@ -124,20 +156,20 @@ impl<V: Cargo> Basic<V> for Clh<V> {
         ensures loaded { (holder_of held.new).loads ≡ (holder_of held.old).loads + 1 }
         ensures noted { (holder_of held.new).tested ≡ answer_of result }
     {
-        let node = self.words.held_node(held);
-        match self.words.waiters {
-            Waiters::Queue => self.words.load_tail(&mut held.seat.seat) != node,
-            Waiters::Count => self.words.count_waiting(&mut held.seat.seat) != 0,
+        let node = self.words.held_mark(held);
+        let seat = &mut held.seat.seat;
+        match self.words.waiters() {
+            Waiters::Queue => self.words.load::<LoadTail>(seat, TAIL) != node,
+            Waiters::Count => self.words.count_waiting(seat) != 0,
         }
     }
 
     /// The answer is never `Not`: the value is put back, the holder's node is granted, and the node that it watched is its own from then
     /// on.
     fn begin_release(&self, held: Held<V>) -> Step<Left, Pass>
-        requires own { IsOwn V.tag clh_algorithm (padded_value self.now.words.table).shared.table_id
-            (padded_value self.now.words.table).shared.key (holder_of held).place }
+        requires own { IsOwnOf V.tag clh_algorithm self.now.words (holder_of held).place }
         requires fit { V.fit held.value }
-        requires tagged { V.tag held.value ≡ V.tag (padded_value self.now.words.table).shared.key.value.value }
+        requires tagged { V.tag held.value ≡ V.tag (words_key self.now.words).value.value }
         requires relied_on { V.parked held.value ≡ true → (holder_of held).tested ≡ Yes }
         requires said { V.said held.value ≢ Open → V.said held.value ≡ (holder_of held).tested }
         ensures leaves_at_once { IsGot result }
@@ -151,14 +183,14 @@ impl<V: Cargo> Basic<V> for Clh<V> {
     {
         let (mut seat, value, node, predecessor) = self.words.held_parts(held);
         self.words.put(&mut seat, value);
-        self.words.store_granted(&mut seat, node);
+        self.words
+            .store::<StoreGranted>(&mut seat, flag_of(node), GRANTED);
         Step::Got(Pass::of(seat, predecessor))
     }
 
     /// The answer is never `Not`.
     fn poll_release(&self, leave: Left) -> Step<Left, Pass>
-        requires own { IsOwn V.tag clh_algorithm (padded_value self.now.words.table).shared.table_id
-            (padded_value self.now.words.table).shared.key (badge_waiting leave.pass.badge).place }
+        requires own { IsOwnOf V.tag clh_algorithm self.now.words (badge_waiting leave.pass.badge).place }
         ensures leaves_at_once { IsGot result }
         ensures steps { IfGot result (λ p. (view_of p.badge).steps ≡ (view_of leave.pass.badge).steps) }
         ensures leave { IfNot result (λ l. (badge_waiting l.pass.badge).place ≡ (badge_waiting leave.pass.badge).place) }
@@ -172,14 +204,14 @@ impl<V: Cargo> Basic<V> for Clh<V> {
     }
 
     fn close(self, passes: Vec<Pass>) -> V
-        requires all { AreAll (λ p. badge_place p.badge) (lock_name clh_algorithm (padded_value self.words.table).shared.key.waiters
-            (padded_value self.words.table).shared.table_id) (V.tag (padded_value self.words.table).shared.key.value.value)
-            (padded_value self.words.table).shared.key.passes passes.items }
+        requires all { AreAll (λ p. badge_place p.badge) (lock_name clh_algorithm (words_key self.words).waiters
+            (words_table self.words)) (V.tag (words_key self.words).value.value)
+            (words_key self.words).passes passes.items }
         ensures fit { V.fit result }
-        ensures tagged { V.tag result ≡ V.tag (padded_value self.words.table).shared.key.value.value }
+        ensures tagged { V.tag result ≡ V.tag (words_key self.words).value.value }
         ensures unparked { V.parked result ≡ false }
     {
-        let Clh { words } = self;
+        let Clh { words, .. } = self;
         words.close(passes)
     }
 }
@@ -187,9 +219,9 @@ impl<V: Cargo> Basic<V> for Clh<V> {
 impl<V: Cargo> Ruled<V> for Clh<V> {
     type Algorithm = ClhWords;
 
-    ghost table = { λ l. (padded_value l.words.table).shared.table_id };
+    ghost table = { λ l. words_table l.words };
 
-    ghost waiters = { λ l. (padded_value l.words.table).shared.key.waiters };
+    ghost waiters = { λ l. (words_key l.words).waiters };
 
     ghost named = { λ l. refl };
 }
