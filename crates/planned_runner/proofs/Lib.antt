@@ -1,3 +1,3 @@
 pub mod Crossing
-pub mod Kinds
+pub mod PlanKinds
 pub mod Served
