@@ -1,5 +1,5 @@
 // A walk that tells kinds of locks apart.
-use super::prints;
+use super::walks::walks_under;
 use std::alloc::Global;
 use std::test::Fail;
 
@@ -51,18 +51,16 @@ fn tells_kinds_apart(rt: HostRuntime) -> Result<(), Fail> {
         ("hem-hem", "0:1 1:0 2:1 1:0 3:1 0:1 1:0 2:1 3:0 2:1 3:0"),
     ];
     for (kinds, turns) in walks {
-        let words = [
-            "run",
-            "--walk",
-            "--levels",
-            "package,machine",
-            "--keep",
-            "0",
-            "--locks",
+        let text = text_of(alloc, turns)?;
+        walks_under(
+            &rt,
+            alloc,
             kinds,
+            "0",
             "Package:2 PU:2",
-        ];
-        prints(&rt, alloc, &words, INPUT, text_of(alloc, turns)?.as_bytes())?;
+            INPUT,
+            text.as_bytes(),
+        )?;
     }
     Ok(())
 }
