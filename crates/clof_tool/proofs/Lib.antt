@@ -7,6 +7,7 @@ pub mod Marks
 pub mod Pairs
 pub mod Places
 pub mod Plans
+pub mod Room
 pub mod Runs
 pub mod SectionRuns
 pub mod Stops

@@ -4,6 +4,7 @@ pub mod Outcome
 pub mod Answered
 pub mod Ended
 pub mod Process
+pub mod Room
 pub mod Run
 pub mod Selecting
 pub mod Laws

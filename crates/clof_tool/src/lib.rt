@@ -4,6 +4,7 @@
 mod answer;
 mod checking;
 mod drilling;
+mod in_memory;
 mod judging;
 mod laws;
 mod process;
@@ -14,6 +15,7 @@ mod serving;
 mod top_call;
 
 pub use command_texts::{Fault, OptionName, Status};
+pub use in_memory::top_in_memory;
 pub use laws::{one_check, one_run};
 pub use process::Process;
 pub use top_call::{top, top_with};

@@ -1,5 +1,5 @@
 // The process that the program runs in: its words, its streams and its exit status.
-ghost use Rattle.std.specs.Prelude.{◌≡◌, ◌≢◌, ◌⊎◌, IfErr, IfOk};
+ghost use Rattle.std.specs.Prelude.{◌≡◌, ◌≢◌, ◌⊎◌, drop, IfErr, IfOk};
 ghost use Rattle.std.specs.IoError.{error_kind};
 ghost use Rattle.std.specs.Process.{exit_status};
 ghost use Rattle.command_texts.specs.declared.status.Status.{Status as AnyStatus};
@@ -119,9 +119,15 @@ fn status_of(kind: ErrorKind) -> Status
 
 // The words behind the program's name.
 fn words(rt: &HostRuntime) -> io::Result<Vec<String>> {
-    let mut words = Vec::new(rt.alloc());
-    for word in env::args(rt)?.skip(1) {
-        words.push(word)?;
+    Ok(behind_name(env::args(rt)?.collect(rt.alloc())?))
+}
+
+// The words behind the first, which is the program's name.
+fn behind_name(mut words: Vec<String>) -> Vec<String>
+    ensures { result.items ≡ drop 1 words.items }
+{
+    if !words.is_empty() {
+        words.remove(0);
     }
-    Ok(words)
+    words
 }

@@ -3,6 +3,7 @@ mod checks;
 mod cohorts;
 mod drills;
 mod faults;
+mod kinds;
 mod plans;
 mod receipts;
 mod threads;

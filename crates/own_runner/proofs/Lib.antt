@@ -1,1 +1,2 @@
+pub mod PlanKinds
 pub mod Raised

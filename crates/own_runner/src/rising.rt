@@ -15,7 +15,8 @@ use crate::given::Given;
 use clof_compose::{Composed, Root};
 use lock_rules::passes_are_shared;
 use lock_tree::{
-    LevelOver, TopOf, add_below, kind_at, low_passes_are_shared, make_top_of, top_passes_are_shared,
+    HasKinds, LevelOver, TopOf, add_below, kind_at, low_passes_are_shared, make_top_of,
+    top_passes_are_shared,
 };
 use own_payload::{Lists, Noted, Serves, serve};
 use std::sync::Wait;
@@ -87,7 +88,7 @@ where
 fn with_second<
     'r,
     T: Send + Sync + Drop,
-    H: Composed<Noted<T>> + Sync + Drop,
+    H: HasKinds<Noted<T>> + Sync + Drop,
     S: Serves<T> + Sync,
     R: Threads + Wait + Sync,
 >(given: Given<'r, S, R>, high: H, passes: Vec<H::Pass>, level: u32) -> Option<Root<Noted<T>>>
@@ -100,6 +101,7 @@ where
     S::Answer: Send,
     requires raised { IsRaised H.Pass.rest (H.has high) (H.sound high) (H.level high) (H.count high) (H.tag high) given.shape.now
         (level + 1) (H.tag high) passes.items }
+    requires kinds { H.has_kinds high given.plan.now.kinds (level + 1) }
     requires may { MayRun (H.tag high) given.shape.now given.plan.now.kinds given.shares.items }
     requires level { level < top_of given.shape.now }
     requires most { level < 4 }
@@ -126,7 +128,7 @@ where
 fn with_third<
     'r,
     T: Send + Sync + Drop,
-    H: Composed<Noted<T>> + Sync + Drop,
+    H: HasKinds<Noted<T>> + Sync + Drop,
     S: Serves<T> + Sync,
     R: Threads + Wait + Sync,
 >(given: Given<'r, S, R>, high: H, passes: Vec<H::Pass>, level: u32) -> Option<Root<Noted<T>>>
@@ -139,6 +141,7 @@ where
     S::Answer: Send,
     requires raised { IsRaised H.Pass.rest (H.has high) (H.sound high) (H.level high) (H.count high) (H.tag high) given.shape.now
         (level + 1) (H.tag high) passes.items }
+    requires kinds { H.has_kinds high given.plan.now.kinds (level + 1) }
     requires may { MayRun (H.tag high) given.shape.now given.plan.now.kinds given.shares.items }
     requires level { level < top_of given.shape.now }
     requires most { level < 3 }
@@ -165,7 +168,7 @@ where
 fn with_fourth<
     'r,
     T: Send + Sync + Drop,
-    H: Composed<Noted<T>> + Sync + Drop,
+    H: HasKinds<Noted<T>> + Sync + Drop,
     S: Serves<T> + Sync,
     R: Threads + Wait + Sync,
 >(given: Given<'r, S, R>, high: H, passes: Vec<H::Pass>, level: u32) -> Option<Root<Noted<T>>>
@@ -178,6 +181,7 @@ where
     S::Answer: Send,
     requires raised { IsRaised H.Pass.rest (H.has high) (H.sound high) (H.level high) (H.count high) (H.tag high) given.shape.now
         (level + 1) (H.tag high) passes.items }
+    requires kinds { H.has_kinds high given.plan.now.kinds (level + 1) }
     requires may { MayRun (H.tag high) given.shape.now given.plan.now.kinds given.shares.items }
     requires level { level < top_of given.shape.now }
     requires most { level < 2 }
@@ -196,7 +200,7 @@ where
     if level == 0 {
         run_under::<T, LevelOver<Noted<T>, H>, S, R>(given, lock, passes)
     } else {
-        with_fifth::<T, LevelOver<Noted<T>, H>, S, R>(given, lock, passes, level - 1)
+        with_fifth::<T, LevelOver<Noted<T>, H>, S, R>(given, lock, passes)
     }
 }
 
@@ -204,10 +208,10 @@ where
 fn with_fifth<
     'r,
     T: Send + Sync + Drop,
-    H: Composed<Noted<T>> + Sync + Drop,
+    H: HasKinds<Noted<T>> + Sync + Drop,
     S: Serves<T> + Sync,
     R: Threads + Wait + Sync,
->(given: Given<'r, S, R>, high: H, passes: Vec<H::Pass>, level: u32) -> Option<Root<Noted<T>>>
+>(given: Given<'r, S, R>, high: H, passes: Vec<H::Pass>) -> Option<Root<Noted<T>>>
 where
     H::Pass: Send + Sync,
     H::Queue: Send,
@@ -216,10 +220,10 @@ where
     S::Task: Send,
     S::Answer: Send,
     requires raised { IsRaised H.Pass.rest (H.has high) (H.sound high) (H.level high) (H.count high) (H.tag high) given.shape.now
-        (level + 1) (H.tag high) passes.items }
+        1 (H.tag high) passes.items }
+    requires kinds { H.has_kinds high given.plan.now.kinds 1 }
     requires may { MayRun (H.tag high) given.shape.now given.plan.now.kinds given.shares.items }
-    requires level { level < top_of given.shape.now }
-    requires most { level ≡ 0 }
+    requires top { 0 < top_of given.shape.now }
     requires asked { (caller : ℕ) → S.may given.server.now caller }
     ensures fit { IfSome result (IsFit (λ n. n.calls.callers)) }
     ensures tagged { IfSome result (λ r. root_tag (λ _. leaf 0) r ≡ H.tag high) }
@@ -227,19 +231,19 @@ where
 {
     passes_are_shared();
     low_passes_are_shared();
-    let kind = kind_at(given.plan, level);
-    let made = add_below::<Noted<T>, H>(given.alloc, kind, given.shape, level, high, passes);
+    let kind = kind_at(given.plan, 0);
+    let made = add_below::<Noted<T>, H>(given.alloc, kind, given.shape, 0, high, passes);
     let Ok((lock, passes)) = made else {
         return None;
     };
     run_under::<T, LevelOver<Noted<T>, H>, S, R>(given, lock, passes)
 }
 
-// A run under a lock that is ready, which is then taken apart.
+// A run under a lock that is ready and whose levels have the plan's kinds, which is then taken apart.
 fn run_under<
     'r,
     T: Send + Sync + Drop,
-    C: Composed<Noted<T>> + Sync + Drop,
+    C: HasKinds<Noted<T>> + Sync + Drop,
     S: Serves<T> + Sync,
     R: Threads + Wait + Sync,
 >(given: Given<'r, S, R>, lock: C, passes: Vec<C::Pass>) -> Option<Root<Noted<T>>>
@@ -252,6 +256,7 @@ where
     S::Answer: Send,
     requires ready { IsReady C.Pass.rest (C.has lock) (C.sound lock) (C.level lock) (C.count lock) (C.tag lock) passes.items
         given.shares.items }
+    requires kinds { C.has_kinds lock given.plan.now.kinds 0 }
     requires asked { (caller : ℕ) → S.may given.server.now caller }
     ensures fit { IfSome result (IsFit (λ n. n.calls.callers)) }
     ensures tagged { IfSome result (λ r. root_tag (λ _. leaf 0) r ≡ C.tag lock) }

@@ -15,7 +15,7 @@ use crate::under::run_under;
 use clof_compose::{Composed, Resting, Root, TopPass};
 use lock_rules::{Pass, passes_are_shared};
 use lock_tree::{
-    LevelOver, LowPass, TopOf, add_below, kind_at, low_passes_are_shared, make_top_of,
+    HasKinds, LevelOver, LowPass, TopOf, add_below, kind_at, low_passes_are_shared, make_top_of,
     top_passes_are_shared,
 };
 use out_of_memory::OutOfMemory;
@@ -88,7 +88,7 @@ fn with_second<
     B: Drop,
     F,
     P: Commanded<LowPass, K, J, B, F> + Send + Sync,
-    H: Composed<P> + Sync + Drop,
+    H: HasKinds<P> + Sync + Drop,
     R: Threads + Wait + Sync,
     G: Gate + Sync,
 >(given: Given<'r, B, R, G>, high: H, passes: Vec<H::Pass>, level: u32) -> Result<F, OutOfMemory>
@@ -99,6 +99,7 @@ where
     H::Leave: Send,
     requires raised { IsRaised H.Pass.rest (H.has high) (H.sound high) (H.level high) (H.count high) (H.tag high) given.shape.now
         (level + 1) (H.tag high) passes.items }
+    requires kinds { H.has_kinds high given.plan.now.kinds (level + 1) }
     requires may { MayRun (H.tag high) given.shape.now given.plan.now.kinds P.dealt given.brought }
     requires level { level < top_of given.shape.now }
     requires most { level < 4 }
@@ -127,7 +128,7 @@ fn with_third<
     B: Drop,
     F,
     P: Commanded<LowPass, K, J, B, F> + Send + Sync,
-    H: Composed<P> + Sync + Drop,
+    H: HasKinds<P> + Sync + Drop,
     R: Threads + Wait + Sync,
     G: Gate + Sync,
 >(given: Given<'r, B, R, G>, high: H, passes: Vec<H::Pass>, level: u32) -> Result<F, OutOfMemory>
@@ -138,6 +139,7 @@ where
     H::Leave: Send,
     requires raised { IsRaised H.Pass.rest (H.has high) (H.sound high) (H.level high) (H.count high) (H.tag high) given.shape.now
         (level + 1) (H.tag high) passes.items }
+    requires kinds { H.has_kinds high given.plan.now.kinds (level + 1) }
     requires may { MayRun (H.tag high) given.shape.now given.plan.now.kinds P.dealt given.brought }
     requires level { level < top_of given.shape.now }
     requires most { level < 3 }
@@ -166,7 +168,7 @@ fn with_fourth<
     B: Drop,
     F,
     P: Commanded<LowPass, K, J, B, F> + Send + Sync,
-    H: Composed<P> + Sync + Drop,
+    H: HasKinds<P> + Sync + Drop,
     R: Threads + Wait + Sync,
     G: Gate + Sync,
 >(given: Given<'r, B, R, G>, high: H, passes: Vec<H::Pass>, level: u32) -> Result<F, OutOfMemory>
@@ -177,6 +179,7 @@ where
     H::Leave: Send,
     requires raised { IsRaised H.Pass.rest (H.has high) (H.sound high) (H.level high) (H.count high) (H.tag high) given.shape.now
         (level + 1) (H.tag high) passes.items }
+    requires kinds { H.has_kinds high given.plan.now.kinds (level + 1) }
     requires may { MayRun (H.tag high) given.shape.now given.plan.now.kinds P.dealt given.brought }
     requires level { level < top_of given.shape.now }
     requires most { level < 2 }
@@ -190,7 +193,7 @@ where
             if level == 0 {
                 run_under::<LowPass, K, J, B, F, P, R, LevelOver<P, H>, G>(given, lock, passes)
             } else {
-                with_fifth::<K, J, B, F, P, LevelOver<P, H>, R, G>(given, lock, passes, level - 1)
+                with_fifth::<K, J, B, F, P, LevelOver<P, H>, R, G>(given, lock, passes)
             }
         }
         Err(_) => Err(OutOfMemory),
@@ -205,26 +208,26 @@ fn with_fifth<
     B: Drop,
     F,
     P: Commanded<LowPass, K, J, B, F> + Send + Sync,
-    H: Composed<P> + Sync + Drop,
+    H: HasKinds<P> + Sync + Drop,
     R: Threads + Wait + Sync,
     G: Gate + Sync,
->(given: Given<'r, B, R, G>, high: H, passes: Vec<H::Pass>, level: u32) -> Result<F, OutOfMemory>
+>(given: Given<'r, B, R, G>, high: H, passes: Vec<H::Pass>) -> Result<F, OutOfMemory>
 where
     H::Pass: Send + Sync,
     H::Queue: Send,
     H::Held: Send,
     H::Leave: Send,
     requires raised { IsRaised H.Pass.rest (H.has high) (H.sound high) (H.level high) (H.count high) (H.tag high) given.shape.now
-        (level + 1) (H.tag high) passes.items }
+        1 (H.tag high) passes.items }
+    requires kinds { H.has_kinds high given.plan.now.kinds 1 }
     requires may { MayRun (H.tag high) given.shape.now given.plan.now.kinds P.dealt given.brought }
-    requires level { level < top_of given.shape.now }
-    requires most { level ≡ 0 }
+    requires top { 0 < top_of given.shape.now }
     ensures { IfOk result (P.left (course_of (H.tag high))) }
 {
     passes_are_shared();
     low_passes_are_shared();
-    let kind = kind_at(given.plan, level);
-    match add_below::<P, H>(given.alloc, kind, given.shape, level, high, passes) {
+    let kind = kind_at(given.plan, 0);
+    match add_below::<P, H>(given.alloc, kind, given.shape, 0, high, passes) {
         Ok((lock, passes)) => {
             run_under::<LowPass, K, J, B, F, P, R, LevelOver<P, H>, G>(given, lock, passes)
         }

@@ -7,6 +7,7 @@ use crate::commanded::{Commanded, Dealt, Served};
 use crate::given::Given;
 use clof_compose::{Composed, Resting};
 use lock_threads::{Works, by_all};
+use lock_tree::HasKinds;
 use out_of_memory::OutOfMemory;
 use placed_runner::Gate;
 use std::alloc::Global;
@@ -72,7 +73,7 @@ where
     P::gather::<C, G, R>(rt, lock, gate, floor, jobs, aside)
 }
 
-/// A run under a lock that is ready, which is then taken apart.
+/// A run under a lock that is ready and whose levels have the plan's kinds, which is then taken apart.
 pub(crate) fn run_under<
     'r,
     Q: Resting + Send,
@@ -82,14 +83,16 @@ pub(crate) fn run_under<
     F,
     P: Commanded<Q, K, J, B, F> + Send + Sync,
     R: Threads + Wait + Sync,
-    C: Composed<P, Pass = Q> + Sync + Drop,
+    C: Composed<P, Pass = Q> + HasKinds<P> + Sync + Drop,
     G: Gate + Sync,
 >(given: Given<'r, B, R, G>, lock: C, passes: Vec<Q>) -> Result<F, OutOfMemory>
 where
     C::Queue: Send,
     C::Held: Send,
     C::Leave: Send,
-    requires { IsSet Q.rest (C.has lock) (C.sound lock) (C.level lock) (C.count lock) (C.tag lock) P.dealt given.brought passes.items }
+    requires set { IsSet Q.rest (C.has lock) (C.sound lock) (C.level lock) (C.count lock) (C.tag lock) P.dealt given.brought
+        passes.items }
+    requires kinds { C.has_kinds lock given.plan.now.kinds 0 }
     ensures { IfOk result (P.left (course_of (C.tag lock))) }
 {
     let Given {

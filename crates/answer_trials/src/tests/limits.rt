@@ -146,6 +146,22 @@ fn trees(rt: HostRuntime) -> Result<(), Fail> {
     )
 }
 
+#[test]
+fn as_many_objects_and_layers_as_there_may_be(rt: HostRuntime) -> Result<(), Fail> {
+    let alloc = rt.alloc();
+    let objects = "Package:3 Group:1365 Group:1 Group:1 PU:1";
+    super::answers(&rt, alloc, objects, "calc -N pu * all|4095")?;
+    let layers =
+        "Group:1 Group:1 Group:1 Group:1 Group:1 Group:1 Group:1 Group:1 Group:1 Group:1 Group:1 Group:1 Group:1 Group:1 \
+Group:1 PU:1";
+    let table =
+        "topo *|Machine L#0/  Group0 L#0/    Group1 L#0/      Group2 L#0/        Group3 L#0/          Group4 L#0/            Group5 L#0\
+/              Group6 L#0/                Group7 L#0/                  Group8 L#0/                    Group9 L#0\
+/                      Group10 L#0/                        Group11 L#0/                          Group12 L#0\
+/                            Group13 L#0/                              Group14 L#0/                                PU L#0 (P#0)";
+    super::answers(&rt, alloc, layers, table)
+}
+
 // A description of 423 bytes, whose PUs are numbered from the last.
 fn numbered_from_the_last(alloc: Global) -> Result<String, Fail> {
     let mut text = String::from_str(alloc, "Core:64 PU:2(indexes=127")?;

@@ -106,13 +106,29 @@ fn descriptions(rt: HostRuntime) -> Result<(), Fail> {
         "PU:2(indexes=0,4096)",
         "topo *|3 build IndexRange 4096",
     )?;
-    refuses(&rt, alloc, "", "topo *|3 synth Empty\nrun *|3 synth Empty")?;
+    refuses(&rt, alloc, "", "topo *|3 synth Empty\nrun *|3 synth Empty")
+}
+
+// One object or one layer more than there may be.
+#[test]
+fn descriptions_beyond_the_limits(rt: HostRuntime) -> Result<(), Fail> {
+    let alloc = rt.alloc();
     refuses(
         &rt,
         alloc,
         "PU:4097",
         "topo *|4 synth TooManyObjects\ncalc -I x * x|4 synth TooManyObjects",
     )?;
+    refuses(
+        &rt,
+        alloc,
+        "Group:4096 Group:1 Group:1 PU:1",
+        "topo *|4 synth TooManyObjects",
+    )?;
+    let groups =
+        "Group:1 Group:1 Group:1 Group:1 Group:1 Group:1 Group:1 Group:1 Group:1 Group:1 Group:1 Group:1 Group:1 Group:1 \
+Group:1 Group:1 PU:1";
+    refuses(&rt, alloc, groups, "topo *|4 synth TooManyLevels")?;
     let deep =
         "Group:1 Group:1 Group:1 Group:1 Group:1 Group:1 Group:1 Group:1 Group:1 Group:1 Group:1 Group:1 Group:1 Group:1 \
 Group:1 Core:1 PU:1";

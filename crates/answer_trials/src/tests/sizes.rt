@@ -8,6 +8,7 @@ fn many_words_locations_and_paths(rt: HostRuntime) -> Result<(), Fail> {
 calc --taskset -p --single -- * pu:5 pu:6 pu:7 pu:9 pu:11 pu:13 pu:15 pu:1|0x2
 calc * pu:0 ~pu:0 pu:1 pu:2 x0xfffffffe pu:3 ^pu:3 ^pu:9 pu:10 pu:11 ~0x800 pu:12 pu:13 pu:14 pu:15|0x0000f606
 calc * package:1.die:1.l3:0.core:1.pu:1|0x00008000
+calc * package:1.die:1.l3:0.l2:0.core:1.pu:1|0x00008000
 calc -I pu * package:0-1.die:1|4,5,6,7,12,13,14,15
 calc -I core --sep , * all|0,1,2,3,4,5,6,7
 calc -N pu * ~pu:3 all ~pu:4 ~pu:5 ~pu:6|13

@@ -2,7 +2,7 @@
 ghost use Rattle.std.specs.Prelude.{◌≤◌};
 
 use super::owned;
-use clof_tool::{Status, top};
+use clof_tool::{Status, top, top_in_memory};
 use edge_io::{MemSink, MemSource, SureSink, SureSource};
 use std::alloc::Global;
 use std::process::Abort;
@@ -128,6 +128,21 @@ fn ends_as_well_where_standard_error_fails(rt: HostRuntime) -> Result<(), Fail> 
     let status = top(&rt, alloc, &words, &mut source, &mut out, &mut err);
     assert_eq!(rt; status, Status::Usage);
     assert_eq!(rt; status.code(), 2);
+    assert_eq!(rt; err.bytes().len(), 0);
+    Ok(())
+}
+
+// Bytes in memory have no faults: a text that just fits is written whole.
+#[test]
+fn writes_all_into_memory(rt: HostRuntime) -> Result<(), Fail> {
+    let alloc = rt.alloc();
+    let words = owned(alloc, &["set", "0x1"])?;
+    let mut source = SureSource::new(Vec::new(alloc));
+    let mut out = SureSink::new(alloc, 17)?;
+    let mut err = SureSink::new(alloc, 100)?;
+    let status = top_in_memory(&rt, alloc, &words, &mut source, &mut out, &mut err);
+    assert_eq!(rt; status, Status::Ok);
+    assert_eq!(rt; out.bytes(), b"0x00000001\n0\n0x1\n".as_slice());
     assert_eq!(rt; err.bytes().len(), 0);
     Ok(())
 }

@@ -26,7 +26,7 @@ fn walks_on_cores<R: Threads + Wait + Sync + Abort>(
 }
 
 // Checks a walk under locks of two levels of these kinds, over the cores of a package and the machine.
-fn walks_under<R: Threads + Wait + Sync + Abort>(
+pub(super) fn walks_under<R: Threads + Wait + Sync + Abort>(
     rt: &R,
     alloc: Global,
     locks: &str,
