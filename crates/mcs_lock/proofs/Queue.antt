@@ -16,7 +16,7 @@ use Rattle.lock_rules.specs.declared.view.View.{View}
 use Rattle.lock_rules.specs.declared.view.Waiters.{Waiters}
 use Rattle.lock_tables.specs.Laws.{IsDisciplined, IsNoted, number_at}
 use Rattle.lock_tables.specs.Rule.{is_busy, IsQueued}
-use Rattle.lock_tables.proofs.Lists.{number_is, at_below, no_true, both_true, wrote_else}
+use Rattle.lock_tables.proofs.Lists.{number_is, at_below, both_true, wrote_else}
 use Rattle.lock_tables.proofs.Queues.{IsSame, WasAt, lives, few_seats, placed_before_split, placed_before_join, after_split, after_join}
 use Rattle.lock_tables.proofs.Queues.{one_seat_of}
 use Rattle.mcs_lock.specs.Rule.{tail, next, locked, name, before, passes_to, queue_of, IsPlaced, IsPrepared, IsLinked, mcs_discipline}

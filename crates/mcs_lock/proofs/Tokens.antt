@@ -1,22 +1,14 @@
--- What the holder of an MCS lock asked, and the mark of a pass.
-use Rattle.std.proofs.Common.{◌≡◌, ℕ, Bool, ap, sym, subst}
+-- What the holder of an MCS lock asked.
+use Rattle.std.proofs.Common.{◌≡◌, ℕ, Bool, sym, subst}
 use Rattle.lock_rules.specs.Holders.{held_view}
 use Rattle.lock_rules.specs.Tag.{Tag}
-use Rattle.lock_rules.specs.Views.{mark_by, mark_of}
 use Rattle.lock_rules.specs.declared.held.Held.{Held}
-use Rattle.lock_rules.specs.declared.view.Algorithm.{Algorithm}
-use Rattle.lock_rules.specs.declared.view.Algorithm.TheVariants.{Mcs}
-use Rattle.lock_rules.specs.declared.view.View.{View}
 use Rattle.lock_rules.specs.declared.view.Waiters.{Waiters}
 use Rattle.lock_rules.specs.declared.view.Waiters.TheVariants.{Queue, Count}
 use Rattle.lock_tables.specs.Counting.{is_announced, Counted}
 use Rattle.mcs_lock.specs.Calls.{HasAskedBy, HasMade}
 use Rattle.mcs_lock.specs.Kinds.{others_wait, load_tail}
 use Rattle.mcs_lock.specs.Rule.{mcs_discipline}
-
--- the mark of a pass of an MCS lock is its number
-pub mark_is : (v : View) → v.algorithm ≡ Mcs → mark_of v ≡ v.number
-mark_is v e = ap (λ (a : Algorithm). mark_by a v) e
 
 module _ {V : Type 0} (fit : V → Type 0) (tag_of : V → Tag) (parked : V → Bool) (c : Waiters) (before now : Held V) (found : ℕ)
     (answer : Bool) where

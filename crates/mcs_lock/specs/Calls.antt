@@ -1,6 +1,5 @@
 -- What each call of an MCS lock did: its steps on words, the view that its token then has, and the events.
-use Rattle.std.specs.Prelude.{◌≡◌, ◌≢◌, ◌≤◌, ◌⊎◌, ℕ, Bool, [], ◌∷◌, Some, None}
-use Rattle.atomic_table.specs.Table.{takes}
+use Rattle.std.specs.Prelude.{◌≡◌, ◌≢◌, ◌⊎◌, ℕ, Bool, [], ◌∷◌, Some, None}
 use Rattle.atomic_table.specs.declared.badge.Badge.{Badge}
 use Rattle.lock_rules.specs.Holders.{held_view}
 use Rattle.lock_rules.specs.Tag.{Tag}
@@ -10,13 +9,12 @@ use Rattle.lock_rules.specs.declared.view.View.{View}
 use Rattle.lock_rules.specs.declared.view.Waiters.{Waiters}
 use Rattle.lock_rules.specs.declared.view.Waiters.TheVariants.{Queue, Count}
 use Rattle.lock_tables.specs.Counting.{is_announced, Counted, HasAnnounced, HasWithdrawn}
-use Rattle.lock_tables.specs.Happened.{Seated, Stepped, missed_view, took_view, announced_view}
-use Rattle.lock_tables.specs.Kinds.{StepKind, Event, no_event, enter, leave, Did, Made}
-use Rattle.lock_tables.specs.Queue.{Takes, EntersAndTakes}
-use Rattle.lock_tables.specs.Rule.{IsLock}
-use Rattle.mcs_lock.specs.Kinds.{cleared_view, raised_view, queued_view, entered_view, looked_view, left_view, followed_view, others_wait}
-use Rattle.mcs_lock.specs.Kinds.{store_next, store_locked, store_predecessor_next, load_tail, load_next, store_successor_locked}
-use Rattle.mcs_lock.specs.Rule.{tail, locked, name, queue_of, mcs_discipline}
+use Rattle.lock_tables.specs.Happened.{Seated, took_view, announced_view}
+use Rattle.lock_tables.specs.Kinds.{StepKind, Made}
+use Rattle.mcs_lock.specs.Kinds.{cleared_view, raised_view, queued_view, entered_view, looked_view, others_wait, store_next, store_locked}
+use Rattle.mcs_lock.specs.Kinds.{fetch_and_store_tail, store_predecessor_next, load_locked, load_tail, load_next, store_successor_locked}
+use Rattle.mcs_lock.specs.Kinds.{compare_and_swap_tail}
+use Rattle.mcs_lock.specs.Rule.{name, mcs_discipline}
 
 -- the view of a pass that is announced where the lock counts, and has stored both words for its swap
 abbrev pub ready_view : View → View
@@ -39,25 +37,18 @@ module _ {V : Type 0} (fit : V → Type 0) (tag_of : V → Tag) (parked : V → 
   abbrev pub HasStored : StepKind → Seated V → Seated V → Type 0
   HasStored k me me' = (found : ℕ) × HasMade k me found me'
 
-  -- the record of a step on this word with this event
-  abbrev pub HasDone : Event → ℕ → ℕ → ℕ → Seated V → View → Seated V → Type 0
-  HasDone = Did mcs_discipline fit tag_of parked
-
   -- where the lock counts, the addition to `waiting`; then the stores of own `next` and of own `locked`
-  pub record HasPrepared (before : Badge View) : Type 0 where
-    pub announced : HasAnnounced {V = V} mcs_discipline fit tag_of parked (view_of before).waiters (view_of before, [])
-        (announced_view (view_of before), [])
-    pub cleared : HasStored store_next (announced_view (view_of before), []) (cleared_view (announced_view (view_of before)), [])
-    pub raised : HasStored store_locked (cleared_view (announced_view (view_of before)), []) (ready_view (view_of before), [])
+  pub record HasPrepared (v : View) : Type 0 where
+    pub announced : HasAnnounced {V = V} mcs_discipline fit tag_of parked v.waiters (v, []) (announced_view v, [])
+    pub cleared : HasStored store_next (announced_view v, []) (cleared_view (announced_view v), [])
+    pub raised : HasStored store_locked (cleared_view (announced_view v), []) (ready_view v, [])
 
   -- the swap, which found a predecessor, and the store of its `next`
   pub record HasEntered (before after : Badge View) : Type 0 where
+    pub prepared : HasPrepared (view_of before)
     pub found : ℕ
     pub preceded : found ≢ 0
-    pub within : found ≤ (view_of before).count
-    pub prepared : HasPrepared before
-    pub entered : HasDone enter tail found (name (view_of before).number) (ready_view (view_of before), [])
-        (queued_view (ready_view (view_of before)) found) (queued_view (ready_view (view_of before)) found, [])
+    pub entered : HasMade fetch_and_store_tail (ready_view (view_of before), []) found (queued_view (ready_view (view_of before)) found, [])
     pub linked : HasStored store_predecessor_next (queued_view (ready_view (view_of before)) found, []) (view_of after, [])
 
   -- where the lock counts, the subtraction from `waiting`, by a pass that has taken and has its value in hand
@@ -67,10 +58,10 @@ module _ {V : Type 0} (fit : V → Type 0) (tag_of : V → Tag) (parked : V → 
 
   -- the swap, which found none; the value that was at home is the holder's
   pub record HasEnteredAndTaken (before : Badge View) (after : Held V) : Type 0 where
-    pub prepared : HasPrepared before
-    pub entered : Stepped (IsLock mcs_discipline fit tag_of parked) queue_of EntersAndTakes (takes 0 (Some after.value)) tail 0
-        (name (view_of before).number)
-        (ready_view (view_of before), []) (entered_view (ready_view (view_of before)))
+    pub prepared : HasPrepared (view_of before)
+    pub found : ℕ
+    pub alone : found ≡ 0
+    pub entered : HasMade fetch_and_store_tail (ready_view (view_of before), []) found
         (entered_view (ready_view (view_of before)), (0, Some after.value) ∷ [])
     pub told : HasTold (entered_view (ready_view (view_of before))) after
 
@@ -78,14 +69,13 @@ module _ {V : Type 0} (fit : V → Type 0) (tag_of : V → Tag) (parked : V → 
   pub record HasMissed (before after : Badge View) : Type 0 where
     pub found : ℕ
     pub other : found ≢ 0
-    pub step : HasDone no_event (locked (view_of before).number) found found (view_of before, []) (missed_view (view_of before))
-        (view_of after, [])
+    pub step : HasMade load_locked (view_of before, []) found (view_of after, [])
 
   -- a load of own `locked` that was 0; the value that was at home is the holder's
   pub record HasTaken (before : Badge View) (after : Held V) : Type 0 where
-    pub step : Stepped (IsLock mcs_discipline fit tag_of parked) queue_of Takes (takes 0 (Some after.value))
-        (locked (view_of before).number) 0 0 (view_of before, []) (took_view (view_of before))
-        (took_view (view_of before), (0, Some after.value) ∷ [])
+    pub found : ℕ
+    pub free : found ≡ 0
+    pub step : HasMade load_locked (view_of before, []) found (took_view (view_of before), (0, Some after.value) ∷ [])
     pub told : HasTold (took_view (view_of before)) after
 
   -- a load of `tail`, with a yes exactly where it did not name the holder, or in a lock that counts a load of `waiting`, with a yes exactly
@@ -109,7 +99,7 @@ module _ {V : Type 0} (fit : V → Type 0) (tag_of : V → Tag) (parked : V → 
   -- a load of own `next`, which was 0, and the exchange of `tail`, which named the holder
   pub record HasEnded (me : Seated V) (after : Badge View) : Type 0 where
     pub loaded : HasMade load_next me 0 (looked me 0)
-    pub left : HasDone leave tail (name me.0.number) 0 (looked me 0) (left_view (looked_view me.0 0)) (view_of after, [])
+    pub left : HasMade compare_and_swap_tail (looked me 0) (name me.0.number) (view_of after, [])
 
   abbrev pub HasLeft : Seated V → Badge View → Type 0
   HasLeft me after = HasPassed me after ⊎ HasEnded me after
@@ -119,7 +109,7 @@ module _ {V : Type 0} (fit : V → Type 0) (tag_of : V → Tag) (parked : V → 
     pub loaded : HasMade load_next me 0 (looked me 0)
     pub found : ℕ
     pub other : found ≢ name me.0.number
-    pub failed : HasDone no_event tail found found (looked me 0) (followed_view (looked_view me.0 0)) now
+    pub failed : HasMade compare_and_swap_tail (looked me 0) found now
 
   -- a load of own `next`, which was 0
   abbrev pub HasWaited : Seated V → Seated V → Type 0

@@ -30,12 +30,12 @@
 //! kinds of step, `specs/Calls` what each call did.
 #![tactic(auto)]
 
-mod calls;
 mod departing;
 mod kinds;
 mod laws;
 mod leave;
 mod lock;
+mod records;
 
 pub use kinds::{
     CompareAndSwapTail, FetchAndStoreTail, LoadLocked, LoadNext, LoadTail, StoreLocked, StoreNext,

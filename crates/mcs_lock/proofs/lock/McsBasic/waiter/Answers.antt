@@ -1,6 +1,6 @@
 use Rattle.std.proofs.Common.{rules, sym, ◌∙◌}
 use Rattle.mcs_lock.proofs.Tokens.{asked_tail, asked_count}
-use Rattle.mcs_lock.proofs.calls.McsBasic.waiter.Goals as goal
+use Rattle.mcs_lock.proofs.lock.McsBasic.waiter.Goals as goal
 
 pub returns-in-Queue-clause-asked : goal.returns-in-Queue-clause-asked
 returns-in-Queue-clause-asked g c =
