@@ -23,17 +23,9 @@ use Rattle.lock_rules.proofs.Sums.{sum_set}
 use Rattle.clh_lock.specs.Kinds.{raised_view, queued_view, left_view, others_wait, store_pending, fetch_and_store_tail, load_watched}
 use Rattle.clh_lock.specs.Kinds.{load_tail, store_granted}
 use Rattle.clh_lock.specs.Rule.{tail, flag, pending, granted, is_pending, Leads, HasNodes, clh_discipline}
-use Rattle.clh_lock.proofs.Nodes.{flags_apart, flag_not_tail, tail_not_flag, flag_not_waiting, tail_not_waiting, stays_pending, Once}
-use Rattle.clh_lock.proofs.Nodes.{nodes_stay, free_within, own_within, not_free, nodes_apart}
+use Rattle.clh_lock.proofs.Nodes.{stays_pending, Once, nodes_stay, free_within, own_within, not_free, nodes_apart}
 use Rattle.clh_lock.proofs.Chain.{leads_stay, had_else, leads_end, leads_before, leads_alone, leads_within}
 use Rattle.clh_lock.proofs.Queue.{same_nodes}
-
--- words are as many as the lines of the lock hold
-tail_inside : (words : List ℕ) (n : ℕ) → length words ≡ 16 * (n + 2 + 1) → tail < length words
-tail_inside words n long = omega (arith, long)
-
-flag_inside : (words : List ℕ) (n k : ℕ) → length words ≡ 16 * (n + 2 + 1) → k ≤ n → flag k < length words
-flag_inside words n k long h = omega (arith, long, h)
 
 -- the nodes, where the head goes with the free node, and leaves its own free
 nodes_swapped : (n : ℕ) (views : List View) (free id : ℕ) (v : View) → get_elem? views id ≡ some v → v.spent ≡ false
@@ -59,9 +51,12 @@ module _ (s : Moment clh_discipline) where
       (λ j b. own_within s.passes s.views core.free core.once j b.view b.at (busy_lives j b))
       (free_within s.passes s.views core.free core.once) core.leads
 
+  -- words are as many as the lines of the lock hold
   own_inside : flag s.view.node < length s.words
-  own_inside = flag_inside s.words s.passes s.view.node s.queued.long
-      (own_within s.passes s.views s.queued.core.free s.queued.core.once s.seat s.view s.at s.live)
+  own_inside =
+      let long : length s.words ≡ 16 * (s.passes + 2 + 1) = s.queued.long in
+      let within = own_within s.passes s.views s.queued.core.free s.queued.core.once s.seat s.view s.at s.live in
+      omega (arith, long, within)
 
   -- the nodes after a load, where the seat gets a view with the same nodes
   loaded : (word : ℕ) (w : View) → ((k : ℕ) → stands_in by_node k w ≡ stands_in by_node k s.view) → w.node ≡ s.view.node
@@ -79,9 +74,8 @@ module _ (s : Moment clh_discipline) where
       let core = s.queued.core in
       let own : ℕ = flag s.view.node in
       same_nodes s.passes s.words (set s.words own pending) s.seats s.views s.seat s.view (raised_view s.view) core s.at (λ k. refl)
-      refl refl (wrote_else s.words own tail pending (tail_not_flag s.view.node))
-      (wrote_else s.words own (flag core.free) pending (flags_apart core.free s.view.node
-      (not_free s.passes s.views core.free core.once s.seat s.view s.at s.live)) ∙ core.free_granted)
+      refl refl (wrote_else s.words own tail pending (λ e. omega (arith, e)))
+      (wrote_else s.words own (flag core.free) pending (λ e. not_free s.passes s.views core.free core.once s.seat s.view s.at s.live (omega (arith, e))) ∙ core.free_granted)
       (λ _ _. wrote_here s.words own pending own_inside)
       (λ k e. stays_pending s.words own (flag k) own_inside e)
 
@@ -94,7 +88,7 @@ module _ (s : Moment clh_discipline) where
       let found : ℕ = slice_index s.words tail in
       let w : View = queued_view s.view found in
       let words : List ℕ = set s.words tail s.view.node in
-      let flags = λ (k : ℕ). wrote_else s.words tail (flag k) s.view.node (flag_not_tail k) in
+      let flags = λ (k : ℕ). wrote_else s.words tail (flag k) s.view.node (λ e. omega (arith, e)) in
       let up : is_pending s.view ≡ true = ap (λ (b : Bool). is_busy false s.view.phase || b) raised
       ∙ (λ i. is_busy false (idle i) || true) in
       let other = no_place clh_discipline s.passes s.tag s.words s.seats s.views s.seat s.view q s.at (ap (is_busy false) idle) in
@@ -103,7 +97,7 @@ module _ (s : Moment clh_discipline) where
         free = q.core.free;
         once = nodes_stay s.passes s.views q.core.free s.seat s.view w s.at (λ k. refl) q.core.once;
         leads = subst (λ (t : ℕ). Leads (set s.views s.seat w) q.core.free (s.seats ++ s.seat ∷ []) t)
-            (sym (wrote_here s.words tail s.view.node (tail_inside s.words s.passes q.long)))
+            (sym (wrote_here s.words tail s.view.node (let long : length s.words ≡ 16 * (s.passes + 2 + 1) = q.long in omega (arith, long))))
             (leads_end (set s.views s.seat w) s.seats q.core.free found s.seat w (set_at s.views s.seat s.view w s.at) refl before);
         free_granted = flags q.core.free ∙ q.core.free_granted;
         own_pending = λ j u e live raised'. ⊎_elim
@@ -152,15 +146,14 @@ module _ (s : Moment clh_discipline) where
         free = v.node;
         once = nodes_swapped s.passes s.views q.core.free s.seat v s.at s.live led.0 q.core.once;
         leads = subst (λ (t : ℕ). Leads (set s.views s.seat w) v.node rest t) (sym
-            (wrote_else s.words (flag v.node) tail granted (tail_not_flag v.node)))
+            (wrote_else s.words (flag v.node) tail granted (λ e. omega (arith, e))))
             (leads_stay s.views (set s.views s.seat w) rest v.node last
             (λ i j u e e'. had_else s.views s.seat w j u (other i j e) e') led.1);
         free_granted = wrote_here s.words (flag v.node) granted own_inside;
         own_pending = λ j u e live raised. ⊎_elim
             (λ (y : (j ≡ s.seat) × (w ≡ u)). absurd (no_true (sym raised ∙ ap is_pending (sym y.1))))
             (λ (y : (j ≢ s.seat) × (get_elem? s.views j ≡ some u)).
-            wrote_else s.words (flag v.node) (flag u.node) granted (flags_apart u.node v.node
-            (nodes_apart s.passes s.views q.core.free q.core.once s.seat j v u s.at y.1 s.live live y.0))
+            wrote_else s.words (flag v.node) (flag u.node) granted (λ e. nodes_apart s.passes s.views q.core.free q.core.once s.seat j v u s.at y.1 s.live live y.0 (omega (arith, e)))
             ∙ q.core.own_pending j u y.1 live raised)
             (at_set s.views s.seat j w u e);
       }
@@ -169,7 +162,7 @@ pub raises : IsKept clh_discipline store_pending
 raises = record {
   noted = λ v found. record { same = refl; steps = refl; entered = refl; read = (refl, refl, refl) };
   keeps = λ s asks low. let quiet = wrong_phase (is_holder false) (raised_view s.view) Idle asks refl in record {
-    apart = flag_not_waiting s.view.node;
+    apart = λ e. omega (arith, e);
     told = tt;
     kept = record {
       calm = inl refl;
@@ -186,7 +179,7 @@ pub swaps : IsKept clh_discipline fetch_and_store_tail
 swaps = record {
   noted = λ v found. record { same = refl; steps = refl; entered = refl; read = (refl, refl, refl) };
   keeps = λ s asks low. record {
-    apart = tail_not_waiting;
+    apart = λ e. omega (arith, e);
     told = subst (λ (c : ℕ). slice_index s.words tail ≤ c) (sym ((s.queued.each_seat s.seat s.view s.at).counted s.live)) (tail_within s);
     kept = record { idle = asks.0; queued = refl; announced = asks.2; core = swapped s asks.0 asks.1 };
   };
@@ -206,7 +199,7 @@ polls = record {
   keeps = λ s asks low.
       let placed = (s.queued.each_seat s.seat s.view s.at).placed (ap (is_busy false) asks) in
       let idle = wrong_phase (is_holder false) (missed_view s.view) Queued asks refl in record {
-        apart = flag_not_waiting s.view.predecessor;
+        apart = λ e. omega (arith, e);
         told = tt;
         kept = (
           λ e. record {
@@ -235,7 +228,7 @@ pub waits : IsKept clh_discipline load_tail
 waits = record {
   noted = λ v found. record { same = refl; steps = refl; entered = refl; read = refl };
   keeps = λ s asks low. let stands = s.queued.each_seat s.seat s.view s.at in record {
-    apart = tail_not_waiting;
+    apart = λ e. omega (arith, e);
     told = tt;
     kept = record {
       calm = inl refl;
@@ -254,7 +247,7 @@ gives_back = record {
   keeps = λ s asks low.
       let held = ap (is_holder false) asks.0 in
       let cut = head_cut s.seats s.seat ((s.queued.each_seat s.seat s.view s.at).first held) in record {
-        apart = flag_not_waiting s.view.node;
+        apart = λ e. omega (arith, e);
         told = tt;
         kept = record {
           silent = asks.1;

@@ -5,29 +5,11 @@ use Rattle.std.specs.List.{sum_by}
 use Rattle.std.proofs.lemmas.Bool.Decides.{nat_tests}
 use mathlib.Core.Option.{some}
 use lib.ListN.{get_elem?}
-use Rattle.lock_rules.specs.Rows.{waiting}
 use Rattle.lock_rules.specs.declared.view.View.{View}
 use Rattle.lock_tables.specs.Numbers.{by_node, stands_in}
 use Rattle.lock_tables.proofs.Numbers.{own_stands, own_apart, hits, hits_self}
 use Rattle.lock_rules.proofs.Sums.{sum_set, part_le}
-use Rattle.clh_lock.specs.Rule.{tail, flag, pending}
-
--- two flags, and a flag and `tail`, are different words
-pub flags_apart : (a b : ℕ) → a ≢ b → flag a ≢ flag b
-flags_apart a b ne e = ne (omega (arith, e))
-
-pub flag_not_tail : (a : ℕ) → flag a ≢ tail
-flag_not_tail a e = absurd (omega (arith, e))
-
-pub tail_not_flag : (a : ℕ) → tail ≢ flag a
-tail_not_flag a e = absurd (omega (arith, e))
-
--- and neither is the word that counts waiters
-pub flag_not_waiting : (a : ℕ) → flag a ≢ waiting
-flag_not_waiting a e = absurd (omega (arith, e))
-
-pub tail_not_waiting : tail ≢ waiting
-tail_not_waiting e = absurd (omega (arith, e))
+use Rattle.clh_lock.specs.Rule.{pending}
 
 -- words after a store of a pending flag: one that was pending stays so
 pub stays_pending : (words : List ℕ) (i j : ℕ) → i < length words → slice_index words j ≡ pending

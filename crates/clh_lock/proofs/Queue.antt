@@ -23,7 +23,7 @@ use Rattle.lock_tables.proofs.Lists.{at_end, no_true, wrote_here, wrote_else}
 use Rattle.lock_tables.proofs.Numbers.{node_dealt, stands_first, stands_split, stands_join}
 use Rattle.lock_tables.proofs.Queues.{WasAt, lives, after_split, after_join, placed_before_split, placed_before_join}
 use Rattle.clh_lock.specs.Rule.{tail, flag, pending, granted, opens, queue_of, passes_to, is_pending, Leads, HasNodes, clh_discipline}
-use Rattle.clh_lock.proofs.Nodes.{flag_not_tail, flag_not_waiting, tail_not_waiting, zeros, with_last, nodes_stay, nodes_apart}
+use Rattle.clh_lock.proofs.Nodes.{zeros, with_last, nodes_stay, nodes_apart}
 use Rattle.clh_lock.proofs.Chain.{HadNode, AreApart, leads_stay, had_before, passes_are}
 
 -- a seat that was there with the same node and predecessor
@@ -45,7 +45,7 @@ opens_nodes c n tag some_pass =
       free = n;
       once = λ k. ap (λ (x : ℕ). x + cond (n == k) 1 0) (stands_first by_node node_dealt Clh c n tag k some_pass) ∙ with_last n k;
       leads = wrote_here zero_words tail n (omega (arith, size));
-      free_granted = wrote_else zero_words tail (flag n) n (flag_not_tail n) ∙ zeros (row_of Clh n) (flag n);
+      free_granted = wrote_else zero_words tail (flag n) n (λ e. omega (arith, e)) ∙ zeros (row_of Clh n) (flag n);
       own_pending = λ j v at live raised. ⊎_elim
           (λ (t : get_elem? [] j ≡ some v). absurd (some-ne-none v (sym t)))
           (λ (t : (j ≡ 0) × (first_view Clh c n tag ≡ v)). absurd (no_true (sym raised ∙ ap is_pending (sym t.1))))
@@ -77,10 +77,10 @@ same_nodes n words words' seats views id v w nodes at stand node predecessor las
 notes : (n : ℕ) (words seats : List ℕ) (views : List View) (x id : ℕ) (v w : View) → get_elem? views id ≡ some v → IsNoted v w
     → HasNodes n words seats views → HasNodes n (set words waiting x) seats (set views id w)
 notes n words seats views x id v w at noted nodes =
-    let flags = λ (k : ℕ). wrote_else words waiting (flag k) x (flag_not_waiting k) in
+    let flags = λ (k : ℕ). wrote_else words waiting (flag k) x (λ e. omega (arith, e)) in
     let node : w.node ≡ v.node = ap (λ (u : View). u.node) noted in
     same_nodes n words (set words waiting x) seats views id v w nodes at (λ k. ap (stands_in by_node k) noted) node
-    (ap (λ (u : View). u.predecessor) noted) (wrote_else words waiting tail x tail_not_waiting) (flags nodes.free ∙ nodes.free_granted)
+    (ap (λ (u : View). u.predecessor) noted) (wrote_else words waiting tail x (λ e. omega (arith, e))) (flags nodes.free ∙ nodes.free_granted)
     (λ raised live. flags w.node ∙ ap (λ (k : ℕ). slice_index words (flag k)) node
     ∙ nodes.own_pending id v at (sym (ap (λ (u : View). u.spent) noted) ∙ live) (sym (ap is_pending noted) ∙ raised))
     (λ k e. flags k ∙ e)
@@ -132,7 +132,7 @@ module _ (n : ℕ) (tag : Tag) (words seats : List ℕ) (views : List View) (q :
 pub disciplined : IsDisciplined clh_discipline
 disciplined = record {
   opens_long = λ n. length-set (replicate (row_of Clh n) granted) tail n ∙ length-replicate (row_of Clh n) granted;
-  opens_unannounced = λ n. wrote_else (replicate (row_of Clh n) granted) tail waiting n (λ e. tail_not_waiting (sym e))
+  opens_unannounced = λ n. wrote_else (replicate (row_of Clh n) granted) tail waiting n (λ e. omega (arith, e))
       ∙ zeros (row_of Clh n) waiting;
   opens = λ c n tag some_pass few. opens_nodes c n tag some_pass;
   notes = notes;

@@ -34,8 +34,7 @@ store_pending = record {
   outcome = always (record { event = no_event; after = λ v found. raised_view v });
 }
 
--- Swap of `tail` with the own node by an idle pass that has stored its flag and is announced where the lock counts: Enter. What was found
--- is a node of the lock
+-- Swap of `tail` with the own node by an idle pass, announced where the lock counts, that has stored its flag: Enter. It finds a node
 abbrev pub fetch_and_store_tail : StepKind
 fetch_and_store_tail = record {
   form = swap;

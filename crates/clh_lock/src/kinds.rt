@@ -10,6 +10,7 @@ pub struct StorePending;
 impl KindOf<ClhWords> for StorePending {
     ghost kind = { store_pending };
 
+    #[tactic(auto, using(crate::proofs::Kept::raises))]
     fn is_kept() {}
 }
 
@@ -19,6 +20,7 @@ pub struct FetchAndStoreTail;
 impl KindOf<ClhWords> for FetchAndStoreTail {
     ghost kind = { fetch_and_store_tail };
 
+    #[tactic(auto, using(crate::proofs::Kept::swaps))]
     fn is_kept() {}
 }
 
@@ -28,6 +30,7 @@ pub struct LoadWatched;
 impl KindOf<ClhWords> for LoadWatched {
     ghost kind = { load_watched };
 
+    #[tactic(auto, using(crate::proofs::Kept::polls))]
     fn is_kept() {}
 }
 
@@ -37,6 +40,7 @@ pub struct LoadTail;
 impl KindOf<ClhWords> for LoadTail {
     ghost kind = { load_tail };
 
+    #[tactic(auto, using(crate::proofs::Kept::waits))]
     fn is_kept() {}
 }
 
@@ -46,5 +50,6 @@ pub struct StoreGranted;
 impl KindOf<ClhWords> for StoreGranted {
     ghost kind = { store_granted };
 
+    #[tactic(auto, using(crate::proofs::Kept::gives_back))]
     fn is_kept() {}
 }

@@ -11,6 +11,7 @@ pub struct ClhWords;
 impl Disciplined for ClhWords {
     ghost discipline = { clh_discipline };
 
+    #[tactic(auto, using(crate::proofs::Queue::disciplined))]
     fn is_disciplined() {}
 }
 

@@ -9,3 +9,4 @@ pub mod Counting
 pub mod Kinds
 pub mod KeptKinds
 pub mod Words
+pub mod Calls
