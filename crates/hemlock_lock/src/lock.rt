@@ -11,7 +11,6 @@ ghost use Rattle.lock_rules.specs.Tokens.{view_of, badge_place, badge_waiting};
 ghost use Rattle.lock_tables.specs.Happened.{counting};
 ghost use Rattle.lock_tables.specs.Seats.{IsSized};
 ghost use Rattle.lock_tables.specs.Words.{words_key, words_table, IsOwnOf, IsSeatIn};
-ghost use Rattle.hemlock_lock.specs.Choice.{hemlock_waiters};
 ghost use Rattle.hemlock_lock.specs.Calls.{HasQueued, HasTakenAtOnce, HasMissed, HasTaken, HasAsked, HasReleased, HasBegunToLeave};
 ghost use Rattle.hemlock_lock.specs.Calls.{HasDone, HasWaited};
 ghost use Rattle.hemlock_lock.specs.Kinds.{own_name};
@@ -41,7 +40,7 @@ pub struct Hemlock<V: Cargo> {
 impl<V: Cargo> Hemlock<V> {
     /// How it learns of waiters.
     pub fn waiters(&self) -> Waiters
-        ensures { result ≡ hemlock_waiters self.now }
+        ensures { result ≡ (words_key self.now.words).waiters }
     {
         self.words.waiters()
     }
@@ -102,7 +101,7 @@ impl<V: Cargo> Basic<V> for Hemlock<V> {
 
     ghost count = { λ l. (words_key l.words).passes };
 
-    ghost made = { λ l waiters. hemlock_waiters l ≡ waiters };
+    ghost made = { λ l waiters. (words_key l.words).waiters ≡ waiters };
 
     fn make(
         alloc: Global,
