@@ -5,15 +5,15 @@ use Rattle.lock_rules.specs.Holders.{held_view}
 use Rattle.lock_rules.specs.Tag.{Tag}
 use Rattle.lock_rules.specs.Tokens.{view_of}
 use Rattle.lock_rules.specs.declared.held.Held.{Held}
+use Rattle.lock_rules.specs.declared.view.Phase.TheVariants.{Leaving}
 use Rattle.lock_rules.specs.declared.view.View.{View}
 use Rattle.lock_rules.specs.declared.view.Waiters.{Waiters}
 use Rattle.lock_rules.specs.declared.view.Waiters.TheVariants.{Queue, Count}
 use Rattle.lock_tables.specs.Counting.{is_announced, Counted, HasAnnounced, HasWithdrawn}
 use Rattle.lock_tables.specs.Happened.{Seated, announced_view}
 use Rattle.lock_tables.specs.Kinds.{StepKind, Made}
-use Rattle.hemlock_lock.specs.Kinds.{own_name, entered_view, granted_view, cleared_view, followed_view, granting_view, others_wait}
-use Rattle.hemlock_lock.specs.Kinds.{swap_tail, load_predecessor_grant, clear_predecessor_grant, load_tail, exchange_tail, store_grant}
-use Rattle.hemlock_lock.specs.Kinds.{load_grant}
+use Rattle.hemlock_lock.specs.Kinds.{own_name, entered_view, granted_view, cleared_view, followed_view, left_view, others_wait, swap_tail}
+use Rattle.hemlock_lock.specs.Kinds.{load_predecessor_grant, clear_predecessor_grant, load_tail, exchange_tail, store_grant, load_grant}
 use Rattle.hemlock_lock.specs.Rule.{hemlock_discipline}
 
 module _ {V : Type 0} (fit : V → Type 0) (tag_of : V → Tag) (parked : V → Bool) where
@@ -48,10 +48,8 @@ module _ {V : Type 0} (fit : V → Type 0) (tag_of : V → Tag) (parked : V → 
     pub withdrawn : HasWithdrawnLast (entered_view (announced_view (view_of before))) after
 
   -- a load of the predecessor's grant that did not show 1
-  pub record HasMissed (before after : Badge View) : Type 0 where
-    pub found : ℕ
-    pub other : found ≢ 1
-    pub step : HasMade load_predecessor_grant (view_of before, []) found (view_of after, [])
+  abbrev pub HasMissed : Badge View → Badge View → Type 0
+  HasMissed before now = (found : ℕ) × (found ≢ 1) × HasMade load_predecessor_grant (view_of before, []) found (view_of now, [])
 
   -- a load of the predecessor's grant that showed 1, and the store of 0 there; the value that was at home is the holder's, which is no
   -- longer announced
@@ -76,10 +74,9 @@ module _ {V : Type 0} (fit : V → Type 0) (tag_of : V → Tag) (parked : V → 
   HasAsked before now answer = Asks (held_view before).waiters before now answer
 
   -- the exchange of `tail` from the own name to 0; the holder's value is at home then
-  pub record HasLeft (before : Held V) (now : Badge View) : Type 0 where
-    pub found : ℕ
-    pub own : found ≡ own_name (held_view before)
-    pub exchange : HasMade exchange_tail (held_view before, (0, Some before.value) ∷ []) found (view_of now, [])
+  abbrev pub HasLeft : Held V → Badge View → Type 0
+  HasLeft before now = (found : ℕ) × (found ≡ own_name (held_view before))
+      × HasMade exchange_tail (held_view before, (0, Some before.value) ∷ []) found (view_of now, [])
 
   -- the exchange of `tail`, which found another, and the store of 1 in the own grant; the holder's value is at home then
   pub record HasGranted (before : Held V) : Type 0 where
@@ -89,24 +86,20 @@ module _ {V : Type 0} (fit : V → Type 0) (tag_of : V → Tag) (parked : V → 
         (followed_view (held_view before), (0, Some before.value) ∷ [])
     pub was : ℕ
     pub store : HasMade store_grant (followed_view (held_view before), (0, Some before.value) ∷ []) was
-        (granting_view (followed_view (held_view before)), [])
+        (left_view Leaving (followed_view (held_view before)), [])
 
   -- a load of the own grant that showed 0
-  pub record HasDone (before : View) (now : Badge View) : Type 0 where
-    pub found : ℕ
-    pub cleared : found ≡ 0
-    pub step : HasMade load_grant (before, []) found (view_of now, [])
+  abbrev pub HasDone : View → Badge View → Type 0
+  HasDone before now = (found : ℕ) × (found ≡ 0) × HasMade load_grant (before, []) found (view_of now, [])
 
   -- a load of the own grant that did not show 0
-  pub record HasWaited (before : View) (now : Badge View) : Type 0 where
-    pub found : ℕ
-    pub uncleared : found ≢ 0
-    pub step : HasMade load_grant (before, []) found (view_of now, [])
+  abbrev pub HasWaited : View → Badge View → Type 0
+  HasWaited before now = (found : ℕ) × (found ≢ 0) × HasMade load_grant (before, []) found (view_of now, [])
 
   -- a release that is done: `tail` named the holder, or the grant was cleared at once
   abbrev pub HasReleased : Held V → Badge View → Type 0
-  HasReleased before now = HasLeft before now ⊎ (HasGranted before × HasDone (granting_view (followed_view (held_view before))) now)
+  HasReleased before now = HasLeft before now ⊎ (HasGranted before × HasDone (left_view Leaving (followed_view (held_view before))) now)
 
   -- a release that isn't: the grant was not cleared yet
   abbrev pub HasBegunToLeave : Held V → Badge View → Type 0
-  HasBegunToLeave before now = HasGranted before × HasWaited (granting_view (followed_view (held_view before))) now
+  HasBegunToLeave before now = HasGranted before × HasWaited (left_view Leaving (followed_view (held_view before))) now

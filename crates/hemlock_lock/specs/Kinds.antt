@@ -2,6 +2,7 @@
 use Rattle.std.specs.Prelude.{◌≡◌, ◌≢◌, ℕ, ◌+◌, ◌≤◌, Bool, true, false, ◌==◌, not}
 use Rattle.lock_rules.specs.Views.{is_counted}
 use Rattle.lock_rules.specs.declared.step.Answer.TheVariants.{Open}
+use Rattle.lock_rules.specs.declared.view.Phase.{Phase}
 use Rattle.lock_rules.specs.declared.view.Phase.TheVariants.{Idle, Queued, Holding, Leaving}
 use Rattle.lock_rules.specs.declared.view.View.{View}
 use Rattle.lock_tables.specs.Happened.{missed_view, took_view, tested_view}
@@ -33,13 +34,9 @@ cleared_view v = record v { steps = v.steps + 1; predecessor = 0; owes = false }
 abbrev pub followed_view : View → View
 followed_view v = record v { steps = v.steps + 1; followed = true }
 
--- the pass left, and is idle
-abbrev pub left_view : View → View
-left_view v = record v { phase = Idle; steps = v.steps + 1; followed = false }
-
--- the pass left, and its grant stands
-abbrev pub granting_view : View → View
-granting_view v = record v { phase = Leaving; steps = v.steps + 1; followed = false }
+-- the pass left: it is idle or, where its grant stands, leaving
+abbrev pub left_view : Phase → View → View
+left_view phase v = record v { phase = phase; steps = v.steps + 1; followed = false }
 
 -- a load that showed that the grant was cleared
 abbrev pub done_view : View → View
@@ -49,8 +46,7 @@ done_view v = record v { phase = Idle; steps = v.steps + 1; loads = v.loads + 1;
 abbrev pub others_wait : View → ℕ → Bool
 others_wait v found = not (found == own_name v)
 
--- Swap of `tail` by an idle pass, which is announced where the lock counts: Enter and Take where it was 0, else Enter. What was found is 0
--- or the name of a pass of the lock
+-- Swap of `tail` by an idle pass, which is announced where the lock counts: Enter and Take where it was 0, else Enter
 abbrev pub swap_tail : StepKind
 swap_tail = record {
   form = swap;
@@ -104,7 +100,7 @@ exchange_tail = record {
   operand = λ v. 0;
   asks = λ v. (v.phase ≡ Holding) × (v.announced ≡ false) × (v.owes ≡ false);
   tells = λ v found. Unit {0};
-  outcome = showing own_name (record { event = leave; after = λ v found. left_view v })
+  outcome = showing own_name (record { event = leave; after = λ v found. left_view Idle v })
       (record { event = no_event; after = λ v found. followed_view v });
 }
 
@@ -116,7 +112,7 @@ store_grant = record {
   operand = λ v. 1;
   asks = λ v. (v.phase ≡ Holding) × (v.announced ≡ false) × (v.owes ≡ false) × (v.followed ≡ true);
   tells = λ v found. Unit {0};
-  outcome = always (record { event = leave; after = λ v found. granting_view v });
+  outcome = always (record { event = leave; after = λ v found. left_view Leaving v });
 }
 
 -- Load of the own grant by a pass that is leaving: no event. The pass is idle where it is 0
