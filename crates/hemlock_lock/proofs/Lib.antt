@@ -2,5 +2,4 @@ pub mod Chains
 pub mod Queue
 pub mod Kept
 pub mod Tokens
-pub mod Releases
 pub mod Grants

@@ -5,24 +5,24 @@
 //! holds 1:
 //!
 //! ```text
-//! Lock      pred := swap(Tail, Self)                    begin           steps::swap_tail
+//! Lock      pred := swap(Tail, Self)                    begin           swap::<SwapTail>
 //!           if pred != null:
-//!             while pred.Grant != L: pause              poll, once      steps::load_predecessor_grant
-//!             pred.Grant := null                        poll            steps::clear_predecessor_grant
-//! Unlock    if cas(Tail, Self, null) != Self:           begin_release   steps::exchange_tail
-//!             Self.Grant := L                           begin_release   steps::store_grant
-//!             while Self.Grant != null: pause           poll_release    steps::load_grant (and once in begin_release)
+//!             while pred.Grant != L: pause              poll, once      load::<LoadPredecessorGrant>
+//!             pred.Grant := null                        poll            store::<ClearPredecessorGrant>
+//! Unlock    if cas(Tail, Self, null) != Self:           begin_release   compare_exchange::<ExchangeTail>
+//!             Self.Grant := L                           begin_release   store::<StoreGrant>
+//!             while Self.Grant != null: pause           poll_release    load::<LoadGrant> (and once in begin_release)
 //! ```
 //!
 //! The waiter test, by which a holder learns whether another pass is behind it, is that of Chehab and others, "CLoF: A Compositional
-//! Lock Framework for Multi-level NUMA Systems", SOSP 2021: `waiter`, `steps::load_tail`. A lock made with `Waiters::Count`
-//! learns of waiters by a counter in place of `tail`: `begin` adds 1 to it before its other steps (`steps::announce`), the call that takes
-//! subtracts 1 as its last step (`steps::withdraw`), and `waiter` loads it (`steps::count_waiting`).
+//! Lock Framework for Multi-level NUMA Systems", SOSP 2021: `waiter`, `load::<LoadTail>`. A lock made with `Waiters::Count`
+//! learns of waiters by a counter in place of `tail`: `begin` adds 1 to it before its other steps (`announce`), the call that takes
+//! subtracts 1 as its last step (`withdraw`), and `waiter` loads it (`count_waiting`).
 //!
 //! The value is taken out of its slot behind the last step that enters, and put back before the first step that leaves. Each step is a
 //! sequentially consistent operation on one word.
 //!
-//! `tail` and the grants stand on lines of their own in one `atomic_table`. `specs/Rule` says what holds of them, `specs/Kinds` has the
+//! `tail` and the grants stand on lines of their own in one `LockWords`. `specs/Rule` says what holds of them, `specs/Kinds` has the
 //! kinds of step, `specs/Calls` what each call did, and `specs/Grants` what follows of the passes that leave.
 #![tactic(auto)]
 
@@ -30,7 +30,6 @@ mod kinds;
 mod laws;
 mod leave;
 mod lock;
-mod steps;
 
 pub use kinds::{
     ClearPredecessorGrant, ExchangeTail, LoadGrant, LoadPredecessorGrant, LoadTail, StoreGrant,
