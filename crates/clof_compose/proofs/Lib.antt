@@ -13,3 +13,4 @@ pub mod Lists
 pub mod Parents
 pub mod Shares
 pub mod Releasing
+pub mod Leaving

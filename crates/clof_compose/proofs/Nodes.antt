@@ -6,7 +6,7 @@ use Rattle.lock_rules.specs.Tag.{Tag}
 use Rattle.lock_rules.specs.Meanings.{Place}
 use Rattle.lock_rules.specs.Passes.{IsOf}
 use Rattle.keep_local.specs.declared.shape.Shape.{Shape}
-use Rattle.keep_local.specs.Shapes.{callers_of, node_of}
+use Rattle.keep_local.specs.Shapes.{callers_of, node_of, top_of}
 use Rattle.keep_local.specs.States.{ShareState}
 use Rattle.clof_compose.specs.Calls.{MayTurn, MayRelease}
 use Rattle.clof_compose.specs.Contexts.{Context, IsContextOf, own_tag}
@@ -39,6 +39,9 @@ module _ {B L HL : Type 0} {name tag : B → Tag} {count : B → ℕ} {place : L
 
   pub level_same : c.level ≡ level
   level_same = ap (λ (x : Context). x.level) own.context_is
+
+  pub level_below : c.level < top_of (course_of t).shape
+  level_below = subst (λ n. n < top_of (course_of t).shape) (sym level_same) is.shape_is.below_top
 
   pub above : high_level ≡ c.level + 1
   above = let e = level_same in let a = is.above in omega (arith, e, a)

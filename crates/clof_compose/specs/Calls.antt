@@ -39,12 +39,12 @@ abbrev pub HasClimbed : Climb → Climb → Type 0
 HasClimbed old new = ((old.level < new.level) × (0 < new.entries))
     ⊎ ((new.level ≡ old.level) × (new.loads ≡ old.loads + 1) × (new.ready ≡ false))
 
--- The last load where the token leaves did not show the word that it waits for. At the lowest level this is the one load since the token
+-- The last load where the token leaves did not show the word that it waits for. It is the one load of the basic token there since the token
 -- held, but for that of `waiter` below the top
-pub record HasBegunToLeave (top level loads : ℕ) (descent : Descent) : Type 0 where
+pub record HasBegunToLeave (top : ℕ) (loads : ℕ → ℕ) (descent : Descent) : Type 0 where
   pub unready : descent.ready ≡ false
-  pub at_top : descent.level ≡ level → level ≡ top → descent.loads ≡ loads + 1
-  pub below_top : descent.level ≡ level → level < top → descent.loads ≡ loads + 2
+  pub at_top : descent.level ≡ top → descent.loads ≡ loads descent.level + 1
+  pub below_top : descent.level < top → descent.loads ≡ loads descent.level + 2
 
 -- the token leaves lower, or it leaves where it did by one load more, and the last load there did not show the word that it waits for
 abbrev pub HasDescended : Descent → Descent → Type 0

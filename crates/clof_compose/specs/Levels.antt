@@ -1,5 +1,5 @@
 -- What the tokens of a level mean.
-use Rattle.std.specs.Prelude.{◌≡◌, ℕ, ◌+◌, ◌<◌, Bool, None, IfSome}
+use Rattle.std.specs.Prelude.{◌≡◌, ℕ, ◌+◌, ◌<◌, Bool, cond, nat_lt, None, IfSome}
 use Rattle.std.specs.Int.{bit_at}
 use Rattle.lock_rules.specs.Tag.{Tag}
 use Rattle.lock_rules.specs.Meanings.{Place}
@@ -23,12 +23,16 @@ module _ {Pass Held : Type 0} where
   IsStanding stands (Kept h) = stands h
   IsStanding stands Away = ⊥
 
+-- the loads of a holder's basic tokens: above this level those of the high lock's holder
+abbrev pub loads_from : ℕ → ℕ → (ℕ → ℕ) → ℕ → ℕ
+loads_from level own high j = cond (nat_lt level j) (high j) own
+
 module _ {P Pass Held : Type 0} where
   -- what the high lock's holder means, where there is one
   abbrev pub kept_stand : (Held → Stand (Root P)) → High Pass Held → Stand (Root P)
-  kept_stand stand (Idle p) = record { context = no_context; loads = 0; root = None }
+  kept_stand stand (Idle p) = record { context = no_context; loads = λ _. 0; root = None }
   kept_stand stand (Kept h) = stand h
-  kept_stand stand Away = record { context = no_context; loads = 0; root = None }
+  kept_stand stand Away = record { context = no_context; loads = λ _. 0; root = None }
 
   abbrev pub high_with_root : (Held → Root P → Held) → High Pass Held → Root P → High Pass Held
   high_with_root put (Idle p) r = Idle p

@@ -18,10 +18,10 @@ pub record Climb : Type 0 where
   pub loads : ℕ
   pub ready : Bool
 
--- a holder: how many loads its basic token recorded, and the root, where it is reached
+-- a holder: how many loads its basic token of each level recorded, and the root, where it is reached
 pub record Stand (R : Type 0) : Type 0 where
   pub context : Context
-  pub loads : ℕ
+  pub loads : ℕ → ℕ
   pub root : Option R
 
 -- a pass that leaves, as a queue, and what its release tells

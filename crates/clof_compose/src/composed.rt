@@ -83,7 +83,8 @@ pub trait Composed<P: Payload>: Sized {
 
     /// Leaves the lock. At each level below the top that it comes to it asks whether somebody is queued behind, and notes the answer. It
     /// keeps the high lock for them where the level's threshold allows, and else releases the high lock first. The answer is `Not` only
-    /// where the last load at the level where the pass leaves, which the token records, didn't show the word that the pass waits for.
+    /// where the last load at the level where the pass leaves, which the token records, didn't show the word that the pass waits for. It is
+    /// the one load that this call made there, but for that of the question whether somebody is queued.
     fn begin_release(&self, held: Self::Held) -> Step<Self::Leave, Self::Pass>
         requires sound { sound self.now }
         requires own { has self.now (Self.Held.stand held).context }
@@ -93,7 +94,7 @@ pub trait Composed<P: Payload>: Sized {
         ensures leave { IfNot result (λ l. (Self.Leave.descent l).context ≡ (Self.Held.stand held).context) }
         ensures descends { IfNot result (λ l. Self.Leave.descends l) }
         ensures above { IfNot result (λ l. level self.now ≤ (Self.Leave.descent l).level) }
-        ensures waits { IfNot result (λ l. HasBegunToLeave (top_of (course_of (tag self.now)).shape) (level self.now)
+        ensures waits { IfNot result (λ l. HasBegunToLeave (top_of (course_of (tag self.now)).shape)
             (Self.Held.stand held).loads (Self.Leave.descent l)) }
         ensures noted { IfNot result (λ l. IsSomeAnd (Self.Held.stand held).root (ClosesWith (level self.now)
             (Self.Leave.descent l).report)) }

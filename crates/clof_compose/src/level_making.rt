@@ -1,5 +1,5 @@
 //! How a level is made over a high lock.
-ghost use Rattle.std.specs.Prelude.{◌≡◌, ◌+◌, ◌<◌, ◌≤◌, ◌^◌, ℕ, [], All, length, slice_get, Some, vec_capacity, IfOk, IfErr};
+ghost use Rattle.std.specs.Prelude.{◌≡◌, ◌+◌, ◌<◌, ◌≤◌, ◌^◌, ℕ, false, [], All, length, slice_get, Some, vec_capacity, IfOk, IfErr};
 ghost use Rattle.lock_rules.specs.Passes.{AreAll as AreAllLow};
 ghost use Rattle.clof_compose.specs.Contexts.{AreContexts, own_tag};
 ghost use Rattle.clof_compose.specs.Courses.{course_of};
@@ -173,22 +173,38 @@ fn make_node<
     ensures lows { IfOk result (λ n. AreAllLow B.Pass.place (B.name n.lock) (B.tag n.lock) (B.count n.lock) n.list.items) }
     ensures refused { IfErr result (λ p. p ≡ pass) }
 {
+    let own = new_own(alloc, number, pass)?;
+    match B::make(alloc, recipe, contexts, own) {
+        Ok((lock, list)) => Ok(Node { lock, list }),
+        Err(refused) => Err(idle_pass(refused.value.high.into_inner())),
+    }
+}
+
+// A node's value at making: no turn has kept its high lock, `waiter` hasn't been asked, and the high part is this pass. For want of
+// memory it comes back.
+fn new_own<P, Pass: Drop, Held: Drop>(
+    alloc: Global,
+    node: u32,
+    pass: Pass,
+) -> Result<Own<P, Pass, Held>, Pass>
+    ensures node { IfOk result (λ own. own.node ≡ node) }
+    ensures kept { IfOk result (λ own. own.kept ≡ 0) }
+    ensures unsaid { IfOk result (λ own. own.said ≡ false) }
+    ensures idle { IfOk result (λ own. own.high ≡ Idle pass) }
+    ensures refused { IfErr result (λ p. p ≡ pass) }
+{
     let high = match Boxed::new(alloc, High::Idle(pass)) {
         Ok(high) => high,
         Err(high) => return Err(idle_pass(high)),
     };
-    let own = Own {
-        node: number,
+    Ok(Own {
+        node,
         kept: 0,
         said: false,
         filler: [0; 7],
         high,
         payload: PhantomData,
-    };
-    match B::make(alloc, recipe, contexts, own) {
-        Ok((lock, list)) => Ok(Node { lock, list }),
-        Err(refused) => Err(idle_pass(refused.value.high.into_inner())),
-    }
+    })
 }
 
 // The pass of a high part that is idle.

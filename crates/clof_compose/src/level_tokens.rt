@@ -3,7 +3,7 @@ ghost use Rattle.std.specs.Prelude.{◌≡◌};
 ghost use Rattle.lock_rules.specs.Holders.{holder_of, with_value};
 ghost use Rattle.lock_rules.specs.Views.{answer_of};
 ghost use Rattle.lock_rules.specs.declared.step.Answer.TheVariants.{Open};
-ghost use Rattle.clof_compose.specs.Levels.{level_context, kept_stand, own_with_root, IsHolding, IsStanding};
+ghost use Rattle.clof_compose.specs.Levels.{level_context, kept_stand, loads_from, own_with_root, IsHolding, IsStanding};
 ghost use Rattle.clof_compose.specs.Stages.{queue_climb, IsQueued, leave_descent, IsLeaving};
 
 use crate::context_id::ContextId;
@@ -61,7 +61,7 @@ impl<L: Placed> Resting for LevelPass<L> {
 impl<P: Payload, Pass: Resting, Held: Standing<P>> Standing<P> for LevelHeld<P, Pass, Held> {
     ghost stand = { λ h. record {
       context = level_context h.id.level h.id.node h.id.number (holder_of h.low).place;
-      loads = (holder_of h.low).loads;
+      loads = loads_from h.id.level (holder_of h.low).loads (kept_stand Held.stand h.low.value.high).loads;
       root =
           (kept_stand Held.stand h.low.value.high).root;
     } };

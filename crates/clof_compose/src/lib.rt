@@ -1,4 +1,13 @@
 //! Composed locks.
+//!
+//! What the composition of CLoF (Chehab and others, SOSP 2021) names, and where it stands here:
+//!
+//! | CLoF | here |
+//! |---|---|
+//! | `has_waiters` | `Basic::waiter`, which a release asks once a level; `Own::said` keeps the answer |
+//! | `keep_local` | a yes of `waiter`, and an `Own::kept` below the level's threshold |
+//! | `pass_high_lock` | the high lock's token stays in the value, as `High::Kept`, where the next holder finds it |
+//! | `clear_high_lock` | the high lock is released, and its pass is in the value again, as `High::Idle` |
 #![tactic(auto)]
 
 mod cargo;

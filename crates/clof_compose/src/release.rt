@@ -2,13 +2,15 @@
 ghost use Rattle.std.specs.Prelude.{◌≡◌, ◌+◌, ◌<◌, ◌≤◌, true, false, IsSomeAnd, IfSome, IfNone};
 ghost use Rattle.std.specs.Int.{bit_at};
 ghost use Rattle.lock_rules.specs.Steps.{IfNot, IfGot};
-ghost use Rattle.clof_compose.specs.Calls.{ClosesWith, MayRelease, tests_in};
+ghost use Rattle.clof_compose.specs.Calls.{ClosesWith, HasBegunToLeave, MayRelease, tests_in};
+ghost use Rattle.clof_compose.specs.Courses.{course_of};
 ghost use Rattle.clof_compose.specs.Levels.{IsDescending, IsIdleAgain, IsStanding, kept_stand};
 ghost use Rattle.clof_compose.specs.Contexts.{own_tag};
 ghost use Rattle.clof_compose.specs.Nodes.{IsContextOfNode};
 ghost use Rattle.clof_compose.specs.Owns.{IsOwnFit, bit_of, is_kept, own_tag_of};
 ghost use Rattle.clof_compose.specs.Releases.{HasNoted, IsReleasing};
 ghost use Rattle.clof_compose.specs.declared.own.High.TheVariants.{Kept, Away};
+ghost use Rattle.keep_local.specs.Shapes.{top_of};
 ghost use Rattle.keep_local.specs.Turns.{run};
 
 use crate::climb::InHand;
@@ -40,6 +42,7 @@ pub(crate) fn keep_for_next<P: Payload, Pass: Resting, Held: Standing<P>>(
     ensures raised { IfSome result (λ _. own.new.kept ≡ own.old.kept + 1) }
     ensures not_raised { IfNone result (own.new.kept ≡ own.old.kept) }
     ensures context { (kept_stand Held.stand own.new.high).context ≡ (kept_stand Held.stand own.old.high).context }
+    ensures loads { (kept_stand Held.stand own.new.high).loads ≡ (kept_stand Held.stand own.old.high).loads }
     ensures stands { IsStanding Held.stands own.new.high }
     ensures kept { IfSome result (λ _. (own.old.said ≡ true)
         × IsOwnFit Pass.rest Held.stand P.calls P.tag Held.stands own.new.node own.new.kept own.new.said own.new.high) }
@@ -88,7 +91,8 @@ pub(crate) fn release_high<P: Payload, H: Composed<P>>(
     ensures context { IfNot result (λ w. (H.Leave.descent w.1).context ≡ (kept_stand H.Held.stand low.value.high).context) }
     ensures descends { IfNot result (λ w. H.Leave.descends w.1) }
     ensures above { IfNot result (λ w. H.level high.now ≤ (H.Leave.descent w.1).level) }
-    ensures unready { IfNot result (λ w. (H.Leave.descent w.1).ready ≡ false) }
+    ensures waits { IfNot result (λ w. HasBegunToLeave (top_of (course_of (H.tag high.now)).shape)
+        (kept_stand H.Held.stand low.value.high).loads (H.Leave.descent w.1)) }
     ensures noted { IfNot result (λ w. IsSomeAnd (kept_stand H.Held.stand low.value.high).root (ClosesWith (H.level high.now)
         (H.Leave.descent w.1).report)) }
     ensures kept_seat { IfGot result (λ w. w.0.seat ≡ low.seat) }
@@ -136,7 +140,8 @@ pub(crate) fn let_go<P: Payload, H: Composed<P>>(
     ensures seat { IfNot result (λ w. w.0.seat ≡ low.seat) }
     ensures descends { IfNot result (λ w. IsDescending level w.0.value.node w.0.value.said (own_tag low.value.node
         (kept_stand H.Held.stand low.value.high).context) (H.Leave.descends w.1) (H.Leave.descent w.1)) }
-    ensures unready { IfNot result (λ w. (H.Leave.descent w.1).ready ≡ false) }
+    ensures waits { IfNot result (λ w. HasBegunToLeave (top_of (course_of (H.tag high.now)).shape)
+        (kept_stand H.Held.stand low.value.high).loads (H.Leave.descent w.1)) }
     ensures said { IfNot result (λ w. w.0.value.said ≡ low.value.said) }
     ensures noted { IfNot result (λ w. IsSomeAnd (kept_stand H.Held.stand low.value.high).root (ClosesWith level
         (H.Leave.descent w.1).report)) }

@@ -71,7 +71,7 @@ impl<L: Queueing> Climbing for TopQueue<L> {
 impl<P: Payload> Standing<P> for TopHeld<P> {
     ghost stand = { λ h. record {
       context = top_context h.level (holder_of h.low).place;
-      loads = (holder_of h.low).loads;
+      loads = λ _. (holder_of h.low).loads;
       root = Some h.low.value;
     } };
 

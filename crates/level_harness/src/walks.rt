@@ -2,7 +2,6 @@
 ghost use Rattle.std.specs.Prelude.{◌≡◌, ◌<◌, ◌≤◌, ℕ, [], length, map, slice_get, slice_index, Some, IfSome, vec_capacity};
 ghost use Rattle.keep_local.specs.Shapes.{callers_of};
 ghost use Rattle.keep_local.specs.States.{new_shares};
-ghost use Rattle.keep_local.specs.Turns.{turns_of};
 ghost use Rattle.clof_compose.specs.Courses.{course_of};
 ghost use Rattle.clof_compose.specs.Passes.{AreAll, IsNumber};
 ghost use Rattle.clof_compose.specs.Roots.{IsFit, root_tag};
@@ -14,21 +13,23 @@ use crate::roll::Roll;
 use crate::rounds::{are_done, round, steps};
 use crate::walker::{State, Stood, Walker, WalkerIn};
 use clof_compose::{Composed, Resting, Root};
-use keep_local::{Share, Turn};
+use keep_local::Share;
 use std::alloc::Global;
 use std::sync::Wait;
 
-/// What a walk leaves: the root, and where each caller that was told to step stood behind its step.
+/// What a walk leaves: the root, where each caller that was told to step stood behind its step, and the tests that each caller's pass tells
+/// at the end, which are those of its last turn, 0 without one.
 #[derive(Drop)]
 pub struct Walked {
     pub root: Root<Roll>,
     pub stood: Vec<Stood>,
+    pub told: Vec<u32>,
 }
 
 /// All callers take turns on one thread. First the callers that `order` names make a step each, in that order, and then all make rounds. A
 /// round is a step of each, in ascending order: an idle caller with turns left begins to take the lock, a queued one asks again, a holder
 /// makes one call and begins to leave, and one that leaves asks again. The lock is taken apart when all are idle with no turn left. The
-/// answer is `None` for want of memory, or where a pass tells other tests than those of its caller's last turn.
+/// answer is `None` for want of memory alone.
 pub fn walk<C: Composed<Roll> + Drop, R: Wait>(
     rt: &R,
     alloc: Global,
@@ -54,10 +55,7 @@ pub fn walk<C: Composed<Roll> + Drop, R: Wait>(
     let passes = idle_passes(&lock, walkers, passes);
     let told = tests_of(alloc, &passes)?;
     let root = lock.close(passes);
-    if !tell_last(root.trail().turns(), &told) {
-        return None;
-    }
-    Some(Walked { root, stood })
+    Some(Walked { root, stood, told })
 }
 
 // Makes the steps of an order, and then rounds until every caller is idle with no turn left.
@@ -93,27 +91,6 @@ fn tests_of<P: Resting>(alloc: Global, passes: &[P]) -> Option<Vec<u32>>
         told.push(pass.tests()).ok()?;
     }
     Some(told)
-}
-
-// Whether each caller's tests are those of its last turn, or 0 where it made none.
-fn tell_last(turns: &[Turn], told: &[u32]) -> bool {
-    for (caller, tests) in told.iter().enumerate() {
-        if last_tests(turns, caller) != *tests {
-            return false;
-        }
-    }
-    true
-}
-
-// The tests of a caller's last turn, or 0 where it made none.
-fn last_tests(turns: &[Turn], caller: usize) -> u32 {
-    let mut tests = 0;
-    for turn in turns {
-        if turn.caller as usize == caller {
-            tests = turn.tests;
-        }
-    }
-    tests
 }
 
 // Makes rounds until every caller is idle with no turn left.

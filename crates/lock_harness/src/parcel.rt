@@ -16,6 +16,8 @@ pub struct Parcel {
     pub unparkings: u64,
     /// Whether the first holder of all, where it was asked to park, saw that another waits.
     pub met: bool,
+    /// How often `Slow` told a caller `Not` before it asked the lock inside, in `poll` and in the calls that release.
+    pub waits: u64,
 }
 
 impl Parcel {
@@ -23,6 +25,7 @@ impl Parcel {
     pub fn new(count: u64) -> Parcel
         ensures number { result.count ≡ count }
         ensures unparked { (result.parked ≡ false) × (result.parkings ≡ 0) × (result.unparkings ≡ 0) × (result.met ≡ false) }
+        ensures unwaited { result.waits ≡ 0 }
     {
         Parcel {
             count,
@@ -30,6 +33,7 @@ impl Parcel {
             parkings: 0,
             unparkings: 0,
             met: false,
+            waits: 0,
         }
     }
 }

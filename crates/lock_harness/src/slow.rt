@@ -9,7 +9,8 @@ use lock_rules::{Basic, Departing, Holding, Queueing, Refused, Step};
 use std::alloc::Global;
 
 /// A lock over another one. Each `poll` of a pass, and each call that releases it, answers `Not` for the first `rounds` times, and only
-/// then asks the lock inside. So `acquire` and `release` meet as many `Not`s as a test wants, whichever lock is inside.
+/// then asks the lock inside. So `acquire` and `release` meet as many `Not`s as a test wants, whichever lock is inside. The value counts
+/// them (`Parcel::waits`).
 #[derive(Drop)]
 pub struct Slow<B> {
     lock: B,
@@ -86,7 +87,10 @@ impl<B: Basic<Parcel>> Basic<Parcel> for Slow<B> {
         }
         match self.lock.poll(queue) {
             Step::Not(queue) => Step::Not(SlowQueue { queue, missed }),
-            Step::Got(held) => Step::Got(held),
+            Step::Got(mut held) => {
+                add_waits::<B>(&mut held, missed);
+                Step::Got(held)
+            }
         }
     }
 
@@ -107,10 +111,13 @@ impl<B: Basic<Parcel>> Basic<Parcel> for Slow<B> {
                 let missed = missed + 1;
                 Step::Not(SlowLeave::Waits { held, missed })
             }
-            SlowLeave::Waits { held, missed } => match self.lock.begin_release(held) {
-                Step::Not(leave) => Step::Not(SlowLeave::Leaves { leave, missed }),
-                Step::Got(pass) => Step::Got(pass),
-            },
+            SlowLeave::Waits { mut held, missed } => {
+                add_waits::<B>(&mut held, missed);
+                match self.lock.begin_release(held) {
+                    Step::Not(leave) => Step::Not(SlowLeave::Leaves { leave, missed }),
+                    Step::Got(pass) => Step::Got(pass),
+                }
+            }
             SlowLeave::Leaves { leave, missed } => match self.lock.poll_release(leave) {
                 Step::Not(leave) => Step::Not(SlowLeave::Leaves { leave, missed }),
                 Step::Got(pass) => Step::Got(pass),
@@ -127,4 +134,15 @@ impl<B: Basic<Parcel>> Basic<Parcel> for Slow<B> {
         let Slow { lock, rounds: _ } = self;
         lock.close(passes)
     }
+}
+
+// Adds to the value's count of waits.
+fn add_waits<B: Basic<Parcel>>(held: &mut B::Held, missed: u64)
+    ensures place { (B.Held.holder held.new).place ≡ (B.Held.holder held.old).place }
+    ensures loads { (B.Held.holder held.new).loads ≡ (B.Held.holder held.old).loads }
+    ensures tested { (B.Held.holder held.new).tested ≡ (B.Held.holder held.old).tested }
+    ensures parked { (B.Held.holder held.new).value.parked ≡ (B.Held.holder held.old).value.parked }
+{
+    let parcel = B::value_mut(held);
+    parcel.waits = parcel.waits.wrapping_add(missed);
 }

@@ -41,7 +41,7 @@ fn main(rt: HostRuntime) -> anyhow::Result<()> {
     };
     let calls = roll.callers.get().len();
     match end {
-        End::Done(_) => println!(rt; "{locks} {keep} {threads} {turns} {calls}")?,
+        End::Walked { .. } | End::Done => println!(rt; "{locks} {keep} {threads} {turns} {calls}")?,
         End::Refused => bail!(
             "there was no memory for the lock; its root came back with {turns} turns and {calls} calls"
         ),

@@ -7,8 +7,10 @@ use level_harness::Stood;
 pub enum End {
     /// There was no memory for the lock.
     Refused,
-    /// Its callers have made their turns. Where they walked, these are the places at which those stood that were named, behind each step.
-    Done(Vec<Stood>),
+    /// Its callers have walked: where those stood that were named, behind each step, and the tests that each caller's pass tells.
+    Walked { stood: Vec<Stood>, told: Vec<u32> },
+    /// Its callers have made their turns on threads, or weren't asked to make any.
+    Done,
 }
 
 /// The root of a lock that was taken apart, or refused.

@@ -93,9 +93,9 @@ impl<Q: Resting> Tried<Q> for Roll {
         ensures tagged { IfSome result (λ o. root_tag roll_tag o.root ≡ C.tag lock) }
     {
         match walk(rt, alloc, lock, passes, shares, order) {
-            Some(Walked { root, stood }) => Some(Outcome {
+            Some(Walked { root, stood, told }) => Some(Outcome {
                 root,
-                end: End::Done(stood),
+                end: End::Walked { stood, told },
             }),
             None => None,
         }

@@ -92,20 +92,20 @@ where
         Trial::Walk(order) => P::walk::<C, R>(rt, alloc, lock, passes, shares, order),
         Trial::Hold => {
             match hold_under::<Q, P, R, C>(rt, alloc, lock, passes, shares) {
-                Some(root) => Some(done(alloc, root)),
+                Some(root) => Some(done(root)),
                 None => None,
             }
         }
-        Trial::Close => Some(done(alloc, lock.close(passes))),
+        Trial::Close => Some(done(lock.close(passes))),
     }
 }
 
-// The outcome of a trial with this root, whose callers made no steps by name.
-fn done<P>(alloc: Global, root: Root<P>) -> Outcome<P>
+// The outcome of a trial with this root, whose callers didn't walk.
+fn done<P>(root: Root<P>) -> Outcome<P>
     ensures { result.root ≡ root }
 {
     Outcome {
         root,
-        end: End::Done(Vec::new(alloc)),
+        end: End::Done,
     }
 }

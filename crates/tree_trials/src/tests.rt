@@ -67,8 +67,16 @@ pub(crate) fn has_turns(root: &Root<Roll>, turns: &[Turn]) -> bool {
 /// Whether a walk was made, and the callers that were named stood there behind their steps.
 pub(crate) fn stood_at(outcome: &Outcome<Roll>, places: &[Stood]) -> bool {
     match &outcome.end {
-        End::Done(stood) => stood.as_slice() == places,
-        End::Refused => false,
+        End::Walked { stood, .. } => stood.as_slice() == places,
+        End::Done | End::Refused => false,
+    }
+}
+
+/// Whether a walk was made, and the callers' passes told these tests at its end.
+pub(crate) fn told(outcome: &Outcome<Roll>, tests: &[u32]) -> bool {
+    match &outcome.end {
+        End::Walked { told, .. } => told.as_slice() == tests,
+        End::Done | End::Refused => false,
     }
 }
 

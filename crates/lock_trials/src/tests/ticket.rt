@@ -90,6 +90,8 @@ fn a_hold_may_take_millions_of_polls(rt: HostRuntime) {
         panic!(rt; "there was no memory")
     };
     assert!(rt; parcel.count == 1);
+    // as many in `acquire` as in `release`
+    assert!(rt; parcel.waits == 2 * u64::from(polls));
 }
 
 #[test]

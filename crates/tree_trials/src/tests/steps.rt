@@ -1,5 +1,5 @@
 //! Orders of steps that no round makes: a caller that leaves asks more than once before the one behind it looks.
-use super::{Setting, has_turns, stood_at, tried, turn};
+use super::{Setting, has_turns, stood_at, told, tried, turn};
 use level_harness::Stood::{Holding, Idle, Leaving, Nowhere, Queued};
 use lock_tree::LockKind::{Hem, Mcs, Tkt};
 use tree_harness::Trial;
@@ -28,6 +28,7 @@ fn a_caller_leaves_the_lowest_level_late(rt: HostRuntime) {
     ];
     assert!(rt; stood_at(&outcome, &stood));
     assert!(rt; has_turns(&outcome.root, &[turn(0, 1, 1, 1), turn(1, 1, 0, 1)]));
+    assert!(rt; told(&outcome, &[1, 0]));
 }
 
 /// Nobody is behind in the node, and the top Hemlock has the grant taken late.
@@ -56,6 +57,7 @@ fn a_caller_leaves_the_top_late(rt: HostRuntime) {
     ];
     assert!(rt; stood_at(&outcome, &stood));
     assert!(rt; has_turns(&outcome.root, &[turn(0, 1, 0, 1), turn(1, 1, 0, 1)]));
+    assert!(rt; told(&outcome, &[0, 0]));
 }
 
 /// Both levels have the grant taken late, the top first; in between the caller goes down a level.
@@ -87,4 +89,5 @@ fn a_caller_leaves_both_levels_late(rt: HostRuntime) {
     assert!(rt; stood_at(&outcome, &stood));
     let turns = [turn(0, 1, 1, 1), turn(2, 1, 0, 1), turn(1, 1, 0, 1)];
     assert!(rt; has_turns(&outcome.root, &turns));
+    assert!(rt; told(&outcome, &[1, 0, 0]));
 }

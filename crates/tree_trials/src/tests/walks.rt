@@ -1,5 +1,5 @@
 //! The turns of walks, in their order, by hand and by the plain model in bench/walk_model.py.
-use super::{Setting, has_turns, tried, turn, turns_in};
+use super::{Setting, has_turns, told, tried, turn, turns_in};
 use keep_local::Turn;
 use lock_tree::LockKind::{self, Clh, Hem, Mcs, Tkt};
 use tree_harness::Trial;
@@ -18,6 +18,7 @@ fn two_callers_take_turns_at_one_level(rt: HostRuntime) {
         };
         let turns = [turn(0, 0, 0, 0), turn(1, 0, 0, 0), turn(0, 0, 0, 0)];
         assert!(rt; has_turns(&outcome.root, &turns));
+        assert!(rt; told(&outcome, &[0, 0]));
     }
 }
 
@@ -34,6 +35,7 @@ fn a_node_of_two_hands_the_lock_over_once(rt: HostRuntime) {
     };
     let turns = [turn(0, 1, 1, 0), turn(1, 0, 0, 1)];
     assert!(rt; has_turns(&outcome.root, &turns));
+    assert!(rt; told(&outcome, &[1, 0]));
 }
 
 #[test]
@@ -49,6 +51,7 @@ fn a_node_that_keeps_none_lets_go(rt: HostRuntime) {
     };
     let turns = [turn(0, 1, 1, 1), turn(1, 1, 0, 1)];
     assert!(rt; has_turns(&outcome.root, &turns));
+    assert!(rt; told(&outcome, &[1, 0]));
 }
 
 #[test]
@@ -64,6 +67,7 @@ fn a_node_of_three_lets_go_at_its_threshold(rt: HostRuntime) {
     };
     let turns = [turn(0, 1, 1, 0), turn(1, 0, 1, 1), turn(2, 1, 0, 1)];
     assert!(rt; has_turns(&outcome.root, &turns));
+    assert!(rt; told(&outcome, &[1, 1, 0]));
 }
 
 #[test]
@@ -79,6 +83,7 @@ fn one_caller_climbs_three_levels(rt: HostRuntime) {
             panic!(rt; "there was no memory")
         };
         assert!(rt; has_turns(&outcome.root, &[turn(0, 2, 0, 2), turn(0, 2, 0, 2)]));
+        assert!(rt; told(&outcome, &[0]));
     }
 }
 
@@ -108,6 +113,7 @@ fn five_callers_walk_over_five_levels_of_four_kinds(rt: HostRuntime) {
         turn(4, 4, 0, 4),
     ];
     assert!(rt; has_turns(&outcome.root, &turns));
+    assert!(rt; told(&outcome, &[1, 2, 4, 0, 0]));
 }
 
 /// Six choices of kinds and their turns, by the plain model: a caller and its tests at level 0, for each turn. All climb to the top and
@@ -168,5 +174,6 @@ fn a_walk_tells_kinds_apart(rt: HostRuntime) {
             panic!(rt; "there was no memory")
         };
         assert!(rt; are_turns_of(turns_in(&outcome.root), &callers, &tests));
+        assert!(rt; told(&outcome, &[1, 0, 1, 0]));
     }
 }

@@ -1,9 +1,7 @@
 use Rattle.std.proofs.Common.{length, ap, sym, ◌∙◌, subst}
 use Rattle.std.specs.Prelude.{slice_get}
-use Rattle.keep_local.specs.States.{TrailState}
 use Rattle.clof_compose.specs.Passes.{AreAll}
 use Rattle.level_harness.proofs.Items.{written_all}
-use Rattle.level_harness.proofs.Making.{recorded_named}
 use Rattle.clof_compose.proofs.Shares.{as_many_shares, new_share_in}
 use Rattle.level_harness.proofs.walks.walk.Goals as goal
 
@@ -38,9 +36,3 @@ close-root-requires-clause-all g c =
     let all = ap length same ∙ long ∙ c.seat-walkers.ensures.many ∙ c.requires.all.all in
     subst (λ n. AreAll (λ p. (g.C.Pass.Resting.rest p).context) (g.C.Composed.has c.args.lock) (g.C.Composed.level c.args.lock)
     (g.C.Composed.tag c.args.lock) n c.idle_passes-passes.result.items) all c.idle_passes-passes.ensures
-
-pub turns-requires : goal.turns-requires
-turns-requires g c = record {
-  recorded = ap (λ (s : TrailState). s.recorded) c.trail.ensures
-      ∙ recorded_named c.close-root.result _ c.close-root.ensures.tagged c.requires.room.recorded;
-}

@@ -1,5 +1,6 @@
-use Rattle.std.proofs.Common.{◌≡◌, ◌<◌, length, ap, sym, ◌∙◌, subst}
+use Rattle.std.proofs.Common.{◌≡◌, ◌+◌, ◌<◌, length, ap, sym, ◌∙◌, subst}
 use Rattle.std.specs.Prelude.{slice_get, IfSome, IsSomeAnd}
+use Rattle.lock_rules.specs.Holders.{holder_of}
 use Rattle.lock_rules.specs.Passes.{IsOf}
 use Rattle.lock_rules.specs.Views.{place_of}
 use Rattle.keep_local.specs.Turns.{run}
@@ -8,7 +9,8 @@ use Rattle.clof_compose.specs.Levels.{kept_stand}
 use Rattle.clof_compose.specs.Nodes.{IsContextOfNode, locks_of}
 use Rattle.clof_compose.specs.Releases.{IsReleasing}
 use Rattle.clof_compose.proofs.Closes.{closes_at}
-use Rattle.clof_compose.proofs.Nodes.{and_weaker, level_same, node_context, node_within, pass_of, releasing}
+use Rattle.clof_compose.proofs.Leaving.{begun_above, begun_here}
+use Rattle.clof_compose.proofs.Nodes.{and_weaker, level_below, level_same, node_context, node_within, pass_of, releasing}
 use Rattle.clof_compose.proofs.level.LevelPassPassComposed.begin_release.Goals as goal
 
 pub lock_of-lock-requires : goal.lock_of-lock-requires
@@ -70,3 +72,17 @@ pub returns-in-Got-begin_release-clause-tests : goal.returns-in-Got-begin_releas
 returns-in-Got-begin_release-clause-tests g c =
     closes_at _ _ c.in-Got.report _ _ (ap (λ v. (kept_stand g.H.Held.Standing.stand v.high).root) c.waiter-low.ensures.value)
     (level_same c.requires.sound c.requires.own) c.in-Got.ensures.tests
+
+pub returns-in-Not-clause-waits : goal.returns-in-Not-clause-waits
+returns-in-Not-clause-waits g c =
+    begun_above _ c.args.held.id.level (holder_of c.args.held.low).loads _ _ (g.H.Leave.Descending.descent c.in-Not.leave) _
+    (ap (λ v. (kept_stand g.H.Held.Standing.stand v.high).loads) c.waiter-low.ensures.value) c.in-Not.ensures.descends.above
+    c.in-Not.ensures.waits
+
+pub returns-in-Not-begin_release-clause-waits : goal.returns-in-Not-begin_release-clause-waits
+returns-in-Not-begin_release-clause-waits g c =
+    let loaded = c.in-Not-begin_release.ensures.loaded in
+    let asked = c.waiter-low.ensures.loaded in
+    let same = ap (λ s. s.seat.me.0.loads) c.in-Got.ensures.same_seat in
+    begun_here _ (holder_of c.args.held.low).loads _ _ (level_below c.requires.sound c.requires.own)
+    (loaded ∙ ap (λ n. n + 1) (same ∙ asked)) c.in-Not-begin_release.ensures.unready

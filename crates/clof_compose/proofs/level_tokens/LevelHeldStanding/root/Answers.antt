@@ -1,6 +1,6 @@
 use Rattle.std.proofs.Common.{◌≡◌, refl, ap, sym, ◌∙◌, subst, Some}
 use Rattle.lock_rules.specs.Holders.{holder_of, with_value}
-use Rattle.clof_compose.specs.Levels.{level_context, kept_stand, high_with_root, own_with_root, IsStanding}
+use Rattle.clof_compose.specs.Levels.{level_context, kept_stand, loads_from, high_with_root, own_with_root, IsStanding}
 use Rattle.clof_compose.specs.Roots.{IsKept}
 use Rattle.clof_compose.proofs.Owned.{holding_stays}
 use Rattle.clof_compose.proofs.level_tokens.LevelHeldStanding.root.Goals as goal
@@ -13,14 +13,14 @@ returns g c =
       record {
         writes_back = tt;
         value = found;
-        others = λ r. ap (λ x. record {
+        others = λ r. ap (λ s. record {
           context = level_context c.args.self.now.id.level c.args.self.now.id.node c.args.self.now.id.number
               (holder_of c.args.self.now.low).place;
-          loads = (holder_of c.args.self.now.low).loads;
-          root = x;
+          loads = loads_from c.args.self.now.id.level (holder_of c.args.self.now.low).loads s.loads;
+          root = s.root;
         })
-            (ap (λ o. (kept_stand g.Held.Standing.stand (high_with_root g.Held.Standing.put_root o.high r)).root) (sym v)
-            ∙ ap (λ s. s.root) (c.kept_root.ensures.others r));
+            (subst (λ o. kept_stand g.Held.Standing.stand (high_with_root g.Held.Standing.put_root o.high r) ≡ record (kept_stand
+            g.Held.Standing.stand o.high) { root = Some r }) v (c.kept_root.ensures.others r));
         stays = λ r k. (
           holding_stays g.P.Payload.calls _ _ _ _ _ _ (kept_stand g.Held.Standing.stand c.args.self.now.low.value.high) _ _ r
               c.requires.stands.0 found
