@@ -66,8 +66,7 @@ module _ {P : Type 0} (calls : P → List ℕ) (tag : P → Tag) where
     pub share_is : IsShareOf r.trail share
 
   -- the root as a release may take it: of the lock's tag, the payload's calls are those of all turns, the open turn is of a caller under
-  -- the context, exactly the
-  -- levels below the lock's own are noted, and at none of these must the turn leave
+  -- the context, exactly the levels below the lock's own are noted, and at none of these must the turn leave
   pub record MayRelease (root_tag_is : Tag) (level number : ℕ) (r : Root P) : Type 0 where
     pub tagged : root_tag tag r ≡ root_tag_is
     pub calls_are : calls r.payload ≡ callers_in (all_turns r.trail)

@@ -6,9 +6,8 @@ use Rattle.keep_local.specs.declared.shape.Shape.{Shape}
 use Rattle.keep_local.specs.Shapes.{callers_of, node_of, HasNode}
 use Rattle.clof_compose.specs.Courses.{left_of}
 
--- A context of a composed lock: the lock's level, the node under which the context stands, its number, which pass of the node's basic
--- lock it has, and the
--- tag of the lock's root
+-- A context of a composed lock: the lock's level, the node under which the context stands, its number, which pass of the node's basic lock
+-- it has, and the tag of the lock's root
 pub record Context : Type 0 where
   pub level : ℕ
   pub node : ℕ

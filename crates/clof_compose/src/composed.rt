@@ -22,10 +22,8 @@ use std::sync::Wait;
 /// A lock of one or more levels, whose holder reaches one root.
 ///
 /// `level` is the number of its lowest level, `tag` is the tag of its root, and `count` is the number of its contexts, each of which has
-/// one pass. `sound` says that
-/// the locks inside belong together, and `has` that a token of this lock may be of a context. A call that is handed a token asks for
-/// both, and gives a token of the
-/// same context. No call takes memory, and only `acquire` and `release` wait.
+/// one pass. `sound` says that the locks inside belong together, and `has` that a token of this lock may be of a context. A call that is
+/// handed a token asks for both, and gives a token of the same context. No call takes memory, and only `acquire` and `release` wait.
 pub trait Composed<P: Payload>: Sized {
     type Pass: Resting;
 

@@ -15,6 +15,7 @@ use crate::stage::{LeaveStage, QueueStage};
 use crate::token::{Climbing, Descending, Resting, Standing};
 use lock_rules::{Departing, Held as Holds, Holding, Payload, Placed, Queueing};
 
+/// A pass of a level at rest: that of its node's lock, its context, and what its last release told.
 #[derive(Drop)]
 pub struct LevelPass<L> {
     pub(crate) low: L,
@@ -22,6 +23,7 @@ pub struct LevelPass<L> {
     pub(crate) report: Report,
 }
 
+/// The holder of a level: it holds its node's lock, whose value has the holder of the high lock.
 #[derive(Drop)]
 pub struct LevelHeld<P, Pass, Held> {
     pub(crate) low: Holds<Own<P, Pass, Held>>,
@@ -30,12 +32,14 @@ pub struct LevelHeld<P, Pass, Held> {
     pub(crate) filler: u32,
 }
 
+/// A pass that climbs, at its node's lock or higher.
 #[derive(Drop)]
 pub struct LevelQueue<P, Q, Pass, Held, HQ> {
     pub(crate) stage: QueueStage<P, Q, Pass, Held, HQ>,
     pub(crate) id: ContextId,
 }
 
+/// A pass that leaves, its node's lock or a higher one.
 #[derive(Drop)]
 pub struct LevelLeave<P, L, Pass, Held, HL> {
     pub(crate) stage: LeaveStage<P, L, Pass, Held, HL>,

@@ -14,8 +14,7 @@ use lock_rules::{Basic, Held, Payload, Placed, Refused};
 use std::alloc::Global;
 
 /// A lock of one level, the top of the root's trail, with its passes in the order of their numbers. There is one context for each caller
-/// where this is the
-/// only level, and else for each node one level below. It is refused for want of memory alone, and gives the root back.
+/// where this is the only level, and else for each node one level below. It is refused for want of memory alone, and gives the root back.
 pub fn make_top<P: Payload, B: Basic<Root<P>, Held = Held<Root<P>>> + Drop>(
     alloc: Global,
     recipe: B::Recipe,

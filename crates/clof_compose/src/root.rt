@@ -14,6 +14,7 @@ pub struct Root<P> {
 }
 
 impl<P: Payload> Root<P> {
+    /// A root of this trail and this payload.
     pub fn new(trail: Trail, payload: P) -> Root<P>
         ensures trail { result.trail ≡ trail }
         ensures payload { result.payload ≡ payload }
@@ -21,12 +22,14 @@ impl<P: Payload> Root<P> {
         Root { trail, payload }
     }
 
+    /// The trail, lent.
     pub fn trail(&self) -> &Trail
         ensures { result.now ≡ self.now.trail }
     {
         &self.trail
     }
 
+    /// The payload, lent.
     pub fn payload(&self) -> &P
         ensures { result.now ≡ self.now.payload }
     {
@@ -41,6 +44,7 @@ impl<P: Payload> Root<P> {
         &mut self.payload
     }
 
+    /// The trail and the payload.
     pub fn into_parts(self) -> (Trail, P)
         ensures trail { result.0 ≡ self.trail }
         ensures payload { result.1 ≡ self.payload }

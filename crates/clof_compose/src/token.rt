@@ -60,8 +60,7 @@ pub trait Standing<P: Payload>: Drop {
     ghost put_root: { Self → TheRoot P → Self };
 
     /// Lends the root. The holder still stands where what it makes of the root is of the same trail, and has no other closed turns than
-    /// those from before and some
-    /// that left below the lock's level.
+    /// those from before and some that left below the lock's level.
     fn root(&mut self) -> &mut Root<P>
         requires stands { stands self.old }
         ensures* writes_back { sem 𝓛 (Lends Self.row (the_row P.row) self.entry result (put_root self.old)) }

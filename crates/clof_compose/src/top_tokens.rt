@@ -10,6 +10,7 @@ use crate::root::Root;
 use crate::token::{Climbing, Descending, Resting, Standing};
 use lock_rules::{Departing, Held, Holding, Payload, Placed, Queueing};
 
+/// A pass of the top lock at rest, and what its last release told.
 #[derive(Drop)]
 pub struct TopPass<L> {
     pub(crate) low: L,
@@ -17,12 +18,14 @@ pub struct TopPass<L> {
     pub(crate) report: Report,
 }
 
+/// A pass in the queue of the top lock.
 #[derive(Drop)]
 pub struct TopQueue<L> {
     pub(crate) low: L,
     pub(crate) level: u32,
 }
 
+/// The holder of the top lock, who has the root in hand.
 #[derive(Drop)]
 pub struct TopHeld<P> {
     pub(crate) low: Held<Root<P>>,
@@ -31,6 +34,7 @@ pub struct TopHeld<P> {
     pub(crate) filler: u32,
 }
 
+/// A pass that leaves the top lock, and what its release tells.
 #[derive(Drop)]
 pub struct TopLeave<L> {
     pub(crate) low: L,

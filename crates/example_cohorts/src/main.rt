@@ -36,7 +36,7 @@ fn count<R: Threads + Wait + Sync>(rt: &R, alloc: Global) -> Option<Root<Noted<V
     ensures recorded { IfSome result (λ r. r.trail.recorded ≡ true) }
     ensures made { IfSome result (λ r. EachMadeAll r.trail) }
 {
-    // the machine, and a plan: a Ticket lock in each package below an MCS lock, and up to 9 turns in a row in one package
+    // the machine, and a plan: a Ticket lock in each package below an MCS lock, and up to 9 handovers in a row in one package
     let tree = Tree::build(alloc, read(alloc, b"Package:2 Core:2 PU:1").ok()?).ok()?;
     let Ok(plan) = Plan::read(alloc, &tree, b"package,machine", Some(b"tkt-mcs"), b"9") else {
         return None;

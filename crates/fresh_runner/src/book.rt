@@ -24,6 +24,7 @@ impl<'a> Payload for FreshBook<'a> {
 }
 
 impl<'a> FreshBook<'a> {
+    /// A book of this journal beside its counted history.
     pub fn new(fresh: Fresh<Book<'a>>) -> FreshBook<'a>
         ensures { result.fresh ≡ fresh.entry }
     {

@@ -1,9 +1,8 @@
 //! Callers that hold a composed lock, apply the commands of their sections to the journal at its root, and keep receipts of their turns.
 //!
 //! These are the parts of a run as `threaded_runner` has them, over a lock whose root has a counted history beside the journal: at the
-//! start
-//! of each hold the caller's token is shown the calls so far, and behind its call it gets the number of its turn. So each caller comes back
-//! with the numbers of its turns, which no look into the history had to find.
+//! start of each hold the caller's token is shown the calls so far, and behind its call it gets the number of its turn. So each caller
+//! comes back with the numbers of its turns, which no look into the history had to find.
 #![tactic(auto)]
 
 mod account;

@@ -17,8 +17,7 @@ use std::alloc::{AllocError, Global};
 const LINE_BYTES: usize = 10;
 
 /// The printed text of a run that has finished, whose callers have these sections, and behind it a line of receipts for each caller.
-/// Without
-/// memory for it nothing is given.
+/// Without memory for it nothing is given.
 pub fn printed_with_receipts(
     alloc: Global,
     sections: &[Section<'_>],

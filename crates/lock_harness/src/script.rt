@@ -21,6 +21,7 @@ pub enum Who {
     Second,
 }
 
+/// What a pass does in a step of a script.
 #[derive(Clone, Copy, Drop)]
 pub enum Call {
     Begin,

@@ -36,9 +36,8 @@ span_none from to k h = grind (arith, nat_tests)
 first_hit : (n k : ℕ) → 0 < n → hits (n - 1) k + span 0 (n - 1) k ≡ cond (nat_lt k n) 1 0
 first_hit n k h = grind (arith, nat_tests)
 
--- A numbering by which passes are given out: the first seat has the last pass's number and none taken over, each seat that is split off its
--- pass's number, and a seat
--- that takes over another takes its numbers
+-- A numbering by which passes are given out: the first seat has the last pass's number and none taken over, each seat that is split off
+-- its pass's number, and a seat that takes over another takes its numbers
 pub record IsDealt (m : Numbering) : Type 0 where
   pub first_own : (a : Algorithm) (ch : Waiters) (n : ℕ) (tag : Tag) → m.own (first_view a ch n tag) ≡ n - 1
   pub first_taken : (a : Algorithm) (ch : Waiters) (n : ℕ) (tag : Tag) → m.taken (first_view a ch n tag) ≡ []

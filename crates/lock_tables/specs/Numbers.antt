@@ -4,8 +4,7 @@ use Rattle.std.specs.List.{sum_by, count_by}
 use Rattle.lock_rules.specs.declared.view.View.{View}
 
 -- A way to number views: a seat has a number of its own and those that it took over by joining, and each pass that was not split off yet
--- will have its own pass's
--- number
+-- will have its own pass's number
 pub record Numbering : Type 0 where
   pub own : View → ℕ
   pub taken : View → List ℕ

@@ -23,6 +23,7 @@ impl<'a> Payload for Book<'a> {
 }
 
 impl<'a> Book<'a> {
+    /// A book of this journal.
     pub fn new(journal: Journal<'a>) -> Book<'a>
         ensures { result.journal ≡ journal.entry }
     {

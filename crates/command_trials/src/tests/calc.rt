@@ -479,6 +479,7 @@ fn answers_of_this_profile(rt: HostRuntime) -> Result<(), Fail> {
         ("Core:4 PU:2(indexes=2*4:1*2)", "-I pu pu:4 -p=4"),
         ("PU:4", "pu:2-0=0x0"), // 0xc
         ("PU:4", "pu:5-=0x0"), // no end
+        ("PU:4", "pu:3-0=0x0"), // no end
         ("PU:4", "pu:4:2=0x0"), // 0x3
         // 0xc3.
         ("Core:4 PU:2(indexes=2*4:1*2)", "-p pu:6:4=0x000000c0"),

@@ -45,6 +45,7 @@ distrib 3 * --reverse|0x000000c0 0x00000030 0x0000000f
 distrib 003 --taskset *|0x3 0xc 0xf0
 distrib --single 3 *|0x00000001 0x00000004 0x00000010
 distrib --single --taskset --reverse 3 *|0x40 0x10 0x1
+distrib --reverse --single 3 *|0x00000040 0x00000010 0x00000001
 distrib --to=package 4 *|0x0000000f 0x0000000f 0x000000f0 0x000000f0
 distrib --at core 4 *|0x00000003 0x0000000c 0x00000030 0x000000c0
 distrib --at core --taskset 4 *|0x3 0xc 0x30 0xc0
@@ -93,12 +94,13 @@ const USAGE: &str = "clof: usage\n";
 
 #[test]
 fn refuses_words(rt: HostRuntime) -> Result<(), Fail> {
-    let cases: [&[&str]; 20] = [
+    let cases: [&[&str]; 21] = [
         &["distrib"],
         &["distrib", "1"],
         &["distrib", "1", "PU:2", "PU:2"],
         &["distrib", "x", "PU:2"],
         &["distrib", "+1", "PU:2"],
+        &["distrib", "3x", "PU:2"],
         &["distrib", "", "PU:2"],
         &["distrib", "-1", "PU:2"],
         &["distrib", "--", "-1", "PU:2"],

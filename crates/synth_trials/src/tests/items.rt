@@ -16,7 +16,7 @@ const ARITIES: &[&str] = &[
     "BadArity Core:1 Die:1 ^0|Core:1 [numa] ^PU:0|Core:1 ^numa:0 PU:1|^0|^000|^Core:0|^numa:0 PU:1",
     "BadArity ^Core:4294967296 PU:1|^Core:18446744073709551617|^4294967296|^Core: PU:1|^Core PU:1|^PU|^+1",
     "BadArity ^Core:+1|^Core:-1|^Core:1:1|^Core:1x|^(size=1)|^PU:1]|^Core:1,PU:1|^Core:1\x0bPU:1",
-    "BadArity ^Core:1\x0cPU:1",
+    "BadArity ^Core:1\x0cPU:1|^PU:0x10",
 ];
 
 // Attributes of levels, memory items and levels of nodes.
@@ -34,7 +34,7 @@ const ATTRIBUTES: &[&str] = &[
     "BadAttr ^[numa(memory=1]|^[numa(memory=1])]|^[numa(memory=1)(indexes=0)]|^[numa(]|^[numa)]",
     "BadAttr ^[numa( memory=1)]|^[numa(memory=1 )]|^[numa(memory=1 memory=1)]|^[numa(memory=)]",
     "BadAttr ^numa:1(memory=1)PU:1|^numa:1(indexes=0 memory=1 indexes=0)",
-    "BadAttr ^[numa(memory=18446744073709551616)]",
+    "BadAttr ^[numa(memory=18446744073709551616)]|^Package:2(memory=1GB) PU:2",
 ];
 
 // Texts that are no size, and each suffix with the least number that passes 64 bits.
@@ -59,7 +59,7 @@ const INDEXES: &[&str] = &[
     "BadIndexes ^1(indexes=:1*2)|^1(indexes=1*2::1*2)|^1(indexes=1*2:3)|^1(indexes=1*2,1*2)",
     "BadIndexes ^1(indexes=1*2*3)|^1(indexes=4294967296*1)|^1(indexes=1*4294967296)|^1(indexes=2*2:0*1)",
     "BadIndexes ^1(indexes=0,1*2)|^numa:1(memory=1 indexes=)|^[numa(memory=1 indexes=1*0)]",
-    "BadIndexes ^numa:1(indexes=0,x)",
+    "BadIndexes ^numa:1(indexes=0,x)|Core:2 ^PU:2(indexes=core)",
 ];
 
 #[test]
