@@ -1,6 +1,6 @@
 -- A step of a kind that is kept may be made, and is recorded.
-use Rattle.std.proofs.Common.{◌≡◌, ◌≢◌, ℕ, ◌+◌, ◌%◌, ◌^◌, ◌<◌, Bool, true, false, ◌||◌, List, [], ◌∷◌, set, slice_index, ap, sym, ◌∙◌, subst, Option}
-use Rattle.std.proofs.Common.{Some, refl, ◌==◌, eq-eqb}
+use Rattle.std.proofs.Common.{◌≡◌, ◌≢◌, ℕ, ◌+◌, ◌%◌, ◌^◌, Bool, true, false, ◌||◌, List, set, slice_index, ap, sym, ◌∙◌, subst, Option}
+use Rattle.std.proofs.Common.{refl, ◌==◌, eq-eqb}
 use borrow.Author.Tests.{eqb-true}
 use mathlib.Core.Logic.{dite}
 use prog.Atomic.{either}
@@ -14,15 +14,14 @@ use Rattle.lock_rules.specs.Tag.{Tag}
 use Rattle.lock_rules.specs.declared.step.Answer.TheVariants.{Open, Yes}
 use Rattle.lock_rules.specs.declared.view.View.{View}
 use Rattle.lock_rules.specs.declared.view.Waiters.{Waiters}
-use Rattle.lock_tables.specs.Kinds.{Form, Event, no_event, enter, take, enter_and_take, leave, Move, Outcome, always, showing, StepKind}
+use Rattle.lock_tables.specs.Kinds.{Form, Event, no_event, enter, take, enter_and_take, leave, Outcome, always, showing, StepKind}
 use Rattle.lock_tables.specs.Kinds.{load, store, swap, add, exchange, written, written_else, gives_by, may_give, Expects}
 use Rattle.lock_tables.specs.Kinds.{Carries, Did, Moved, Made}
-use Rattle.lock_tables.specs.KeptKinds.{Moment, IsSame, MakesEvent, IsNoted, IsNotedBy, IsKeptBy, IsKept}
+use Rattle.lock_tables.specs.KeptKinds.{Moment, IsSame, MakesEvent, IsNotedBy, IsKeptBy, IsKept}
 use Rattle.lock_tables.specs.Laws.{IsDisciplined}
-use Rattle.lock_tables.specs.Queue.{Takes}
 use Rattle.lock_tables.specs.Rule.{Discipline, IsLock}
-use Rattle.lock_tables.proofs.Queues.{IsLike, like}
-use Rattle.lock_tables.proofs.Steps.{MeOf, St, Locked, Taken, stays, enters, takes_head, enters_and_takes, leaves}
+use Rattle.lock_tables.proofs.Queues.{IsLike}
+use Rattle.lock_tables.proofs.Steps.{stays, enters, takes_head, enters_and_takes, leaves}
 
 pub same_like : (v w : View) → IsSame v w → IsLike v w
 same_like v w e = record {

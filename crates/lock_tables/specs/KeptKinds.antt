@@ -1,5 +1,5 @@
 -- What an algorithm proves of each of its kinds of step, of the words and views alone: the step keeps the rule and makes its event.
-use Rattle.std.specs.Prelude.{◌≡◌, ◌≢◌, ◌⊎◌, ℕ, ◌+◌, ◌^◌, ◌<◌, Bool, true, false, List, [], ◌∷◌, ◌++◌, length, slice_index, slice_set}
+use Rattle.std.specs.Prelude.{◌≡◌, ◌≢◌, ◌⊎◌, ℕ, ◌+◌, ◌^◌, ◌<◌, true, false, List, [], ◌∷◌, ◌++◌, length, slice_index, slice_set}
 use mathlib.Core.Option.{some}
 use lib.ListN.{get_elem?}
 use Rattle.lock_rules.specs.Rows.{waiting}
@@ -10,7 +10,7 @@ use Rattle.lock_rules.specs.declared.view.Phase.TheVariants.{Idle, Queued, Holdi
 use Rattle.lock_rules.specs.declared.view.View.{View}
 use Rattle.lock_rules.specs.declared.view.Waiters.{Waiters}
 use Rattle.lock_tables.specs.Kinds.{Form, load, store, swap, add, exchange, Event, no_event, enter, take, enter_and_take, leave}
-use Rattle.lock_tables.specs.Kinds.{Move, Outcome, always, showing, StepKind, written, written_else}
+use Rattle.lock_tables.specs.Kinds.{Outcome, always, showing, StepKind, written, written_else}
 use Rattle.lock_tables.specs.Rule.{Discipline, is_holder, is_busy, is_queued, IsBehind, AreTold, IsQueued}
 
 -- a table under the rule, and the seat that steps

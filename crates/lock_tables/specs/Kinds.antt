@@ -1,5 +1,5 @@
 -- A kind of atomic step on the words of a lock, as data of its algorithm.
-use Rattle.std.specs.Prelude.{◌≡◌, ◌≢◌, ℕ, ◌+◌, ◌%◌, ◌^◌, Bool, true, false, ◌||◌, [], ◌∷◌, Option, Some}
+use Rattle.std.specs.Prelude.{◌≡◌, ◌≢◌, ℕ, ◌+◌, ◌%◌, ◌^◌, Bool, true, false, ◌||◌, [], ◌∷◌, Some}
 use Rattle.atomic_table.specs.Table.{keeps, gives}
 use Rattle.lock_rules.specs.Tag.{Tag}
 use Rattle.lock_rules.specs.declared.view.View.{View}

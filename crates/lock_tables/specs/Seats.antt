@@ -1,5 +1,5 @@
 -- A seat of a lock's table.
-use Rattle.std.specs.Prelude.{◌≡◌, ℕ, false, List}
+use Rattle.std.specs.Prelude.{◌≡◌, ℕ, ◌+◌, ◌*◌, ◌^◌, ◌≤◌, false, List}
 use Rattle.atomic_table.specs.Seated.{TableId}
 use Rattle.atomic_table.specs.declared.shared.Seat.{Seat}
 use Rattle.lock_rules.specs.Meanings.{Place}
@@ -25,6 +25,10 @@ module _ {V : Type 0} where
   abbrev pub IsOwn : (V → Tag) → Algorithm → TableId → Opening V → Place → Type 0
   IsOwn tag_of a z key place = IsOf (lock_name a key.waiters z) (tag_of key.value.value) place
 
+-- no row of a lock is longer, since it has less than 2 ^ 32 passes
+abbrev pub longest_row : ℕ
+longest_row = 16 * (2 ^ 32 + 2)
+
 -- a seat of the table z, of the lock with this algorithm and key
 pub record IsSeatOf {S V : Type 0} (a : Algorithm) (z : TableId) (key : Opening V) (s : Seat S View) : Type 0 where
   pub table : s.table_id ≡ z
@@ -32,3 +36,4 @@ pub record IsSeatOf {S V : Type 0} (a : Algorithm) (z : TableId) (key : Opening 
   pub algorithm : s.me.0.algorithm ≡ a
   pub chosen : s.me.0.waiters ≡ key.waiters
   pub row : z.words ≡ row_of a s.me.0.count
+  pub few : z.words ≤ longest_row
