@@ -75,7 +75,8 @@ module _ (s : Moment clh_discipline) where
       let own : ℕ = flag s.view.node in
       same_nodes s.passes s.words (set s.words own pending) s.seats s.views s.seat s.view (raised_view s.view) core s.at (λ k. refl)
       refl refl (wrote_else s.words own tail pending (λ e. omega (arith, e)))
-      (wrote_else s.words own (flag core.free) pending (λ e. not_free s.passes s.views core.free core.once s.seat s.view s.at s.live (omega (arith, e))) ∙ core.free_granted)
+      (wrote_else s.words own (flag core.free) pending (λ e. not_free s.passes s.views core.free core.once s.seat s.view s.at s.live
+      (omega (arith, e))) ∙ core.free_granted)
       (λ _ _. wrote_here s.words own pending own_inside)
       (λ k e. stays_pending s.words own (flag k) own_inside e)
 
@@ -97,7 +98,8 @@ module _ (s : Moment clh_discipline) where
         free = q.core.free;
         once = nodes_stay s.passes s.views q.core.free s.seat s.view w s.at (λ k. refl) q.core.once;
         leads = subst (λ (t : ℕ). Leads (set s.views s.seat w) q.core.free (s.seats ++ s.seat ∷ []) t)
-            (sym (wrote_here s.words tail s.view.node (let long : length s.words ≡ 16 * (s.passes + 2 + 1) = q.long in omega (arith, long))))
+            (sym (wrote_here s.words tail s.view.node (let long : length s.words ≡ 16 * (s.passes + 2 + 1) = q.long in
+            omega (arith, long))))
             (leads_end (set s.views s.seat w) s.seats q.core.free found s.seat w (set_at s.views s.seat s.view w s.at) refl before);
         free_granted = flags q.core.free ∙ q.core.free_granted;
         own_pending = λ j u e live raised'. ⊎_elim
@@ -153,7 +155,8 @@ module _ (s : Moment clh_discipline) where
         own_pending = λ j u e live raised. ⊎_elim
             (λ (y : (j ≡ s.seat) × (w ≡ u)). absurd (no_true (sym raised ∙ ap is_pending (sym y.1))))
             (λ (y : (j ≢ s.seat) × (get_elem? s.views j ≡ some u)).
-            wrote_else s.words (flag v.node) (flag u.node) granted (λ e. nodes_apart s.passes s.views q.core.free q.core.once s.seat j v u s.at y.1 s.live live y.0 (omega (arith, e)))
+            wrote_else s.words (flag v.node) (flag u.node) granted (λ e. nodes_apart s.passes s.views q.core.free
+            q.core.once s.seat j v u s.at y.1 s.live live y.0 (omega (arith, e)))
             ∙ q.core.own_pending j u y.1 live raised)
             (at_set s.views s.seat j w u e);
       }

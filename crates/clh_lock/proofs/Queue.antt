@@ -80,7 +80,8 @@ notes n words seats views x id v w at noted nodes =
     let flags = λ (k : ℕ). wrote_else words waiting (flag k) x (λ e. omega (arith, e)) in
     let node : w.node ≡ v.node = ap (λ (u : View). u.node) noted in
     same_nodes n words (set words waiting x) seats views id v w nodes at (λ k. ap (stands_in by_node k) noted) node
-    (ap (λ (u : View). u.predecessor) noted) (wrote_else words waiting tail x (λ e. omega (arith, e))) (flags nodes.free ∙ nodes.free_granted)
+    (ap (λ (u : View). u.predecessor) noted) (wrote_else words waiting tail x (λ e. omega (arith, e)))
+    (flags nodes.free ∙ nodes.free_granted)
     (λ raised live. flags w.node ∙ ap (λ (k : ℕ). slice_index words (flag k)) node
     ∙ nodes.own_pending id v at (sym (ap (λ (u : View). u.spent) noted) ∙ live) (sym (ap is_pending noted) ∙ raised))
     (λ k e. flags k ∙ e)

@@ -35,7 +35,7 @@ module _ {V : Type 0} (fit : V → Type 0) (tag_of : V → Tag) (parked : V → 
 
   -- a load of `tail`, with a yes exactly where it was not the holder's own node; in a counted lock a load of `waiting`
   abbrev pub HasAsked : Held V → Held V → Bool → Type 0
-  HasAsked before now answer = HasAskedBy clh_discipline fit tag_of parked load_tail others_wait (held_view before).waiters before now answer
+  HasAsked before = HasAskedBy clh_discipline fit tag_of parked load_tail others_wait (held_view before).waiters before
 
   -- the store of own flag; the node that the holder watched is its own
   abbrev pub HasLeft : Held V → Badge View → Type 0

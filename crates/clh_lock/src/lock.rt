@@ -8,8 +8,8 @@ ghost use Rattle.lock_rules.specs.Steps.{IfNot, IfGot, IsNot, IsGot};
 ghost use Rattle.lock_rules.specs.Passes.{IsOf, AreAll};
 ghost use Rattle.lock_rules.specs.Tokens.{view_of, badge_place, badge_waiting};
 ghost use Rattle.lock_tables.specs.Happened.{counting};
-ghost use Rattle.lock_tables.specs.Seats.{IsSized};
 ghost use Rattle.lock_tables.specs.Words.{words_key, words_table, IsOwnOf};
+ghost use Rattle.clh_lock.specs.Choice.{clh_waiters};
 ghost use Rattle.clh_lock.specs.Calls.{HasEntered, HasMissed, HasTaken, HasAsked, HasLeft};
 ghost use Rattle.clh_lock.specs.Rule.{flag, opens};
 
@@ -49,14 +49,12 @@ fn flag_of(node: u64) -> usize
 #[derive(Drop)]
 pub struct Clh<V: Cargo> {
     words: LockWords<V, ClhWords>,
-    ghost sized: { IsSized clh_algorithm (words_key words).passes (words_table words) },
-    ghost few: { (words_key words).passes < 2 ^ 32 },
 }
 
 impl<V: Cargo> Clh<V> {
     /// How it learns of waiters.
     pub fn waiters(&self) -> Waiters
-        ensures { result ≡ (words_key self.now.words).waiters }
+        ensures { result ≡ clh_waiters self.now }
     {
         self.words.waiters()
     }
@@ -79,7 +77,7 @@ impl<V: Cargo> Basic<V> for Clh<V> {
 
     ghost count = { λ l. (words_key l.words).passes };
 
-    ghost made = { λ l waiters. (words_key l.words).waiters ≡ waiters };
+    ghost made = { λ l waiters. clh_waiters l ≡ waiters };
 
     fn make(
         alloc: Global,
@@ -211,7 +209,7 @@ impl<V: Cargo> Basic<V> for Clh<V> {
         ensures tagged { V.tag result ≡ V.tag (words_key self.words).value.value }
         ensures unparked { V.parked result ≡ false }
     {
-        let Clh { words, .. } = self;
+        let Clh { words } = self;
         words.close(passes)
     }
 }
