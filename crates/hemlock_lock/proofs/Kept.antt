@@ -1,5 +1,5 @@
 -- Each kind of step of a Hemlock keeps the rule.
-use Rattle.std.proofs.Common.{◌≡◌, ◌≢◌, ℕ, zero, suc, ◌+◌, ◌<◌, ◌≤◌, Bool, true, false, not, ◌==◌, eq-eqb, refl, ap, sym, ◌∙◌, inl, inr}
+use Rattle.std.proofs.Common.{◌≡◌, ◌≢◌, ℕ, zero, suc, ◌+◌, ◌<◌, ◌≤◌, Bool, false, not, eq-eqb, refl, ap, sym, ◌∙◌, inl, inr}
 use Rattle.std.proofs.Common.{⊎_elim, arith, length-append, List, [], ◌∷◌, ◌++◌, length, set, slice_index}
 use mathlib.Core.Option.{some, some-injective, some-ne-none}
 use mathlib.Core.Logic.{dite}
@@ -290,7 +290,8 @@ module _ (s : Moment hemlock_discipline) where
         };
         given = λ _. wrote_here s.words (grant (own_name s.view)) 1 (omega (arith, size));
         kept = λ name some_name below apart.
-            wrote_else s.words (grant (own_name s.view)) (grant name) 1 (not_other name (own_name s.view) apart) ∙ s.queued.core.kept name some_name below (λ e. omega arith);
+            wrote_else s.words (grant (own_name s.view)) (grant name) 1 (not_other name (own_name s.view) apart)
+            ∙ s.queued.core.kept name some_name below (λ e. omega arith);
         leaver = λ _. record { seat = s.seat; view = w; at = set_at s.views s.seat s.view w s.at; leaves = refl; is = refl };
         nameless = nameless_set s.passes s.words s.seats s.views s.seat w s.queued.core (λ _. clear);
         owing = owing_set s.passes s.words s.seats s.views s.seat w s.queued.core (λ _ z. absurd (z clear));

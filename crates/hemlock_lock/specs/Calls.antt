@@ -27,8 +27,7 @@ module _ {V : Type 0} (fit : V → Type 0) (tag_of : V → Tag) (parked : V → 
 
   -- what a call that took did last, of a seat that took with this view
   abbrev pub HasWithdrawnLast : View → Held V → Type 0
-  HasWithdrawnLast taken after = HasWithdrawn hemlock_discipline fit tag_of parked taken.waiters (taken, (0, None) ∷ [])
-      (held_view after, (0, None) ∷ [])
+  HasWithdrawnLast v now = HasWithdrawn hemlock_discipline fit tag_of parked v.waiters (v, (0, None) ∷ []) (held_view now, (0, None) ∷ [])
 
   -- the pass was announced, where the lock counts; the swap of `tail` found another
   pub record HasQueued (before after : Badge View) : Type 0 where

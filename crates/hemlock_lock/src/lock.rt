@@ -253,8 +253,8 @@ impl<V: Cargo> Basic<V> for Hemlock<V> {
     }
 
     fn close(self, passes: Vec<Pass>) -> V
-        requires all { AreAll (λ p. badge_place p.badge) (lock_name hemlock_algorithm (words_key self.words).waiters (words_table self.words))
-            (V.tag (words_key self.words).value.value) (words_key self.words).passes passes.items }
+        requires all { AreAll (λ p. badge_place p.badge) (lock_name hemlock_algorithm (words_key self.words).waiters
+            (words_table self.words)) (V.tag (words_key self.words).value.value) (words_key self.words).passes passes.items }
         ensures fit { V.fit result }
         ensures tagged { V.tag result ≡ V.tag (words_key self.words).value.value }
         ensures unparked { V.parked result ≡ false }
