@@ -1,7 +1,8 @@
 -- What a contract sees of a caller.
-use Rattle.std.specs.Prelude.{◌≡◌, ℕ, List, refl}
+use Rattle.std.specs.Prelude.{◌≡◌, ℕ, List, Some, refl, slice_get, slice_index}
 use Rattle.std.specs.Coded.{Coded, code_by, coded×, coded_ℕ}
 use Rattle.lock_rules.specs.Tag.{Tag, tag_code}
+use Rattle.clof_compose.specs.Courses.{course_of}
 use Rattle.lock_callers.specs.Seen.{standing_code}
 use Rattle.lock_callers.specs.declared.standing.Standing.{Standing}
 use Rattle.lock_callers.specs.declared.standing.Standing.TheVariants.{Idle}
@@ -29,6 +30,13 @@ idle_of lock allowed caller = record {
   level = 0;
   loads = 0;
 }
+
+-- the callers of a lock in order, each with its quota, as they are made
+abbrev pub IsFresh : Tag → ℕ → Seen → Type 0
+IsFresh lock number c = c ≡ idle_of lock (slice_index (course_of lock).quotas number) number
+
+abbrev pub AreFresh : Tag → List Seen → Type 0
+AreFresh lock callers = (number : ℕ) (c : Seen) → slice_get callers number ≡ Some c → IsFresh lock number c
 
 abbrev pub seen_code : Coded Seen
 seen_code = code_by ((Standing × Tag) × ((ℕ × ℕ) × (ℕ × (ℕ × ℕ))))

@@ -9,4 +9,5 @@ mod reply;
 
 pub use caller::Caller;
 pub use lock_callers::Standing;
+pub use making::make_callers;
 pub use reply::Reply;
