@@ -9,4 +9,5 @@ mod standing;
 
 pub use caller::Caller;
 pub use making::make_callers;
+pub use stage::Stage;
 pub use standing::{Reply, Standing};

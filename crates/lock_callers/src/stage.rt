@@ -6,7 +6,7 @@ use crate::standing::Standing;
 
 /// The token of a caller, by where the caller stands.
 #[derive(Drop)]
-pub(crate) enum Stage<P, Q, H, L> {
+pub enum Stage<P, Q, H, L> {
     Idle(P),
     Queued(Q),
     Holding(H),
@@ -15,7 +15,7 @@ pub(crate) enum Stage<P, Q, H, L> {
 }
 
 impl<P, Q, H, L> Stage<P, Q, H, L> {
-    pub(crate) fn standing(&self) -> Standing
+    pub fn standing(&self) -> Standing
         ensures { result ≡ standing_of self.now }
     {
         match self {
