@@ -36,7 +36,7 @@ impl<V: Cargo, D: Disciplined> Play<Option<V>, View> for LoadWaiting<D> {
 }
 
 /// Announces a pass, before the steps by which it enters the queue, where the lock counts its waiters.
-pub fn announce<V: Cargo, D: Disciplined>(
+pub(crate) fn announce<V: Cargo, D: Disciplined>(
     words: &Words<V, D>,
     waiters: Waiters,
     seat: &mut Seat<Option<V>, View>,
@@ -74,7 +74,7 @@ fn add_waiting<V: Cargo, D: Disciplined>(words: &Words<V, D>, seat: &mut Seat<Op
 }
 
 /// Lowers the count again, as the last step of a call that has taken, where the lock counts its waiters.
-pub fn withdraw<V: Cargo, D: Disciplined>(
+pub(crate) fn withdraw<V: Cargo, D: Disciplined>(
     words: &Words<V, D>,
     waiters: Waiters,
     seat: &mut Seat<Option<V>, View>,
@@ -111,7 +111,7 @@ fn subtract_waiting<V: Cargo, D: Disciplined>(words: &Words<V, D>, seat: &mut Se
 }
 
 /// How many passes are announced, for a holder of a lock that counts its waiters.
-pub fn count_waiting<V: Cargo, D: Disciplined>(
+pub(crate) fn count_waiting<V: Cargo, D: Disciplined>(
     words: &Words<V, D>,
     seat: &mut Seat<Option<V>, View>,
 ) -> u64

@@ -12,11 +12,9 @@ mod slot;
 mod table;
 mod words;
 
-pub use counting::{AddWaiting, LoadWaiting, SubtractWaiting, announce, count_waiting, withdraw};
+pub use counting::{AddWaiting, LoadWaiting, SubtractWaiting};
 pub use cuts::{Cut, Glue};
 pub use kinds::{Finding, KindOf, Storing};
 pub use lock_words::LockWords;
 pub use rule::{Disciplined, QueueRule, rule_is_basic};
 pub use ruled::Ruled;
-pub use slot::{put, take};
-pub use table::{LockTable, Words, into_value, join_passes, new_table, split_passes};

@@ -8,7 +8,10 @@ use atomic_table::Seat;
 use lock_rules::{Cargo, View};
 
 /// Takes the value out of the slot that the seat has just taken.
-pub fn take<V: Cargo, D: Disciplined>(words: &Words<V, D>, seat: &mut Seat<Option<V>, View>) -> V
+pub(crate) fn take<V: Cargo, D: Disciplined>(
+    words: &Words<V, D>,
+    seat: &mut Seat<Option<V>, View>,
+) -> V
     requires table { seat.old.table_id ≡ words.now.table_id }
     requires full { (x : V) × (seat.old.me.1 ≡ (0, Some x) ∷ []) }
     ensures value { seat.old.me.1 ≡ (0, Some result) ∷ [] }
@@ -21,7 +24,7 @@ pub fn take<V: Cargo, D: Disciplined>(words: &Words<V, D>, seat: &mut Seat<Optio
 }
 
 /// Puts a value into the slot that the seat has in hand.
-pub fn put<V: Cargo, D: Disciplined>(
+pub(crate) fn put<V: Cargo, D: Disciplined>(
     words: &Words<V, D>,
     seat: &mut Seat<Option<V>, View>,
     value: V,

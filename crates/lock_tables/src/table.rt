@@ -15,13 +15,13 @@ use std::alloc::{AllocFailed, Global};
 use std::snapshot::Snapshot;
 
 /// The words and the slot of a lock with this algorithm.
-pub type Words<V, D> = Shared<Option<V>, View, Opening<V>, QueueRule<D>>;
+pub(crate) type Words<V, D> = Shared<Option<V>, View, Opening<V>, QueueRule<D>>;
 
 /// The table of a lock with this algorithm.
-pub type LockTable<V, D> = Table<Option<V>, View, Opening<V>, QueueRule<D>, Global>;
+pub(crate) type LockTable<V, D> = Table<Option<V>, View, Opening<V>, QueueRule<D>, Global>;
 
 /// The table with the value at home and its words as at the start, and its first seat.
-pub fn new_table<V: Cargo, D: Disciplined>(
+pub(crate) fn new_table<V: Cargo, D: Disciplined>(
     alloc: Global,
     words: &[u64],
     waiters: Waiters,
@@ -65,7 +65,7 @@ pub fn new_table<V: Cargo, D: Disciplined>(
 }
 
 /// Splits off the passes in the order of their numbers. The first seat is that of the last one.
-pub fn split_passes<V: Cargo, D: Disciplined>(
+pub(crate) fn split_passes<V: Cargo, D: Disciplined>(
     words: &Words<V, D>,
     mut seat: Seat<Option<V>, View>,
     passes: u32,
@@ -95,7 +95,7 @@ pub fn split_passes<V: Cargo, D: Disciplined>(
 }
 
 /// Joins all passes into one seat.
-pub fn join_passes<V: Cargo, D: Disciplined>(
+pub(crate) fn join_passes<V: Cargo, D: Disciplined>(
     words: &Words<V, D>,
     mut passes: Vec<Pass>,
 ) -> Seat<Option<V>, View>
@@ -121,7 +121,7 @@ pub fn join_passes<V: Cargo, D: Disciplined>(
 }
 
 /// Takes the value out of a table whose passes are all in one seat.
-pub fn into_value<V: Cargo, D: Disciplined>(
+pub(crate) fn into_value<V: Cargo, D: Disciplined>(
     table: LockTable<V, D>,
     seat: Seat<Option<V>, View>,
 ) -> V
