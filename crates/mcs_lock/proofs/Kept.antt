@@ -1,6 +1,6 @@
 -- Each kind of step of an MCS lock keeps the rule.
-use Rattle.std.proofs.Common.{◌≡◌, ◌≢◌, ℕ, zero, suc, ◌<◌, ◌≤◌, Bool, true, false, not, ◌==◌, eq-eqb, List, [], ◌∷◌, length, set, slice_index}
-use Rattle.std.proofs.Common.{refl, ap, sym, ◌∙◌, inl, inr, arith}
+use Rattle.std.proofs.Common.{◌≡◌, ◌≢◌, ℕ, zero, suc, ◌<◌, ◌≤◌, Bool, true, false, not, ◌==◌, eq-eqb, List, [], ◌∷◌, length, set}
+use Rattle.std.proofs.Common.{slice_index, refl, ap, sym, ◌∙◌, inl, inr, arith}
 use mathlib.Core.Option.{some}
 use mathlib.Core.Logic.{dite}
 use native.Mathlib.Decide.{ℕ_discrete}
@@ -21,7 +21,8 @@ use Rattle.mcs_lock.specs.Kinds.{fetch_and_store_tail, store_predecessor_next, l
 use Rattle.mcs_lock.specs.Kinds.{compare_and_swap_tail}
 use Rattle.mcs_lock.specs.Rule.{tail, next, locked, name, pass_named, IsPlaced, NamesBehind, IsLinked, mcs_discipline}
 use Rattle.mcs_lock.proofs.Places.{none_left, no_seats, live_at, below_at, placed_at}
-use Rattle.mcs_lock.proofs.Links.{core_clears, core_raises, core_enters, core_takes, core_links, core_loads, core_passes, core_ends, alone_is}
+use Rattle.mcs_lock.proofs.Links.{core_clears, core_raises, core_enters, core_takes, core_links, core_loads, core_passes, core_ends}
+use Rattle.mcs_lock.proofs.Links.{alone_is}
 
 module _ (s : Moment mcs_discipline) where
   -- no event, by a pass that doesn't hold and stays in its phase
@@ -70,7 +71,8 @@ module _ (s : Moment mcs_discipline) where
 
   next_within : is_holder true s.view.phase ≡ true → slice_index s.words (next s.view.number) ≤ s.view.count
   next_within held = let x : ℕ = slice_index s.words (next s.view.number) in dite (ℕ_discrete x 0)
-      (λ e. omega (arith, e)) (λ ne. behind_within 0 x (s.queued.core.links 0 s.view (record { seat = s.seat; place = first held; at = s.at }) ne))
+      (λ e. omega (arith, e))
+      (λ ne. behind_within 0 x (s.queued.core.links 0 s.view (record { seat = s.seat; place = first held; at = s.at }) ne))
 
   -- a pass whose `locked` is 0 is the first
   first_at : (i : ℕ) → get_elem? s.seats i ≡ some s.seat → slice_index s.words (locked s.view.number) ≡ 0
@@ -252,7 +254,8 @@ exchanges = record {
           λ e.
               let cut = head_cut s.seats s.seat (first s held) in
               let one = alone_is s.queued s.seat s.at s.live (first s held) e in
-              let none = none_left cut.0 (let z : length s.seats ≡ suc (length cut.0) = ap length cut.1 in omega (arith, z, one)) in record {
+              let long : length s.seats ≡ suc (length cut.0) = ap length cut.1 in
+              let none = none_left cut.0 (omega (arith, long, one)) in record {
                 silent = asks.1;
                 held = held;
                 tail = [];

@@ -24,11 +24,11 @@ module _ {n : ℕ} {tag : Tag} {words seats : List ℕ} {views : List View} (q :
       → IsPlaced seats views i z → u.number ≢ z.number
   idle_apart j u at live idle i z p e = other_pass q j u at live (ap (is_busy true) idle) i z p (sym e)
 
-  next_in : (i : ℕ) (u : View) → IsPlaced seats views i u → next u.number < length words
-  next_in i u p = let b = below_at q p.seat u p.at (live_at q i u p) in let size = q.long in omega (arith, b, size)
+  next_in : (j : ℕ) (u : View) → get_elem? views j ≡ some u → u.spent ≡ false → next u.number < length words
+  next_in j u at live = let b = below_at q j u at live in let size = q.long in omega (arith, b, size)
 
-  locked_in : (i : ℕ) (u : View) → IsPlaced seats views i u → locked u.number < length words
-  locked_in i u p = let b = below_at q p.seat u p.at (live_at q i u p) in let size = q.long in omega (arith, b, size)
+  locked_in : (j : ℕ) (u : View) → get_elem? views j ≡ some u → u.spent ≡ false → locked u.number < length words
+  locked_in j u at live = let b = below_at q j u at live in let size = q.long in omega (arith, b, size)
 
   module _ (id : ℕ) {v : View} (at : get_elem? views id ≡ some v) (live : v.spent ≡ false) where
     long_set : (w : View) → length views ≤ length (set views id w)
@@ -118,12 +118,6 @@ module _ {n : ℕ} {tag : Tag} {words seats : List ℕ} {views : List View} (q :
         (prepared_set words' w mine (λ j u ne e live' _. let far = other_seat q id j v u at e live live' ne in
         (a u.number far, b u.number far)))
 
-    next_below : next v.number < length words
-    next_below = let b = below_at q id v at live in let size = q.long in omega (arith, b, size)
-
-    locked_below : locked v.number < length words
-    locked_below = let b = below_at q id v at live in let size = q.long in omega (arith, b, size)
-
     tail_below : tail < length words
     tail_below = let size = q.long in omega (arith, size)
 
@@ -135,7 +129,7 @@ module _ {n : ℕ} {tag : Tag} {words seats : List ℕ} {views : List View} (q :
         (λ p _. wrote_else words o (locked p) 0 (λ e. omega arith))
         (record { number = refl; predecessor = refl; linked = λ e. e; queued = λ e. e })
         (record {
-          unlinked = λ _. (idle, wrote_here words o 0 next_below);
+          unlinked = λ _. (idle, wrote_here words o 0 (next_in id v at live));
           raised = λ e. (idle, wrote_else words o (locked v.number) 0 (λ e'. omega arith) ∙ ((q.core.prepared id v at live).raised e).1);
         })
 
@@ -148,7 +142,7 @@ module _ {n : ℕ} {tag : Tag} {words seats : List ℕ} {views : List View} (q :
         (record { number = refl; predecessor = refl; linked = λ e. e; queued = λ e. e })
         (record {
           unlinked = λ e. (idle, wrote_else words o (next v.number) 1 (λ e'. omega arith) ∙ ((q.core.prepared id v at live).unlinked e).1);
-          raised = λ _. (idle, wrote_here words o 1 locked_below);
+          raised = λ _. (idle, wrote_here words o 1 (locked_in id v at live));
         })
 
     -- a place of the queue behind which another pass enters
@@ -283,7 +277,7 @@ module _ {n : ℕ} {tag : Tag} {words seats : List ℕ} {views : List View} (q :
         let far : o ≡ next l.1.number = let named = l.4 in omega (arith, named) in
         let keeps : KeepsLinks v w = record { number = refl; predecessor = refl; linked = λ _. refl; queued = λ e. e } in
         let here : slice_index words' o ≡ name v.number = wrote_here words o (name v.number)
-        (let h = next_in l.0 l.1 l.2 in omega (arith, h, far)) in
+        (let h = next_in l.2.seat l.1 l.2.at (live_at q l.0 l.1 l.2) in omega (arith, h, far)) in
         let locked_same = λ (p : ℕ). wrote_else words o (locked p) (name v.number) (λ e. omega arith) in
         core_from words' (set views id w) q.core (wrote_else words o tail (name v.number) (λ e. omega arith))
         (long_set w) (was_set w keeps) (λ i u p. locked_same u.number)
@@ -342,7 +336,8 @@ module _ {n : ℕ} {tag : Tag} {words seats : List ℕ} {views : List View} (q :
         let b = k.noted 0 v (record { seat = id; place = ap (λ (l : List ℕ). get_elem? l 0) cut; at = at }) followed in
         let far : o ≡ locked b.view.number = let named = b.named in omega (arith, named) in
         let one : length seats ≡ suc (length rest) = ap length cut in
-        let here : slice_index words' o ≡ 0 = wrote_here words o 0 (let h = locked_in 1 b.view b.placed in omega (arith, h, far)) in
+        let here : slice_index words' o ≡ 0 = wrote_here words o 0
+        (let h = locked_in b.placed.seat b.view b.placed.at (live_at q 1 b.view b.placed) in omega (arith, h, far)) in
         let next_same = λ (p : ℕ). wrote_else words o (next p) 0 (λ e. omega arith) in record {
           empty = λ e. absurd (let l = at_below seats 1 b.placed.seat b.placed.place in omega (arith, l, one, e));
           last = λ i u p e. wrote_else words o tail 0 (λ e'. omega arith) ∙ k.last (suc i) u (leave_was w rest cut i u p) (one ∙ ap suc e);
