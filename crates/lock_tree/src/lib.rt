@@ -20,5 +20,5 @@ pub use kinds::Kinds;
 pub use laws::{
     low_passes_are_shared, low_passes_may_be_sent, top_passes_are_shared, top_passes_may_be_sent,
 };
-pub use lock_plan::{LockKind, Plan};
+pub use lock_plan::{LockKind, Plan, PlanFault};
 pub use tiers::{LevelOver, LowPass, Owned, TopOf, add_below, kind_at, make_top_of};
