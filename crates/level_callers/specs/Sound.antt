@@ -24,7 +24,7 @@ module _ {Pass Queue Held Leave P : Type 0} (climb : Queue → Climb) (stand : H
   abbrev pub loads_of : Stage Pass Queue Held Leave → ℕ
   loads_of (Idle p) = 0
   loads_of (Queued q) = (climb q).loads
-  loads_of (Holding h) = (stand h).loads
+  loads_of (Holding h) = (stand h).loads 0
   loads_of (Leaving l) = (descent l).loads
   loads_of Spent = 0
 
