@@ -1,0 +1,9 @@
+//! The handles of callers of composed locks: what a C program keeps of a caller of a lock of one to three levels.
+#![tactic(auto)]
+
+mod any_depth;
+mod calls;
+mod handle;
+
+pub use any_depth::AnyDepth;
+pub use handle::ClofComposedCaller;
