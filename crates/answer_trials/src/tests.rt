@@ -1,4 +1,4 @@
-// The top call over a source and sinks in memory. A row of a table is what one call is asked, and what it answers.
+//! The top call over a source and sinks in memory. A row of a table is what one call is asked, and what it answers.
 mod examples;
 mod limits;
 mod refusals;

@@ -1,4 +1,4 @@
-// Classes of bytes.
+//! Classes of bytes.
 ghost use Rattle.std.specs.Prelude.{◌≡◌};
 ghost use Rattle.byte_text.specs.Classes.{is_white};
 

@@ -1,4 +1,4 @@
-// Cuts of a text.
+//! Cuts of a text.
 ghost use Rattle.std.specs.Prelude.{◌≡◌, Contains, MatchOption};
 ghost use Rattle.std.specs.List.{take_while, prefix_len, list_all};
 ghost use Rattle.byte_text.specs.Cuts.{IsCutAt, IsFirstPart, cut, first_piece, without_front};

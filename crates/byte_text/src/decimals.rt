@@ -1,4 +1,4 @@
-// Decimal numbers within limits.
+//! Decimal numbers within limits.
 ghost use Rattle.std.specs.Prelude.{◌≡◌, ◌+◌, ◌^◌, ◌≤◌, IfSome};
 ghost use Rattle.byte_text.specs.Numerals.{number_below, number_in, number_capped};
 

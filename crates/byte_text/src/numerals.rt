@@ -1,4 +1,4 @@
-// Numbers as texts of digits, of any length.
+//! Numbers as texts of digits, of any length.
 ghost use Rattle.std.specs.Prelude.{◌≡◌, ◌≤◌, ◌↔◌, ◌^◌, ◌<◌, ◌*◌, ◌+◌, IsTrue};
 ghost use Rattle.std.specs.Char.{digit_value};
 ghost use Rattle.std.specs.Str.Parse.{AllDigits, digits_value};

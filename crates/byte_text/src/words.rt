@@ -1,4 +1,4 @@
-// The words of a text.
+//! The words of a text.
 ghost use Rattle.std.specs.Prelude.{◌≡◌, [], ◌∷◌, MatchOption};
 ghost use Rattle.byte_text.specs.Words.{words, words_left};
 

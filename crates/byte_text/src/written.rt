@@ -1,4 +1,4 @@
-// Numbers, written.
+//! Numbers, written.
 ghost use Rattle.std.specs.Prelude.{◌≡◌, ◌++◌, ◌<◌, decimal, OnOk, OnErr};
 ghost use Rattle.byte_text.specs.Numerals.{lower_hex_digit};
 

@@ -1,4 +1,4 @@
-// What is answered of a set.
+//! What is answered of a set.
 ghost use Rattle.std.specs.Prelude.{◌≡◌, ◌<◌, ◌++◌, All, IfOk, OnOk};
 ghost use Rattle.std.specs.List.{AllByRecursion, flat_map};
 ghost use Rattle.topo_tree.specs.Objects.{count_of, IsLayer, IsObject};

@@ -1,4 +1,4 @@
-// The objects of a layer inside an object.
+//! The objects of a layer inside an object.
 ghost use Rattle.std.specs.Prelude.{◌≡◌, ◌+◌, ◌≤◌};
 ghost use Rattle.std.specs.List.{range_with_len};
 ghost use Rattle.synth_text.specs.Limits.{pu_limit};

@@ -1,4 +1,4 @@
-// Why a word is no location.
+//! Why a word is no location.
 
 ghost use Rattle.std.specs.Prelude.{◌≡◌};
 ghost use Rattle.calc_query.specs.declared.fault.CalcFault.TheVariants as faults;

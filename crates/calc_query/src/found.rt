@@ -1,4 +1,4 @@
-// What was found of the last object of each depth, so that the children of one object don't each go over all its PUs.
+//! What was found of the last object of each depth, so that the children of one object don't each go over all its PUs.
 ghost use Rattle.std.specs.Prelude.{◌≡◌, All, IfOk};
 ghost use Rattle.cpu_set.specs.Tests.{is_inside};
 ghost use Rattle.topo_tree.specs.Objects.{IsObject};

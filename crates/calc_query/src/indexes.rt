@@ -1,4 +1,4 @@
-// Indexes of parts, read.
+//! Indexes of parts, read.
 ghost use Rattle.std.specs.Prelude.{◌≡◌, option_map};
 ghost use Rattle.std.specs.Option.{option_and_then};
 ghost use Rattle.calc_query.specs.Readings.{index_number, span_from, wrap_from, pick_of};

@@ -1,4 +1,4 @@
-// Which numbers an index picks.
+//! Which numbers an index picks.
 ghost use Rattle.std.specs.Prelude.{◌≡◌, ◌<◌, ◌≤◌, ◌⊎◌, ◌^◌, ℕ, false};
 ghost use Rattle.synth_text.specs.Limits.{pu_limit};
 ghost use Rattle.calc_query.specs.Picks.{is_picked, is_wrapped, IsReach};

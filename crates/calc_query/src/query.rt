@@ -1,4 +1,4 @@
-// What is asked of a topology.
+//! What is asked of a topology.
 
 use cpu_set::CpuSet;
 use synth_text::Sequence;

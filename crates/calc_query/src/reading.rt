@@ -1,4 +1,4 @@
-// Terms and locations, read.
+//! Terms and locations, read.
 ghost use Rattle.std.specs.Prelude.{◌≡◌, ◌-◌, ◌≤◌, ◌==◌, length, IfOk};
 ghost use Rattle.std.specs.List.{slice_split, AllByRecursion};
 ghost use Rattle.synth_text.specs.declared.description.Description.{Description};

@@ -1,4 +1,4 @@
-// The set that terms select.
+//! The set that terms select.
 ghost use Rattle.std.specs.Prelude.{◌≡◌, ◌+◌, ◌<◌, ◌≤◌, ◌∷◌, [], ℕ, true, false};
 ghost use Rattle.std.specs.List.{range_with_len, AllByRecursion};
 ghost use Rattle.cpu_set.specs.Sets.{has, numbers_where};

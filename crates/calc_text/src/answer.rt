@@ -1,4 +1,4 @@
-// What is printed of a set.
+//! What is printed of a set.
 ghost use Rattle.std.specs.Prelude.{◌≡◌, IfOk, option_map};
 ghost use Rattle.calc_text.specs.Layers.{HasLayers};
 ghost use Rattle.calc_text.specs.Texts.{answer_text, between, set_text};

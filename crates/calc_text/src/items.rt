@@ -1,4 +1,4 @@
-// Answers that are lists of items.
+//! Answers that are lists of items.
 ghost use Rattle.std.specs.Prelude.{◌≡◌, ◌<◌, ◌++◌, ◌∷◌, [], All, IfOk, OnOk, decimal, length};
 ghost use Rattle.std.specs.List.{AllByRecursion, join_by};
 ghost use Rattle.topo_tree.specs.Objects.{count_of, IsLayer, IsObject};

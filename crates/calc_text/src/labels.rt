@@ -1,4 +1,4 @@
-// Names and numbers of objects.
+//! Names and numbers of objects.
 ghost use Rattle.std.specs.Prelude.{◌≡◌, ◌++◌, ◌<◌, OnOk, decimal};
 ghost use Rattle.topo_tree.specs.Objects.{IsLayer, IsObject};
 ghost use Rattle.calc_text.specs.Texts.{has_numbers, label, layer_name, long_name, shown_number};

@@ -1,4 +1,4 @@
-// The words of a calculation, read on a topology.
+//! The words of a calculation, read on a topology.
 ghost use Rattle.std.specs.Prelude.{◌≡◌, ◌≤◌, ◌^◌, Ok, map, length, IfOk, IfErr, IfSome};
 ghost use Rattle.std.specs.List.{AllByRecursion};
 ghost use Rattle.topo_tree.specs.Objects.{IsLayer};

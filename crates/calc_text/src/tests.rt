@@ -1,4 +1,4 @@
-// Words read, and answers printed. Those of the tests of `clof_tool` are compared with hwloc-calc's.
+//! Words read, and answers printed. Those of the tests of `clof_tool` are compared with hwloc-calc's.
 use crate::{Answer, Style, answer_text, read_layers, read_terms, set_text};
 use calc_query::{CalcFault, Numbering, select};
 use std::alloc::Global;

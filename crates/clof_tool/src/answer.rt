@@ -1,4 +1,4 @@
-// The text that is printed, all of it before the first write.
+//! The text that is printed, all of it before the first write.
 ghost use Rattle.std.specs.Prelude.{◌≡◌, ◌≢◌, ◌≤◌, ◌<◌, ◌⊎◌, length, IfErr, IfOk, OnOk};
 ghost use Rattle.edge_io.specs.Counts.{Rose};
 ghost use Rattle.edge_io.specs.Contents.{IsDrained};

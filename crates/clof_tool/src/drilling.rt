@@ -1,4 +1,4 @@
-// What `drill` prints.
+//! What `drill` prints.
 ghost use Rattle.std.specs.Prelude.{◌≡◌, IfOk, IfErr};
 ghost use Rattle.lock_plan.specs.Plans.{IsPlanFor};
 ghost use Rattle.drill_text.specs.Drill.{drill_text};

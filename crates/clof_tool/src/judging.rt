@@ -1,4 +1,4 @@
-// What `check` prints of an input and a printed text.
+//! What `check` prints of an input and a printed text.
 ghost use Rattle.std.specs.Prelude.{◌≡◌, ◌⊎◌, ◌<◌, ◌≤◌, ◌^◌, All, length, map, sum_by, IfOk, IfErr};
 ghost use Rattle.synth_text.specs.Rules.{pu_count};
 ghost use Rattle.lock_plan.specs.Plans.{IsPlanFor};

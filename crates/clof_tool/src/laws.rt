@@ -1,4 +1,4 @@
-// Laws of the definitions: each function has an empty body, and its contract is the law.
+//! Laws of the definitions: each function has an empty body, and its contract is the law.
 ghost use Rattle.clof_tool.specs.Laws.{NotBoth, OneApplies, OneHistory, OneRefusal};
 ghost use Rattle.clof_tool.specs.Laws.{OneCheckRefusal, OneText, TextOrRefusal, YesWhereRun};
 

@@ -1,4 +1,4 @@
-// What standard error is told.
+//! What standard error is told.
 ghost use Rattle.std.specs.Prelude.{◌≡◌, ◌≢◌, ℕ, take};
 ghost use Rattle.edge_io.specs.Counts.{Rose};
 ghost use Rattle.edge_io.specs.Contents.{Gains};

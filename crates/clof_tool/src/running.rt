@@ -1,4 +1,4 @@
-// What `run` prints of an input.
+//! What `run` prints of an input.
 ghost use Rattle.std.specs.Prelude.{◌≡◌, ◌⊎◌, ◌<◌, ◌≤◌, ◌^◌, All, length, map, sum_by, IfOk, IfErr, IsOk};
 ghost use Rattle.synth_text.specs.Rules.{pu_count};
 ghost use Rattle.lock_plan.specs.Laws.{IsTree};

@@ -1,4 +1,4 @@
-// What `select` prints.
+//! What `select` prints.
 ghost use Rattle.std.specs.Prelude.{◌≡◌, ◌≢◌, ◌≤◌, ◌⊎◌, ℕ, List, Some, length, IfErr, IfOk, IsOk, OnOk};
 ghost use Rattle.edge_io.specs.Counts.{Rose};
 ghost use Rattle.edge_io.specs.Contents.{IsDrained};

@@ -1,4 +1,4 @@
-// The top call over sources and sinks in memory.
+//! The top call over sources and sinks in memory.
 mod checks;
 mod cohorts;
 mod drills;

@@ -22,8 +22,7 @@ pub record IsGiven (cohorts : List CohortState) (x : ℕ) : Type 0 where
 
 module _ {J : Type 0} (number : J → ℕ) (tag_of : J → Tag) where
   -- each job with this tag is in its slot, or a Cohort was made with it, or it is one of those that are missing; and each thread has a
-  -- place
-  -- at each Cohort
+  -- place at each Cohort
   pub record IsHall (tag : Tag) (missing : List ℕ) (hall : Hall J) : Type 0 where
     pub own : AreOwn number tag_of tag hall.slots.items
     pub cohorts_are : (i : ℕ) (c : CohortState) → slice_get hall.cohorts.items i ≡ Some c

@@ -1,4 +1,4 @@
-// Cohorts that are made, served and closed.
+//! Cohorts that are made, served and closed.
 ghost use Rattle.std.specs.Prelude.{◌≡◌, ◌<◌, ℕ, None, map, length, IfOk, IfSome};
 ghost use Rattle.lock_rules.specs.Tag.{leaf};
 ghost use Rattle.cohort_queue.specs.Numbers.{IsIn, times, once_below};

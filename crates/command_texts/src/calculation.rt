@@ -1,4 +1,4 @@
-// What `calc` prints.
+//! What `calc` prints.
 ghost use Rattle.std.specs.Prelude.{◌≡◌, ◌⊎◌, ◌++◌, ◌∷◌, [], ℕ, List, option_map, IfOk, IfErr, IsOk};
 ghost use Rattle.calc_text.specs.Layers.{HasLayers};
 ghost use Rattle.calc_text.specs.Texts.{answer_text};

@@ -1,4 +1,4 @@
-// What `--single` leaves of a set.
+//! What `--single` leaves of a set.
 ghost use Rattle.std.specs.Prelude.{◌≡◌, take};
 ghost use Rattle.command_texts.specs.Chosen.{chosen};
 

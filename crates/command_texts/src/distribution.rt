@@ -1,4 +1,4 @@
-// What `distrib` prints.
+//! What `distrib` prints.
 ghost use Rattle.std.specs.Prelude.{◌≡◌, ◌⊎◌, ◌<◌, ◌-◌, ◌++◌, ◌∷◌, [], ℕ, List, IfOk, IfErr, IfSome, IsOk, OnOk, MatchResult};
 ghost use Rattle.std.specs.Prelude.{Result as PlainResult};
 ghost use Rattle.topo_tree.specs.Objects.{depth_count};

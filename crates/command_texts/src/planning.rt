@@ -1,4 +1,4 @@
-// The plan of the lock of a run.
+//! The plan of the lock of a run.
 ghost use Rattle.std.specs.Prelude.{◌≡◌, ◌⊎◌, IfOk, IfErr, IsOk};
 ghost use Rattle.lock_plan.specs.Plans.{IsPlanFor};
 ghost use Rattle.command_words.specs.Plain.{plain_running};

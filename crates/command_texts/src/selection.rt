@@ -1,4 +1,4 @@
-// What `select` prints.
+//! What `select` prints.
 ghost use Rattle.std.specs.Prelude.{◌≡◌, ◌≤◌, ◌<◌, ◌++◌, ◌∷◌, [], ◌⊎◌, ℕ, List, All, IfOk, IfErr, IsOk, OnOk};
 ghost use Rattle.std.specs.List.{join_by};
 ghost use Rattle.topo_tree.specs.declared.layer.Layer.TheVariants as layers;

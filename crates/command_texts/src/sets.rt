@@ -1,4 +1,4 @@
-// What `set` prints.
+//! What `set` prints.
 ghost use Rattle.std.specs.Prelude.{◌≡◌, ◌⊎◌, ◌++◌, ◌∷◌, [], IfErr, IfOk, IsOk, OnOk};
 ghost use Rattle.cpu_set.specs.declared.fault.SetFault.{SetFault as AnySetFault};
 ghost use Rattle.command_texts.specs.declared.status.Fault.TheVariants.{Set as SetOf};

@@ -1,4 +1,4 @@
-// How a call of the program ends.
+//! How a call of the program ends.
 ghost use Rattle.std.specs.Prelude.{◌≡◌};
 
 use calc_query::CalcFault;

@@ -1,4 +1,4 @@
-// The tree of the topology that a description stands for.
+//! The tree of the topology that a description stands for.
 ghost use Rattle.std.specs.Prelude.{◌≡◌, ◌⊎◌, None, IfOk, IfErr, IsOk, OnOk};
 ghost use Rattle.synth_text.specs.declared.description.Description.{Description as Described};
 ghost use Rattle.synth_text.specs.Descriptions.{Describes};

@@ -1,4 +1,4 @@
-// What `topo` prints.
+//! What `topo` prints.
 ghost use Rattle.std.specs.Prelude.{◌≡◌, ◌⊎◌, List, ℕ, IfErr, IfOk, IsOk};
 ghost use Rattle.command_texts.specs.declared.status.Status.{Status as AnyStatus};
 ghost use Rattle.command_texts.specs.TopoText.{text_of, PrintsTopo, TopoRefuses};

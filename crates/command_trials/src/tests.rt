@@ -1,4 +1,4 @@
-// What the commands print, and how they are refused, from their words on.
+//! What the commands print, and how they are refused, from their words on.
 mod calc;
 mod distrib;
 mod options;

@@ -1,4 +1,4 @@
-// What words ask for.
+//! What words ask for.
 ghost use Rattle.std.specs.Prelude.{◌<◌, ◌≤◌, ◌^◌, IfSome, length, vec_len};
 ghost use Rattle.std.proofs.Props.{props};
 

@@ -1,4 +1,4 @@
-// A command's words, read by clap.
+//! A command's words, read by clap.
 ghost use Rattle.std.specs.Prelude.{◌≡◌, ◌≢◌, ◌⊎◌, ◌^◌, [], false, true, nat_lt, length, map, string_bytes, None, Some, IfOk, IfErr};
 ghost use Rattle.std.specs.Prelude.{option_map, unwrap_or};
 ghost use Rattle.clap.specs.Words.{app_of, first_of, found_of, is_simple_and_free, rows_of, rule_of as clap_rule};

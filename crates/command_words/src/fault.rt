@@ -1,4 +1,4 @@
-// Why words ask for nothing.
+//! Why words ask for nothing.
 ghost use Rattle.std.specs.Prelude.{◌≡◌};
 ghost use Rattle.command_words.specs.declared.fault.WordsFault.TheVariants as faults;
 

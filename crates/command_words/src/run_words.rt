@@ -1,4 +1,4 @@
-// The words of `run`.
+//! The words of `run`.
 ghost use Rattle.std.specs.Prelude.{◌≡◌, ◌⊎◌, ◌^◌, true, nat_lt, length, None, Some, map, string_bytes, IfOk, IfErr, option_map};
 ghost use Rattle.std.specs.Option.{option_map_or};
 ghost use Rattle.clap.specs.Words.{found_of, rows_of};

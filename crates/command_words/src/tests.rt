@@ -1,4 +1,4 @@
-// Words, read.
+//! Words, read.
 use crate::{Asked, Checking, Depths, Question, Running, WordsFault, read_words};
 use std::alloc::Global;
 use std::process::Abort;

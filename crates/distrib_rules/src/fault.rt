@@ -1,4 +1,4 @@
-// Why masks are not shared out.
+//! Why masks are not shared out.
 
 ghost use Rattle.std.specs.Prelude.{◌≡◌};
 ghost use Rattle.distrib_rules.specs.declared.fault.DistribFault.TheVariants as faults;

@@ -1,4 +1,4 @@
-// Masks, one after another.
+//! Masks, one after another.
 ghost use Rattle.std.specs.Prelude.{◌≡◌, OnOk};
 ghost use Rattle.distrib_rules.specs.Masks.{join_last, with_share};
 

@@ -1,4 +1,4 @@
-// The shares of a list of objects of one depth.
+//! The shares of a list of objects of one depth.
 ghost use Rattle.std.specs.Prelude.{◌≡◌, ◌+◌, ◌-◌, ◌<◌, ◌≤◌, ◌*◌, if◌then◌else◌};
 ghost use Rattle.synth_text.specs.Limits.{pu_limit};
 ghost use Rattle.distrib_rules.specs.Shares.{rounded_up};

@@ -1,4 +1,4 @@
-// Sharing masks out over the objects of a topology.
+//! Sharing masks out over the objects of a topology.
 ghost use Rattle.std.specs.Prelude.{◌≡◌, ◌+◌, ◌<◌, ◌≤◌, ℕ, length, None, vec_len, IfOk, OnOk, IfErr};
 ghost use Rattle.std.specs.List.{range_with_len};
 ghost use Rattle.topo_tree.specs.Building.{IsBuilt};

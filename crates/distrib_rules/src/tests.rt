@@ -1,4 +1,4 @@
-// Distributions over whole topologies. The masks of the tables are those of hwloc-distrib 2.9.
+//! Distributions over whole topologies. The masks of the tables are those of hwloc-distrib 2.9.
 use super::*;
 use byte_text::{Words, number32};
 use cpu_set::CpuSet;

@@ -1,4 +1,4 @@
-// Examples from outside the definitions: the sums were made by a plain script.
+//! Examples from outside the definitions: the sums were made by a plain script.
 ghost use Rattle.std.specs.Prelude.{◌≡◌, ◌<◌, ◌^◌, ℕ, ◌==◌, Some, count_by, length, map, slice_get, sum_by, IfOk, OnOk};
 ghost use Rattle.mc_text.specs.Reading.{commands_of};
 ghost use Rattle.kv_history.specs.Log.{NoneVoid, calls};

@@ -1,4 +1,4 @@
-// What goes wrong at the edge.
+//! What goes wrong at the edge.
 
 use thiserror::Error;
 

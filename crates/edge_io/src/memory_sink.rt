@@ -1,4 +1,4 @@
-// Sinks in memory.
+//! Sinks in memory.
 ghost use Rattle.std.specs.Prelude.{◌≡◌, ◌≤◌, ◌<◌, ◌+◌, ◌-◌, ◌++◌, length, take, min, vec_len, vec_capacity, Contains, IfOk, OnOk, OnErr};
 ghost use Rattle.std.specs.Prelude.{[], Some};
 ghost use Rattle.edge_io.specs.Counts.{Rose};

@@ -1,4 +1,4 @@
-// Sources over bytes in memory.
+//! Sources over bytes in memory.
 ghost use Rattle.std.specs.Prelude.{◌≡◌, ◌≤◌, ◌<◌, ◌↔◌, ◌+◌, ◌-◌, ◌++◌, IsTrue, length, take, drop, min, Contains, IfOk, OnOk, OnErr, []};
 ghost use Rattle.std.specs.Prelude.{Some};
 ghost use Rattle.edge_io.specs.Counts.{Rose, RisesBy};

@@ -1,4 +1,4 @@
-// Reading a source to its end.
+//! Reading a source to its end.
 ghost use Rattle.std.specs.Prelude.{◌≡◌, ◌≢◌, ◌≤◌, ◌<◌, ◌+◌, ◌-◌, length, vec_len, IfErr, IfOk, IfSome, OnOk, OnErr};
 ghost use Rattle.edge_io.specs.Counts.{Rose, RisesBy};
 ghost use Rattle.edge_io.specs.Contents.{Loses, IsAtEnd, IsDrained};

@@ -1,5 +1,5 @@
-// The adapters over std's readers and writers. They tell no content themselves: nothing proves what a real stream holds.
-// Where the reader or the writer inside tells it, as those in memory do, each call passes it on as it is.
+//! The adapters over std's readers and writers. They tell no content themselves: nothing proves what a real stream holds.
+//! Where the reader or the writer inside tells it, as those in memory do, each call passes it on as it is.
 ghost use Rattle.std.specs.Prelude.{◌≡◌, ◌≤◌, ◌<◌, length, take, IfOk, OnOk, OnErr};
 ghost use Rattle.std.specs.Io.KnownBytes.{ReadConsumes, WriteAppends};
 ghost use Rattle.edge_io.specs.Counts.{Rose, RisesBy};

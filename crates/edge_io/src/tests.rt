@@ -1,4 +1,4 @@
-// Scripts of reads and writes over sources and sinks in memory, and the adapters over std's.
+//! Scripts of reads and writes over sources and sinks in memory, and the adapters over std's.
 ghost use Rattle.std.specs.Prelude.{◌<◌, ◌≤◌};
 
 use crate::{

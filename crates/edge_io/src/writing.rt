@@ -1,4 +1,4 @@
-// Writing bytes to a sink.
+//! Writing bytes to a sink.
 ghost use Rattle.std.specs.Prelude.{◌≡◌, ◌≤◌, ◌<◌, ◌⊎◌, length, take, IfErr, OnErr, OnOk};
 ghost use Rattle.edge_io.specs.Counts.{Rose};
 ghost use Rattle.edge_io.specs.Contents.{Gains, FallsBy, IsSpent};

@@ -1,4 +1,4 @@
-// Examples from outside the definitions: memcached's answers where they lie in the profile, and the profile's own.
+//! Examples from outside the definitions: memcached's answers where they lie in the profile, and the profile's own.
 ghost use Rattle.std.specs.Prelude.{◌≡◌, ◌+◌, ◌<◌, ◌^◌, ◌∷◌, [], length, IfOk};
 ghost use Rattle.mc_text.specs.Reading.{commands_of};
 ghost use Rattle.kv_history.specs.Answer.{replies_of};

@@ -1,4 +1,4 @@
-// The top call over sources and sinks in memory.
+//! The top call over sources and sinks in memory.
 mod select;
 
 use clof_tool::{Fault, OptionName, Status, top, top_with};

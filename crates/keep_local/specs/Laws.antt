@@ -7,9 +7,8 @@ use Rattle.keep_local.specs.declared.turn.Turn.{Turn}
 use Rattle.keep_local.specs.Shapes.{top_of}
 use Rattle.keep_local.specs.Turns.{run, climb_after, Follows, IsLawful}
 
--- Among lawful turns, any that stand together without one that left higher than a level have at most as many that left at this level as
--- it keeps:
--- so between two turns that left higher, and before the first
+-- Among lawful turns, any that stand together without one that left higher than a level have at most as many that left at this level as it
+-- keeps: so between two turns that left higher, and before the first
 abbrev pub KeepsAtMost : Type 0
 KeepsAtMost = (shape : Shape) (level : ℕ) (before between after : List Turn) → IsLawful shape (before ++ (between ++ after))
     → level < top_of shape

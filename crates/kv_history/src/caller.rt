@@ -1,4 +1,4 @@
-// What the journal keeps of a caller.
+//! What the journal keeps of a caller.
 use mc_text::Tally;
 
 /// A caller's section, and what that holds.

@@ -1,4 +1,4 @@
-// What each command makes of the store.
+//! What each command makes of the store.
 ghost use Rattle.std.specs.Prelude.{◌≡◌, IfOk, OnErr, OnOk};
 ghost use Rattle.std.specs.FinMap as map;
 ghost use Rattle.kv_history.specs.Answer.{counting, deletion, kept, moved, storage, touching};

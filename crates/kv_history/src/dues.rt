@@ -1,4 +1,4 @@
-// The keys of the items that expire, by the times at which they do.
+//! The keys of the items that expire, by the times at which they do.
 ghost use Rattle.std.specs.Prelude.{◌≡◌, ◌≤◌, ◌+◌, ℕ, List, true, false, IfNone, IfSome, OnErr, OnOk};
 ghost use Rattle.kv_history.specs.Dues.{AreAlike, Lists, ListsAt, ListsToo, NoneListed, Relists, due_count, is_listed};
 ghost use Rattle.kv_history.specs.declared.expiry.Expiry.TheVariants.{Never};

@@ -1,4 +1,4 @@
-// When items expire.
+//! When items expire.
 ghost use Rattle.std.specs.Prelude.{◌≡◌};
 ghost use Rattle.kv_history.specs.Expiry.{expiry_of, is_due, same_expiry};
 

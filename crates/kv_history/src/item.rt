@@ -1,4 +1,4 @@
-// What the store keeps of an item.
+//! What the store keeps of an item.
 ghost use Rattle.std.specs.Prelude.{◌≡◌, ◌++◌, IfOk, OnErr, OnOk};
 ghost use Rattle.kv_history.specs.Answer.{counted, number_of};
 
@@ -50,6 +50,7 @@ impl Item {
     ghost use Rattle.kv_history.specs.Views.{plain_item};
     ghost use Rattle.kv_history.specs.Edits.{edited, counting_item, counted_item};
 
+    /// An item with these flags, this expiry, a copy of this block and this unique, or want of memory.
     pub fn new(
         alloc: Global,
         flags: u32,

@@ -1,4 +1,4 @@
-// The journal.
+//! The journal.
 ghost use Rattle.std.specs.Prelude.{◌≡◌, ◌^◌, ◌<◌, ◌≤◌, ◌↔◌, ◌++◌, ◌∷◌, [], length, map, option_map, slice_get, slice_range};
 ghost use Rattle.std.specs.Prelude.{sum_by, take, vec_capacity, vec_len, not, IfOk, IsTrue, OnErr, OnOk, Some};
 ghost use Rattle.std.specs.Bool.{OnTrue};

@@ -1,4 +1,4 @@
-// What a journal keeps behind its pointer.
+//! What a journal keeps behind its pointer.
 ghost use Rattle.std.specs.Prelude.{◌≡◌, ◌<◌, ◌≤◌, ◌++◌, ◌∷◌, [], is_err, length, vec_capacity, vec_len, OnErr, OnOk};
 ghost use Rattle.mc_text.specs.Request.{request_of, view};
 ghost use Rattle.kv_history.specs.Answer.{reply_of, store_after};

@@ -1,4 +1,4 @@
-// A journal is what the callers of a lock work on.
+//! A journal is what the callers of a lock work on.
 ghost use Rattle.std.specs.Prelude.{map};
 ghost use Rattle.lock_rules.specs.Trees.{tree_of_lists};
 

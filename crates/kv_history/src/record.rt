@@ -1,4 +1,4 @@
-// What the journal keeps of an entry.
+//! What the journal keeps of an entry.
 
 /// The place of a command, and where its reply ends: 32 bytes.
 #[derive(Clone, Copy)]

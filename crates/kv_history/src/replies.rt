@@ -1,4 +1,4 @@
-// Replies, written.
+//! Replies, written.
 ghost use Rattle.std.specs.Prelude.{◌≡◌, ℕ, List, ◌++◌, codes, OnErr, OnOk};
 ghost use Rattle.std.specs.List.{flat_map};
 ghost use Rattle.kv_history.specs.Answer.{written_item, line_end};

@@ -1,4 +1,4 @@
-// Replies of one line.
+//! Replies of one line.
 ghost use Rattle.std.specs.Prelude.{◌≡◌, ◌+◌, ◌++◌, ◌≤◌, [], length, if◌then◌else◌, vec_capacity, vec_len, IsOk};
 ghost use Rattle.kv_history.specs.Lines.{fixed_line, written_line};
 ghost use Rattle.kv_history.specs.declared.reply_line.FixedLine.TheVariants.{Fault};

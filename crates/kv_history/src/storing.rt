@@ -1,4 +1,4 @@
-// What a storage command asks for.
+//! What a storage command asks for.
 use mc_text::How;
 
 /// A storage command.

@@ -1,4 +1,4 @@
-// Why a plan is refused.
+//! Why a plan is refused.
 ghost use Rattle.std.specs.Prelude.{◌≡◌};
 ghost use Rattle.lock_plan.specs.declared.fault.PlanFault.TheVariants as faults;
 

@@ -1,4 +1,4 @@
-// How long the levels of a plan keep the lock above.
+//! How long the levels of a plan keep the lock above.
 ghost use Rattle.std.specs.Prelude.{◌≡◌, ◌<◌, ◌≤◌, ◌^◌, None, Some, IfOk, IfErr, length};
 ghost use Rattle.out_of_memory.specs.Memory.{UnlessMemory};
 ghost use Rattle.lock_select.specs.Texts.{keep_of};

@@ -1,4 +1,4 @@
-// The kinds of basic locks.
+//! The kinds of basic locks.
 ghost use Rattle.std.specs.Prelude.{◌≡◌, ◌≤◌, IfSome, length};
 ghost use Rattle.lock_plan.specs.Plans.{kind_named};
 

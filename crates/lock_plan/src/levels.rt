@@ -1,4 +1,4 @@
-// The levels that a plan names.
+//! The levels that a plan names.
 ghost use Rattle.std.specs.Prelude.{◌≡◌, ◌<◌, ◌^◌, Some, IfOk, IfErr, length};
 ghost use Rattle.out_of_memory.specs.Memory.{UnlessMemory};
 ghost use Rattle.synth_text.specs.IndexTexts.{entries_of};

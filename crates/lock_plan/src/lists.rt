@@ -1,4 +1,4 @@
-// Reading the pieces of a list.
+//! Reading the pieces of a list.
 ghost use Rattle.std.specs.Prelude.{◌≡◌, ◌<◌, ◌^◌, ℕ, List, [], None, Some, Option, IfOk, IfErr, length};
 ghost use Rattle.out_of_memory.specs.Memory.{UnlessMemory};
 ghost use Rattle.synth_text.specs.IndexTexts.{entries_of};

@@ -1,4 +1,4 @@
-// The kinds of locks that a plan names.
+//! The kinds of locks that a plan names.
 ghost use Rattle.std.specs.Prelude.{◌≡◌, ◌<◌, ◌^◌, None, Some, IfOk, IfErr, length, IfSome, replicate};
 ghost use Rattle.out_of_memory.specs.Memory.{UnlessMemory};
 ghost use Rattle.byte_text.specs.Views.{text_at};

@@ -1,4 +1,4 @@
-// The nodes under which callers stand.
+//! The nodes under which callers stand.
 ghost use Rattle.std.specs.Prelude.{◌≡◌, ◌<◌, ◌==◌, All, Contains, IfOk, length, map, slice_index};
 ghost use Rattle.std.specs.List.{position_or_len};
 ghost use Rattle.std.specs.List.Sorted.{IsStrictlyIncreasing};

@@ -1,4 +1,4 @@
-// Plans and shapes that were worked out by hand, and all refusals.
+//! Plans and shapes that were worked out by hand, and all refusals.
 ghost use Rattle.std.specs.Prelude.{◌≡◌, ◌<◌, All, IfOk, IsTrue};
 ghost use Rattle.synth_text.specs.Rules.{pu_count};
 ghost use Rattle.lock_plan.specs.Plans.{IsPlanFor};

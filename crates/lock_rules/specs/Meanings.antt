@@ -10,8 +10,8 @@ pub record Place : Type 0 where
   pub number : ℕ
 
 -- a pass that waits: how many entering steps and how many loads it recorded, and whether the last load showed the word that it waits for.
--- `preceded` says
--- that its entering step found a predecessor, and `followed` that its exchange of the lock's tail found another pass behind it
+-- `preceded` says that its entering step found a predecessor, and `followed` that its exchange of the lock's tail found another pass
+-- behind it
 pub record Waiting : Type 0 where
   pub place : Place
   pub entries : ℕ

@@ -55,6 +55,7 @@ impl Departing for Left {
 }
 
 impl Pass {
+    /// The pass of an idle seat and its mark.
     pub fn of<V>(seat: Seat<Option<V>, View>, mark: u64) -> Pass
         requires idle { seat.me.0.phase ≡ Idle }
         requires plain { IsPlain seat.me.0 }
@@ -82,6 +83,7 @@ impl Pass {
 }
 
 impl Queue {
+    /// The token of a queued seat, its mark, and that of the pass before it.
     pub fn of<V>(seat: Seat<Option<V>, View>, mark: u64, predecessor: u64) -> Queue
         requires queued { seat.me.0.phase ≡ Queued }
         requires plain { IsPlain seat.me.0 }

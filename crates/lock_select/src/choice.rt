@@ -1,4 +1,4 @@
-// What is chosen.
+//! What is chosen.
 
 use sequence::Sequence;
 

@@ -1,4 +1,4 @@
-// Choosing the levels of a lock.
+//! Choosing the levels of a lock.
 ghost use Rattle.std.specs.Prelude.{◌≤◌, IfOk};
 ghost use Rattle.lock_select.specs.Texts.{keep_limit, Weighs};
 ghost use Rattle.lock_select.specs.Traces.{Visits};

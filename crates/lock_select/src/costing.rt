@@ -1,4 +1,4 @@
-// What a list of levels costs.
+//! What a list of levels costs.
 ghost use Rattle.std.specs.Prelude.{◌≡◌, ◌≤◌};
 ghost use Rattle.lock_select.specs.Texts.{keep_limit, Weighs};
 ghost use Rattle.lock_select.specs.Traces.{Visits};

@@ -1,4 +1,4 @@
-// Why nothing is chosen.
+//! Why nothing is chosen.
 ghost use Rattle.std.specs.Prelude.{◌≡◌};
 ghost use Rattle.lock_select.specs.declared.fault.SelectFault.TheVariants as faults;
 

@@ -1,4 +1,4 @@
-// How often a level keeps the lock.
+//! How often a level keeps the lock.
 ghost use Rattle.std.specs.Prelude.{◌≡◌, ◌≤◌, None, Some, IfOk, IfErr};
 ghost use Rattle.lock_select.specs.Texts.{keep_limit, keep_of};
 

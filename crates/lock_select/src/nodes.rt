@@ -1,4 +1,4 @@
-// The depths at which PUs have an object in common.
+//! The depths at which PUs have an object in common.
 ghost use Rattle.std.specs.Prelude.{◌<◌, ◌≤◌, ◌-◌, IfOk};
 ghost use Rattle.synth_text.specs.Rules.{pu_count};
 ghost use Rattle.lock_select.specs.Traces.{Visits};

@@ -1,4 +1,4 @@
-// What a choice is asked for.
+//! What a choice is asked for.
 ghost use Rattle.std.specs.Prelude.{◌≡◌};
 ghost use Rattle.lock_select.specs.Nodes.{AreLevels};
 ghost use Rattle.lock_select.specs.Costs.{cost_of};

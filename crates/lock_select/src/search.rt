@@ -1,4 +1,4 @@
-// The search through all lists of levels.
+//! The search through all lists of levels.
 ghost use Rattle.std.specs.Prelude.{◌≡◌, ◌∷◌, [], OnOk, IfOk};
 ghost use Rattle.lock_select.specs.Nodes.{AreLevels};
 ghost use Rattle.lock_select.specs.Costs.{IsCheapest};

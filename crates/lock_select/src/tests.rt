@@ -1,4 +1,4 @@
-// Choices for small traces, whose costs a plain program outside counted (bench/selections.py), and all refusals.
+//! Choices for small traces, whose costs a plain program outside counted (bench/selections.py), and all refusals.
 use super::*;
 use std::alloc::Global;
 use std::process::Abort;

@@ -1,4 +1,4 @@
-// The walk over the turns of a trace, for a list of levels.
+//! The walk over the turns of a trace, for a list of levels.
 ghost use Rattle.std.specs.Prelude.{◌≡◌, ◌-◌, ◌<◌, ◌≤◌, ℕ, All, length, slice_index};
 ghost use Rattle.lock_select.specs.Texts.{keep_limit, weight_limit};
 ghost use Rattle.lock_select.specs.Costs.{climb_cost};

@@ -1,4 +1,4 @@
-// The weights of the depths.
+//! The weights of the depths.
 ghost use Rattle.std.specs.Prelude.{◌≡◌, ◌≤◌, ◌<◌, ℕ, List, None, Some, IfOk, IfErr, All, IfSome};
 ghost use Rattle.out_of_memory.specs.Memory.{UnlessMemory};
 ghost use Rattle.byte_text.specs.Views.{text_at};

@@ -1,4 +1,4 @@
-// What a command asks for.
+//! What a command asks for.
 ghost use Rattle.std.specs.Prelude.{◌≡◌};
 ghost use Rattle.mc_text.specs.Request.{is_quit, request_of};
 

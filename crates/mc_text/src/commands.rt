@@ -1,4 +1,4 @@
-// The commands of a section, one by one.
+//! The commands of a section, one by one.
 ghost use Rattle.std.specs.Prelude.{◌≡◌, ◌⊎◌, ◌∷◌, ◌++◌, ◌+◌, [], false, true, length, IsTrue, IfSome, IfNone, MatchOption};
 ghost use Rattle.mc_text.specs.Request.{view, spelling_of};
 ghost use Rattle.mc_text.specs.Commands.{left, has_quit, commands_left, rest_left};

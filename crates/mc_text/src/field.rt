@@ -1,4 +1,4 @@
-// The words of a line that carry a value.
+//! The words of a line that carry a value.
 ghost use Rattle.std.specs.Prelude.{◌≡◌, ◌+◌, ◌^◌, ◌≤◌, ◌&&◌, ◌==◌, nat_lt, not, IfSome};
 ghost use Rattle.std.specs.List.{list_all};
 ghost use Rattle.byte_text.specs.Numerals.{number_below};

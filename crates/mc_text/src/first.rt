@@ -1,4 +1,4 @@
-// The command at the front of a text.
+//! The command at the front of a text.
 ghost use Rattle.std.specs.Prelude.{◌≡◌, ◌+◌, ◌≤◌, length, true, Contains, IfSome, MatchOption, option_map};
 ghost use Rattle.byte_text.specs.Cuts.{IsCutAt};
 ghost use Rattle.mc_text.specs.Request.{view, request_of, spelling_of};

@@ -1,4 +1,4 @@
-// The keys of a retrieval line.
+//! The keys of a retrieval line.
 ghost use Rattle.std.specs.Prelude.{◌≡◌, [], ◌∷◌, MatchOption};
 ghost use Rattle.byte_text.specs.Words.{words_left};
 ghost use Rattle.mc_text.specs.Keys.{keys_left};

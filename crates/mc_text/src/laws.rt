@@ -1,4 +1,4 @@
-// Laws of the definitions: each function has an empty body, and its contract is the law.
+//! Laws of the definitions: each function has an empty body, and its contract is the law.
 ghost use Rattle.mc_text.specs.Laws.{AtMostOneCommand, EachSectionIsRead, OneReading};
 
 /// At most one whole command, of one length, begins a text.

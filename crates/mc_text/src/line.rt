@@ -1,4 +1,4 @@
-// What a line says.
+//! What a line says.
 ghost use Rattle.std.specs.Prelude.{◌≡◌, IfOk};
 ghost use Rattle.byte_text.specs.Words.{words_left};
 ghost use Rattle.mc_text.specs.Line.{without_return, words_of_line, said_by, line_of};

@@ -1,4 +1,4 @@
-// The rows of the table of commands.
+//! The rows of the table of commands.
 ghost use Rattle.std.specs.Prelude.{◌≡◌};
 ghost use Rattle.std.specs.Str.{bytes_eq};
 ghost use Rattle.mc_text.specs.Line.{row_of};

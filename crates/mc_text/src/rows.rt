@@ -1,4 +1,4 @@
-// What the words behind a command's name say, row by row of the table of commands.
+//! What the words behind a command's name say, row by row of the table of commands.
 ghost use Rattle.std.specs.Prelude.{◌≡◌, ℕ, List, [], ◌∷◌, IfOk, MatchResult};
 ghost use Rattle.byte_text.specs.Words.{words_left};
 ghost use Rattle.mc_text.specs.declared.command.LineFault.TheVariants.{Unknown};

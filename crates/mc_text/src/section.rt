@@ -1,4 +1,4 @@
-// What is said of a whole section.
+//! What is said of a whole section.
 ghost use Rattle.std.specs.Prelude.{◌≡◌, ◌<◌, ◌≤◌, ◌^◌, ℕ, List, length};
 ghost use Rattle.mc_text.specs.Request.{WholeCommand};
 ghost use Rattle.mc_text.specs.Section.{Spelled};

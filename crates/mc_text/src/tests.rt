@@ -1,4 +1,4 @@
-// Examples from outside the definitions, by memcached's protocol.txt and this project's profile.
+//! Examples from outside the definitions, by memcached's protocol.txt and this project's profile.
 use crate::{Command, Commands, LineFault, Tally, count};
 use std::process::Abort;
 use std::test::Fail;

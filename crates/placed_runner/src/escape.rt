@@ -1,4 +1,4 @@
-// How bytes are printed between quotes.
+//! How bytes are printed between quotes.
 ghost use Rattle.std.specs.Prelude.{◌≡◌, ◌++◌, ◌&&◌, not, ◌==◌, nat_lt, ◌<◌, ◌≤◌, true, codes, drop, length, take};
 ghost use Rattle.std.specs.Prelude.{IfOk, IfSome, MatchOption, OnOk};
 ghost use Rattle.placed_runner.specs.Text.{escaped, escaped_byte};

@@ -1,4 +1,4 @@
-// Why an input is refused.
+//! Why an input is refused.
 ghost use Rattle.std.specs.Prelude.{◌≡◌};
 ghost use Rattle.placed_runner.specs.declared.fault.SectionFault.TheVariants as faults;
 

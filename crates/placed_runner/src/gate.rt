@@ -1,4 +1,4 @@
-// Who is told how callers come to hold a lock.
+//! Who is told how callers come to hold a lock.
 
 /// Is told when a caller is queued for the lock and when it holds it, by the caller itself. Tests have callers wait there; the
 /// program's callers go through `OpenGate`. A run on threads asks that its gate is `Sync`, since all callers share it.

@@ -1,4 +1,4 @@
-// The head of a section: `worker <place> <length>`, with single spaces.
+//! The head of a section: `worker <place> <length>`, with single spaces.
 ghost use Rattle.std.specs.Prelude.{◌≡◌, option_map};
 ghost use Rattle.placed_runner.specs.Heads.{head_of, length_of};
 ghost use Rattle.placed_runner.specs.Views.{head_view};

@@ -1,4 +1,4 @@
-// Laws of the definitions: each function has an empty body, and its contract is the law.
+//! Laws of the definitions: each function has an empty body, and its contract is the law.
 ghost use Rattle.placed_runner.specs.Laws.{OneApplies, OneHistory, OneReading, OneRefusal, NotBoth};
 
 /// To each input applies exactly one of the two: it is some sections, of which one list fits, or it is refused, in one way.

@@ -1,4 +1,4 @@
-// The lines of a printed run.
+//! The lines of a printed run.
 ghost use Rattle.std.specs.Prelude.{◌≡◌, ◌+◌, ◌/◌, ◌<◌, ◌++◌, ◌∷◌, [], OnOk, Some, codes, decimal, map, slice_get};
 ghost use Rattle.placed_runner.specs.Text.{labelled, level_numbers, line_front, line_behind, turn_line, caller_line, pu_of};
 ghost use Rattle.placed_runner.specs.Views.{section_view, line_view};

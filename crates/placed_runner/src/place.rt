@@ -1,4 +1,4 @@
-// Where callers stand.
+//! Where callers stand.
 ghost use Rattle.std.specs.Prelude.{◌≡◌, ◌<◌, ◌≤◌, [], ◌∷◌, Some, None, IfOk, IfErr, length};
 ghost use Rattle.calc_query.specs.declared.query.Op.TheVariants as ops;
 ghost use Rattle.calc_query.specs.declared.query.Numbering.TheVariants as numberings;

@@ -1,4 +1,4 @@
-// The printed text of a run.
+//! The printed text of a run.
 ghost use Rattle.std.specs.Prelude.{◌≡◌, ◌<◌, ◌/◌, ◌%◌, ◌++◌, IfOk, OnOk, length, map, slice_get, Some};
 ghost use Rattle.keep_local.specs.States.{callers_in};
 ghost use Rattle.kv_history.specs.Log.{NoneVoid, calls};

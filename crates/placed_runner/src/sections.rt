@@ -1,4 +1,4 @@
-// The sections of the input: each is a head on a line of its own, as many bytes as it tells, and a line end.
+//! The sections of the input: each is a head on a line of its own, as many bytes as it tells, and a line end.
 ghost use Rattle.std.specs.Prelude.{◌≡◌, ◌≤◌, ◌<◌, ◌++◌, ◌∷◌, [], List, ℕ, MatchOption, IfOk, IfErr, length, map, vec_len, sum_by};
 ghost use Rattle.std.specs.List.{enumerate_from};
 ghost use Rattle.out_of_memory.specs.Memory.{UnlessMemory};

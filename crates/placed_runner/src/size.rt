@@ -1,5 +1,5 @@
-// How many bytes the printed text of a run has, so that its buffer is made once, of that size. These numbers are hints: they are
-// exact where each caller has given all its commands, and where one were too small, the buffer would grow.
+//! How many bytes the printed text of a run has, so that its buffer is made once, of that size. These numbers are hints: they are
+//! exact where each caller has given all its commands, and where one were too small, the buffer would grow.
 ghost use Rattle.std.specs.Prelude.{◌≡◌, ◌<◌, length, map};
 
 use crate::sections::Section;

@@ -1,4 +1,4 @@
-// Sections that are made, and not read: their callers are spread over the topology.
+//! Sections that are made, and not read: their callers are spread over the topology.
 ghost use Rattle.std.specs.Prelude.{◌≡◌, ◌≤◌, length, map, IfOk};
 ghost use Rattle.placed_runner.specs.Sections.{anywhere, caller_limit, placed};
 ghost use Rattle.placed_runner.specs.Views.{section_view, written_view};

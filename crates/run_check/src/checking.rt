@@ -1,4 +1,4 @@
-// The check of a printed text.
+//! The check of a printed text.
 
 ghost use Rattle.std.specs.Prelude.{◌≡◌, ◌+◌, ◌<◌, ◌≤◌, ◌^◌, length, map, sum_by, IfOk};
 ghost use Rattle.keep_local.specs.Shapes.{top_of};

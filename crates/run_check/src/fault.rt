@@ -1,4 +1,4 @@
-// Why an input and a printed text can't be told apart.
+//! Why an input and a printed text can't be told apart.
 
 use thiserror::Error;
 

@@ -1,4 +1,4 @@
-// An input and the printed text behind it: a head on a line of its own, as many bytes as it tells, a line end, and the text to the end.
+//! An input and the printed text behind it: a head on a line of its own, as many bytes as it tells, a line end, and the text to the end.
 
 ghost use Rattle.std.specs.Prelude.{◌≡◌, ◌++◌, ◌∷◌, List, ℕ, length, MatchOption, IfOk, IfErr};
 ghost use Rattle.run_check.specs.Pairs.{ArePair, IsRefused, length_of, size_of};

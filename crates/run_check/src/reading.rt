@@ -1,4 +1,4 @@
-// Who held the lock by the line of a turn, and what it saw.
+//! Who held the lock by the line of a turn, and what it saw.
 
 ghost use Rattle.std.specs.Prelude.{◌≡◌, option_map};
 ghost use Rattle.byte_text.specs.Views.{text_at, texts};

@@ -1,4 +1,4 @@
-// The replay of the callers' commands by the journal's store.
+//! The replay of the callers' commands by the journal's store.
 
 ghost use Rattle.std.specs.Prelude.{◌≡◌, ◌<◌, ◌^◌, ◌↔◌, [], length, map, sum_by, IfOk, IsTrue};
 ghost use Rattle.kv_history.specs.Log.{EachHasSection, EachOwnFirst, IsOneThread, NoneVoid};

@@ -1,4 +1,4 @@
-// A run under way, as its lines tell it.
+//! A run under way, as its lines tell it.
 
 ghost use Rattle.std.specs.Prelude.{◌≡◌, ℕ, ◌+◌, ◌-◌, ◌<◌, ◌≤◌, ◌^◌, ◌↔◌, List, [], ◌++◌, length, map, slice_get, sum_by};
 ghost use Rattle.std.specs.Prelude.{IfOk, IsTrue, MatchOption, OnOk, Some};

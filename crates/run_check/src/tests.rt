@@ -1,4 +1,4 @@
-// Texts with their verdicts, worked out by hand.
+//! Texts with their verdicts, worked out by hand.
 ghost use Rattle.std.specs.Prelude.{◌<◌, ◌≤◌, ◌^◌, length, sum_by};
 ghost use Rattle.std.specs.Bool.{OnTrue};
 ghost use Rattle.keep_local.specs.Shapes.{top_of};

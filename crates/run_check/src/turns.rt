@@ -1,4 +1,4 @@
-// The turns of the lines so far, and which one may come next.
+//! The turns of the lines so far, and which one may come next.
 
 ghost use Rattle.std.specs.Prelude.{◌≡◌, ℕ, ◌+◌, ◌<◌, ◌≤◌, ◌^◌, ◌↔◌, [], ◌∷◌, ◌++◌, length, slice_index, IfSome, IsTrue, MatchOption, OnOk};
 ghost use Rattle.std.specs.Int.{bit_at};

@@ -1,4 +1,4 @@
-// What is said of a printed text.
+//! What is said of a printed text.
 
 /// Whether a text is the printed text of a run.
 #[derive(Clone, Copy, Debug, PartialEq, Eq)]

@@ -1,4 +1,4 @@
-// Sections, places and the printed text, by hand.
+//! Sections, places and the printed text, by hand.
 ghost use Rattle.std.specs.Prelude.{◌≡◌, ◌<◌, ◌^◌, ◌++◌, ◌∷◌, [], length, OnOk};
 ghost use Rattle.mc_text.specs.Commands.{commands_left};
 ghost use Rattle.kv_history.specs.Log.{calls};

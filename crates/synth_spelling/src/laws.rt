@@ -1,4 +1,4 @@
-// Laws of spellings: each is the contract of a function that does nothing.
+//! Laws of spellings: each is the contract of a function that does nothing.
 ghost use Rattle.synth_spelling.specs.Spelling.{SizesAreSpelled, IndexesAreSpelled, AttributesAreSpelled};
 ghost use Rattle.synth_spelling.specs.Spelling.{LevelItemsAreSpelled, MemoryItemsAreSpelled, DescriptionsAreSpelled};
 ghost use Rattle.synth_spelling.specs.Refused.{RefusalsAreSpelled};

@@ -1,4 +1,4 @@
-// Attributes of an item.
+//! Attributes of an item.
 ghost use Rattle.std.specs.Prelude.{◌≡◌, ◌==◌, ◌&&◌, ℕ, false, true, List, Result};
 ghost use Rattle.synth_text.specs.Flaws.{Gives, seen};
 ghost use Rattle.synth_text.specs.Attributes.{key_of, takes, has, is_empty, no_attributes, entry_in, flaw_in_value, flaw_in_word};

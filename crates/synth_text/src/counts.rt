@@ -1,4 +1,4 @@
-// How many objects a description has.
+//! How many objects a description has.
 ghost use Rattle.std.specs.Prelude.{◌≡◌, ◌+◌, ◌*◌, ◌<◌, ◌≤◌, length, MatchOption};
 ghost use Rattle.std.specs.List.{AllByRecursion};
 ghost use Rattle.synth_text.specs.Limits.{level_limit, pu_limit};

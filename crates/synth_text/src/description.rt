@@ -1,4 +1,4 @@
-// What a text describes.
+//! What a text describes.
 
 use crate::kind::Kind;
 use sequence::Sequence;

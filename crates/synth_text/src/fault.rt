@@ -1,4 +1,4 @@
-// Why a text describes nothing.
+//! Why a text describes nothing.
 
 ghost use Rattle.std.specs.Prelude.{◌≡◌};
 ghost use Rattle.synth_text.specs.declared.fault.SynthFault.TheVariants as faults;

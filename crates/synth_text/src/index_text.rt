@@ -1,4 +1,4 @@
-// Values of `indexes`.
+//! Values of `indexes`.
 ghost use Rattle.std.specs.Prelude.{◌≡◌, ◌==◌, ℕ, List, Option, option_map};
 ghost use Rattle.std.specs.List.{slice_split};
 ghost use Rattle.synth_text.specs.declared.description.Indexes.TheVariants as indexes;

@@ -1,4 +1,4 @@
-// Cutting a text into items.
+//! Cutting a text into items.
 ghost use Rattle.std.specs.Prelude.{◌≡◌, ◌≢◌, ◌↔◌, ℕ, ◌+◌, ◌<◌, ◌≤◌, true, false, length, slice_index, IsTrue, IfOk, MatchOption};
 ghost use Rattle.byte_text.specs.Classes.{is_white};
 ghost use Rattle.synth_text.specs.Items.{IsGap, IsInside, EndsLevel, IsLevelItem, IsMemoryItem, IsItem, AreItems};

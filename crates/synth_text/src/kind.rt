@@ -1,4 +1,4 @@
-// The kinds of objects, and how they are named.
+//! The kinds of objects, and how they are named.
 
 /// The kind of an object of a topology.
 #[derive(Clone, Copy, Debug, PartialEq, Eq)]

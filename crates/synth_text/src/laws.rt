@@ -1,4 +1,4 @@
-// Laws of descriptions and their texts: each is the contract of a function that does nothing.
+//! Laws of descriptions and their texts: each is the contract of a function that does nothing.
 ghost use Rattle.synth_text.specs.Laws.{
   CanonicalDescribes,
   DescribedIsSound,

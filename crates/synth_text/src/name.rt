@@ -1,4 +1,4 @@
-// Names of kinds, as descriptions, queries and plans write them.
+//! Names of kinds, as descriptions, queries and plans write them.
 ghost use Rattle.std.specs.Prelude.{◌≡◌, ◌<◌, drop};
 ghost use Rattle.synth_text.specs.Names.{name_of, kind_named, group_numbered};
 

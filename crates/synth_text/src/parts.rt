@@ -1,4 +1,4 @@
-// Reading one item.
+//! Reading one item.
 ghost use Rattle.std.specs.Prelude.{◌≡◌, ◌<◌, length};
 ghost use Rattle.synth_text.specs.Names.{name_of};
 ghost use Rattle.synth_text.specs.Flaws.{Gives, seen};

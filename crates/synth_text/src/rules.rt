@@ -1,4 +1,4 @@
-// The rules on all items of a text together.
+//! The rules on all items of a text together.
 ghost use Rattle.std.specs.Prelude.{◌≡◌, ◌≤◌, [], length, IfOk};
 ghost use Rattle.std.specs.List.{AllByRecursion, list_any};
 ghost use Rattle.synth_text.specs.Flaws.{Gives};

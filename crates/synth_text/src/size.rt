@@ -1,4 +1,4 @@
-// Sizes in bytes.
+//! Sizes in bytes.
 ghost use Rattle.std.specs.Prelude.{◌≡◌};
 ghost use Rattle.synth_text.specs.Sizes.{size_of};
 

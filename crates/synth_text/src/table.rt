@@ -1,4 +1,4 @@
-// Tables of names, which are found without regard to the case of letters.
+//! Tables of names, which are found without regard to the case of letters.
 ghost use Rattle.std.specs.Prelude.{◌≡◌, map};
 ghost use Rattle.std.specs.Str.{str_eq_ignore_ascii_case};
 ghost use Rattle.synth_text.specs.Tables.{entry_of, rows};

@@ -1,4 +1,4 @@
-// Writing the canonical text.
+//! Writing the canonical text.
 ghost use Rattle.std.specs.Prelude.{◌≡◌, ◌++◌, ◌∷◌, ℕ, List, map, decimal, OnOk, IfOk};
 ghost use Rattle.std.specs.List.{join_with_byte};
 ghost use Rattle.synth_text.specs.Canonical.{

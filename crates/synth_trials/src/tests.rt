@@ -1,4 +1,4 @@
-// Descriptions from outside the definitions: what each text describes, or why it describes nothing.
+//! Descriptions from outside the definitions: what each text describes, or why it describes nothing.
 use std::alloc::Global;
 use std::process::Abort;
 use std::test::Fail;

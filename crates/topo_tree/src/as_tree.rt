@@ -1,4 +1,4 @@
-// What has a tree.
+//! What has a tree.
 ghost use Rattle.std.specs.Prelude.{◌≡◌};
 ghost use Rattle.synth_text.specs.declared.description.Description.{Description as Described};
 

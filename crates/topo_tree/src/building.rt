@@ -1,4 +1,4 @@
-// The physical numbers of a description's objects.
+//! The physical numbers of a description's objects.
 ghost use Rattle.std.specs.Prelude.{◌≡◌, Some, None, IfOk, OnOk, IfErr};
 ghost use Rattle.out_of_memory.specs.Memory.{UnlessMemory};
 ghost use Rattle.synth_text.specs.Rules.{pu_count, node_count};

@@ -1,4 +1,4 @@
-// How many objects there are.
+//! How many objects there are.
 ghost use Rattle.std.specs.Prelude.{◌≡◌, ◌≤◌, length, take, IfOk};
 ghost use Rattle.std.specs.List.{AllByRecursion};
 ghost use Rattle.synth_text.specs.Limits.{pu_limit};

@@ -1,4 +1,4 @@
-// Why a description is not built.
+//! Why a description is not built.
 
 ghost use Rattle.std.specs.Prelude.{◌≡◌};
 ghost use Rattle.topo_tree.specs.declared.fault.BuildFault.TheVariants as faults;

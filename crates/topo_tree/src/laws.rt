@@ -1,4 +1,4 @@
-// Laws of the objects of a topology. Each function does nothing: its contract is the law.
+//! Laws of the objects of a topology. Each function does nothing: its contract is the law.
 ghost use Rattle.topo_tree.specs.Laws.{
   ChildrenHaveTheirParent,
   NumbersNameTheirPus,

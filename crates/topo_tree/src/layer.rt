@@ -1,4 +1,4 @@
-// How objects are named.
+//! How objects are named.
 
 /// A layer of objects.
 #[derive(Clone, Copy, Debug, PartialEq, Eq)]

@@ -1,4 +1,4 @@
-// Parts of a printed line.
+//! Parts of a printed line.
 ghost use Rattle.std.specs.Prelude.{◌≡◌, ◌++◌, ◌∷◌, ◌*◌, [], codes, decimal, replicate, OnOk};
 ghost use Rattle.topo_tree.specs.Lines.{short_name, detail, node_detail};
 

@@ -1,4 +1,4 @@
-// The objects above and below an object, and the PU that has a number.
+//! The objects above and below an object, and the PU that has a number.
 ghost use Rattle.std.specs.Prelude.{◌≡◌, ◌<◌, ◌==◌, position, IfSome};
 ghost use Rattle.topo_tree.specs.Objects.{depth_count, arity_at, carrier_of, IsObject, parent_of, children_of};
 ghost use Rattle.topo_tree.specs.Building.{IsBuilt};

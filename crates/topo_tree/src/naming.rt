@@ -1,4 +1,4 @@
-// Which layer a word names.
+//! Which layer a word names.
 ghost use Rattle.std.specs.Prelude.{◌≡◌, ◌<◌, slice_get, option_map, IfSome};
 ghost use Rattle.topo_tree.specs.declared.layer.Layer.TheVariants as layers;
 ghost use Rattle.topo_tree.specs.Objects.{depth_count, IsLayer};

@@ -1,4 +1,4 @@
-// Physical numbers.
+//! Physical numbers.
 ghost use Rattle.std.specs.Prelude.{◌≡◌, ◌<◌, ◌≤◌, ◌-◌, ◌^◌, ℕ, Some, None, length, min, IfOk, OnOk, IfErr};
 ghost use Rattle.std.specs.List.{AllByRecursion};
 ghost use Rattle.out_of_memory.specs.Memory.{UnlessMemory};

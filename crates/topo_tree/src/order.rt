@@ -1,4 +1,4 @@
-// The objects of a tree, in tree order.
+//! The objects of a tree, in tree order.
 ghost use Rattle.std.specs.Prelude.{◌≡◌, ◌<◌, ◌++◌, length, All, IfOk, OnOk};
 ghost use Rattle.synth_text.specs.Rules.{pu_count};
 ghost use Rattle.topo_tree.specs.declared.layer.Layer.TheVariants as layers;

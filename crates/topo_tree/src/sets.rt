@@ -1,4 +1,4 @@
-// The sets of objects.
+//! The sets of objects.
 ghost use Rattle.std.specs.Prelude.{◌≡◌, ◌<◌, ◌≤◌, ◌+◌, ◌*◌, ◌/◌, ℕ, length, map, All, IfOk};
 ghost use Rattle.std.specs.List.{AllByRecursion};
 ghost use Rattle.cpu_set.specs.Sets.{set_limit, has, numbers_where};

@@ -1,4 +1,4 @@
-// The two texts of a tree.
+//! The two texts of a tree.
 ghost use Rattle.std.specs.Prelude.{◌≡◌, ◌<◌, ◌+◌, ◌++◌, ◌∷◌, [], None, length, slice_index_or, IfOk, OnOk};
 ghost use Rattle.synth_text.specs.Canonical.{canonical};
 ghost use Rattle.synth_text.specs.Kinds.{short_name_of};

@@ -1,4 +1,4 @@
-// Sizes, printed.
+//! Sizes, printed.
 ghost use Rattle.std.specs.Prelude.{◌≡◌, ◌<◌, ◌++◌, OnOk};
 ghost use Rattle.topo_tree.specs.Sizes.{unit_of, size_text};
 

@@ -1,4 +1,4 @@
-// A topology and its look-ups.
+//! A topology and its look-ups.
 ghost use Rattle.std.specs.Prelude.{◌≡◌, ◌<◌, ◌≤◌, ◌++◌, ◌∷◌, [], All, Some, None, IfOk, OnOk, IfErr, IfSome};
 ghost use Rattle.synth_text.specs.Canonical.{canonical};
 ghost use Rattle.out_of_memory.specs.Memory.{UnlessMemory};

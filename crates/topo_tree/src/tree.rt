@@ -1,4 +1,4 @@
-// The tree of a description, without a table of the sets of its objects.
+//! The tree of a description, without a table of the sets of its objects.
 ghost use Rattle.std.specs.Prelude.{◌≡◌, ◌<◌, ◌≤◌, Some, None, IfOk, OnOk, IfErr};
 ghost use Rattle.out_of_memory.specs.Memory.{UnlessMemory};
 ghost use Rattle.synth_text.specs.Limits.{pu_limit};

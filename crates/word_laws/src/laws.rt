@@ -1,4 +1,4 @@
-// Laws of words: each is the contract of a function that does nothing.
+//! Laws of words: each is the contract of a function that does nothing.
 ghost use Rattle.word_laws.specs.Laws.{CommandsAreSingle, OptionsTakeValues, PlainWordsStandInOrder, ValuesStandBehindEquals};
 ghost use Rattle.word_laws.specs.Laws.{WordsBehindDashesGoInTurn, WordsBehindDashesJoinPlain, WordsBehindDashesStandInOrder};
 

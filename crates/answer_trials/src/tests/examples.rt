@@ -1,4 +1,4 @@
-// Worked examples of the commands that read no input.
+//! Worked examples of the commands that read no input.
 use super::answers;
 use std::test::Fail;
 

@@ -1,4 +1,4 @@
-// Texts at the limits, compared by their length and checksum, which bench/limit_texts.py worked out from their definitions.
+//! Texts at the limits, compared by their length and checksum, which bench/limit_texts.py worked out from their definitions.
 use super::{Ended, call, listed};
 use std::alloc::Global;
 use std::process::Abort;

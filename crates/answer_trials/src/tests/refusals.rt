@@ -1,4 +1,4 @@
-// Worked examples of refusals: the exit code, the line on standard error, and that nothing is printed.
+//! Worked examples of refusals: the exit code, the line on standard error, and that nothing is printed.
 use super::{call, listed};
 use std::alloc::Global;
 use std::process::Abort;

@@ -1,4 +1,4 @@
-// Answers at sizes that no limit gives.
+//! Answers at sizes that no limit gives.
 use super::answers;
 use std::test::Fail;
 

@@ -1,4 +1,4 @@
-// The process over sources and sinks in memory.
+//! The process over sources and sinks in memory.
 use super::Process;
 use crate::{Fault, Status};
 use edge_io::{MemSink, MemSource, Sink, Source, SureSink, SureSource};

@@ -1,4 +1,4 @@
-// Checks of printed runs: the verdict on a text, and how what was read is refused.
+//! Checks of printed runs: the verdict on a text, and how what was read is refused.
 use super::{call_with, ends, owned, prints};
 use clof_tool::{Fault, Status, top};
 use edge_io::{MemSource, SureSink, SureSource};

@@ -1,4 +1,4 @@
-// Runs whose callers share threads.
+//! Runs whose callers share threads.
 use super::threads::Meeting;
 use super::{Counter, call_with, count_of, ends, prints};
 use clof_tool::Status;

@@ -1,4 +1,4 @@
-// The drill.
+//! The drill.
 use super::{Counter, call_with};
 use clof_tool::Status;
 use std::test::Fail;

@@ -1,4 +1,4 @@
-// Streams that fail, and inputs that are cut.
+//! Streams that fail, and inputs that are cut.
 ghost use Rattle.std.specs.Prelude.{◌≤◌};
 
 use super::owned;

@@ -1,4 +1,4 @@
-// Plans: how they are refused, and runs of one caller and of none.
+//! Plans: how they are refused, and runs of one caller and of none.
 use super::{ends, prints};
 use clof_tool::{Fault, Status};
 use lock_plan::PlanFault;

@@ -1,4 +1,4 @@
-// Runs whose callers keep receipts of their turns.
+//! Runs whose callers keep receipts of their turns.
 use super::checks::{counting, says};
 use super::threads::Meeting;
 use super::{call_with, ends, prints};

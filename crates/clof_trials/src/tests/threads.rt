@@ -1,4 +1,4 @@
-// Runs on threads under the lock of a plan.
+//! Runs on threads under the lock of a plan.
 use super::{Counter, call_with, count_of};
 use clof_tool::Status;
 use crossbeam_utils::Backoff;

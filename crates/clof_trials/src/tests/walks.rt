@@ -1,4 +1,4 @@
-// Walks: the turns of callers on one thread, in their order, as they were worked out by hand.
+//! Walks: the turns of callers on one thread, in their order, as they were worked out by hand.
 use super::{Counter, call_with, prints};
 use clof_tool::Status;
 use std::alloc::Global;

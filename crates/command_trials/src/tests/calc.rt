@@ -1,4 +1,4 @@
-// What `calc` prints. Answers in tables are those of hwloc-calc 2.9.
+//! What `calc` prints. Answers in tables are those of hwloc-calc 2.9.
 use super::{answered, prints, text};
 use command_texts::{Status, line};
 use std::alloc::Global;

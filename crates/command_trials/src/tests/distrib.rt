@@ -1,4 +1,4 @@
-// What `distrib` prints, and how its words are read.
+//! What `distrib` prints, and how its words are read.
 use super::{answered, prints, text};
 use byte_text::number32;
 use command_texts::{Status, line};

@@ -1,4 +1,4 @@
-// What `calc` prints with every choice of options that go together. The answers are those of hwloc-calc 2.9.
+//! What `calc` prints with every choice of options that go together. The answers are those of hwloc-calc 2.9.
 use super::calc::answers;
 use std::alloc::Global;
 use std::process::Abort;

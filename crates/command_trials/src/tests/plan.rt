@@ -1,4 +1,4 @@
-// The plans of the locks of `run`, and how their texts are refused.
+//! The plans of the locks of `run`, and how their texts are refused.
 use super::distrib::{listed, refuses};
 use command_texts::topology::tree;
 use command_texts::{Status, read_plan};

@@ -1,4 +1,4 @@
-// What `set` prints, and long texts.
+//! What `set` prints, and long texts.
 use super::{prints, text};
 use command_texts::{Fault, Status};
 use cpu_set::SetFault;

@@ -1,4 +1,4 @@
-// What `topo` prints, and how descriptions are refused.
+//! What `topo` prints, and how descriptions are refused.
 use super::{prints, text};
 use command_texts::{Fault, Status};
 use std::test::Fail;

@@ -1,4 +1,4 @@
-// Items that expire by the moment. Worked out by hand from the protocol's expiry times and this project's profile.
+//! Items that expire by the moment. Worked out by hand from the protocol's expiry times and this project's profile.
 use crate::tests::is_answered;
 use out_of_memory::OutOfMemory;
 use std::alloc::Global;

@@ -1,4 +1,4 @@
-// `select`, by the top call over sources and sinks in memory.
+//! `select`, by the top call over sources and sinks in memory.
 use clof_tool::{Fault, Status, top};
 use edge_io::{MemSource, Source, SureSink, SureSource};
 use lock_select::SelectFault;

@@ -1,5 +1,5 @@
-// Lines and blocks with what memcached's protocol.txt and this project's profile make of them. `bench/memcached_lines.py` asks
-// memcached itself about each, and docs/DECISIONS.md names those that it answers otherwise.
+//! Lines and blocks with what memcached's protocol.txt and this project's profile make of them. `bench/memcached_lines.py` asks
+//! memcached itself about each, and docs/MEMCACHED.md names those that it answers otherwise.
 use crate::LineFault::{Chunk, Delta, Format, Unknown};
 use crate::tests::First::{Bad, Good};
 use crate::tests::{First, agree};
@@ -74,7 +74,7 @@ const STORAGE: [(&[u8], First); 65] = [
 ];
 
 // Lines of `cas`.
-const CAS: [(&[u8], First); 14] = [
+const CAS: [(&[u8], First); 16] = [
     (b"cas k 0 0 1 18446744073709551615\r\nx\r\n", Good),
     (b"cas k 0 0 1 007 noreply\r\nx\r\n", Good),
     (b"cas\r\n", Bad(Unknown)),
@@ -89,14 +89,17 @@ const CAS: [(&[u8], First); 14] = [
     (b"cas k 0 0 1 18446744073709551616\r\n", Bad(Format)),
     (b"cas k 0 0 1 noreply\r\n", Bad(Format)),
     (b"cas k 0 0 1 -1\r\n", Bad(Format)),
+    (b"cas k 0 0 1 +1\r\n", Bad(Format)),
+    (b"cas k 0 0 1 -0\r\n", Bad(Format)),
 ];
 
 // Numbers at their limits, with leading zeros and signs.
-const NUMBERS: [(&[u8], First); 27] = [
+const NUMBERS: [(&[u8], First); 31] = [
     (b"set k 0004294967295 0 1\r\nx\r\n", Good),
     (b"set k 4294967296 0 1\r\n", Bad(Format)),
     (b"set k -1 0 1\r\n", Bad(Format)),
     (b"set k +1 0 1\r\n", Bad(Format)),
+    (b"set k -0 0 1\r\n", Bad(Format)),
     (b"set k 0 2147483647 1\r\nx\r\n", Good),
     (b"set k 0 2147483648 1\r\n", Bad(Format)),
     (b"set k 0 -2147483649 1\r\n", Bad(Format)),
@@ -109,6 +112,9 @@ const NUMBERS: [(&[u8], First); 27] = [
     (b"set k 0 0 4294967296\r\n", Bad(Format)),
     (b"set k 0 0 18446744073709551617\r\n", Bad(Format)),
     (b"set k 0 0 -1\r\n", Bad(Format)),
+    (b"set k 0 0 -0\r\n", Bad(Format)),
+    (b"set k 0 0 +1\r\n", Bad(Format)),
+    (b"set k 0 0 4294967297\r\n", Bad(Format)),
     (b"set k 0 0 1x\r\n", Bad(Format)),
     (b"incr k 18446744073709551615\r\n", Good),
     (b"incr k 00018446744073709551615\r\n", Good),
@@ -138,12 +144,13 @@ const RETRIEVAL: [(&[u8], First); 11] = [
 ];
 
 // Lines of one key.
-const ONE_KEY: [(&[u8], First); 43] = [
+const ONE_KEY: [(&[u8], First); 45] = [
     (b"delete k\r\n", Good),
     (b"delete k noreply\r\n", Good),
     (b"delete noreply\r\n", Good),
     (b"delete\r\n", Bad(Unknown)),
     (b"delete k 0\r\n", Bad(Unknown)),
+    (b"delete k 0 noreply\r\n", Bad(Unknown)),
     (b"delete k noreply noreply\r\n", Bad(Unknown)),
     (b"delete k\x7f\r\n", Bad(Format)),
     (b"delete k\x7f quiet\r\n", Bad(Unknown)),
@@ -159,6 +166,7 @@ const ONE_KEY: [(&[u8], First); 43] = [
     (b"incr k noreply\r\n", Bad(Delta)),
     (b"incr k -1\r\n", Bad(Delta)),
     (b"incr k +1\r\n", Bad(Delta)),
+    (b"incr k -0\r\n", Bad(Delta)),
     (b"incr k x quiet\r\n", Bad(Unknown)),
     (b"decr k 1\r\n", Good),
     (b"decr k 1 noreply\r\n", Good),
@@ -185,7 +193,7 @@ const ONE_KEY: [(&[u8], First); 43] = [
 ];
 
 // Lines without a key, and lines that no row of the table names.
-const OTHER: [(&[u8], First); 35] = [
+const OTHER: [(&[u8], First); 44] = [
     (b"flush_all\r\n", Good),
     (b"flush_all 0\r\n", Good),
     (b"flush_all noreply\r\n", Good),
@@ -220,6 +228,15 @@ const OTHER: [(&[u8], First); 35] = [
     (b"sets k 0 0 1\r\n", Bad(Unknown)),
     (b"se k 0 0 1\r\n", Bad(Unknown)),
     (b"frob\r\n", Bad(Unknown)),
+    (b"gat 0 k\r\n", Bad(Unknown)),
+    (b"gats 0 k\r\n", Bad(Unknown)),
+    (b"stats\r\n", Bad(Unknown)),
+    (b"stats items\r\n", Bad(Unknown)),
+    (b"mg k\r\n", Bad(Unknown)),
+    (b"mn\r\n", Bad(Unknown)),
+    (b"lru mode flat\r\n", Bad(Unknown)),
+    (b"cache_memlimit 100\r\n", Bad(Unknown)),
+    (b"shutdown\r\n", Bad(Unknown)),
     (b"set\x09 k 0 0 1\r\n", Bad(Unknown)),
 ];
 

@@ -1,4 +1,4 @@
-// What is answered of sets. A line of a table has what is asked, words, and behind a `=` the answer.
+//! What is answered of sets. A line of a table has what is asked, words, and behind a `=` the answer.
 use super::*;
 use byte_text::push_decimal;
 

@@ -1,5 +1,5 @@
-// Why words are refused. A line of a table has a word and, behind a `=`, the offset of the bad location, or `type` where a
-// name names no layer.
+//! Why words are refused. A line of a table has a word and, behind a `=`, the offset of the bad location, or `type` where a
+//! name names no layer.
 use super::*;
 
 const WORD: u32 = 7;

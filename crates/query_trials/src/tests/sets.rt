@@ -1,5 +1,5 @@
-// What words select. Where no difference is listed, the sets are those of hwloc-calc 2.9. A line of a table has words and,
-// behind a `=`, their set in hexadecimal.
+//! What words select. Where no difference is listed, the sets are those of hwloc-calc 2.9. A line of a table has words and,
+//! behind a `=`, their set in hexadecimal.
 use super::*;
 
 fn check_sets(

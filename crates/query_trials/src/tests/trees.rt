@@ -1,4 +1,4 @@
-// A tree is asked as a topology is.
+//! A tree is asked as a topology is.
 use super::*;
 use topo_tree::Tree;
 

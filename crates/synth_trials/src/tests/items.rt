@@ -1,4 +1,4 @@
-// Texts with one fault, in an item.
+//! Texts with one fault, in an item.
 use super::expect_refusals;
 use std::test::Fail;
 

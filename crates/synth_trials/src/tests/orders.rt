@@ -1,4 +1,4 @@
-// Texts with two faults: which one is told.
+//! Texts with two faults: which one is told.
 use super::expect_refusals;
 use std::test::Fail;
 

@@ -1,4 +1,4 @@
-// Texts and the canonical texts of what they describe.
+//! Texts and the canonical texts of what they describe.
 use super::expect_texts;
 use std::test::Fail;
 

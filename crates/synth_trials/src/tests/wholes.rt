@@ -1,4 +1,4 @@
-// Texts with one fault, in the whole.
+//! Texts with one fault, in the whole.
 use super::expect_refusals;
 use std::test::Fail;
 

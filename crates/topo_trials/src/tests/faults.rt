@@ -1,4 +1,4 @@
-// What is refused, and which of two faults is told.
+//! What is refused, and which of two faults is told.
 use super::*;
 
 fn miscounted(found: u32, wanted: u32) -> BuildFault {

@@ -1,4 +1,4 @@
-// Topologies at the limits, and a usual one.
+//! Topologies at the limits, and a usual one.
 use super::*;
 
 // Whether a text has so many lines, begins and ends so, and has no other length.

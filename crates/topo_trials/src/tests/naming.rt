@@ -1,4 +1,4 @@
-// Which layer a word names.
+//! Which layer a word names.
 use super::*;
 
 fn check_names(rt: &impl Abort, topology: &Topology, cases: &[(&[u8], Option<Layer>)]) {

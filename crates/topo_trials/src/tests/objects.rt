@@ -1,4 +1,4 @@
-// What is asked of single objects.
+//! What is asked of single objects.
 use super::*;
 
 const UNEVEN: &[u8] =

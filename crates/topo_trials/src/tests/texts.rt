@@ -1,4 +1,4 @@
-// The two texts of whole topologies.
+//! The two texts of whole topologies.
 use super::*;
 
 fn check_texts(
