@@ -12,3 +12,6 @@ pub mod Nodes
 pub mod Releases
 pub mod Reports
 pub mod Shares
+pub mod Names
+pub mod NameLaws
+pub mod Inside

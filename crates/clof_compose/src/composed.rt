@@ -8,6 +8,7 @@ ghost use Rattle.clof_compose.specs.Contexts.{Context};
 ghost use Rattle.clof_compose.specs.Courses.{course_of};
 ghost use Rattle.clof_compose.specs.Calls.{MayTurn, HasOpened, MayRelease, ClosesWith};
 ghost use Rattle.clof_compose.specs.Calls.{HasEntered, HasClimbed, HasBegunToLeave, HasDescended};
+ghost use Rattle.clof_compose.specs.Names.{Name, IsNamed};
 ghost use Rattle.clof_compose.specs.Passes.{AreAll};
 ghost use Rattle.clof_compose.specs.Roots.{root_tag, IsFit, IsKept};
 ghost use Rattle.clof_compose.specs.declared.root.Root.{Root as TheRoot};
@@ -22,8 +23,9 @@ use std::sync::Wait;
 /// A lock of one or more levels, whose holder reaches one root.
 ///
 /// `level` is the number of its lowest level, `tag` is the tag of its root, and `count` is the number of its contexts, each of which has
-/// one pass. `sound` says that the locks inside belong together, and `has` that a token of this lock may be of a context. A call that is
-/// handed a token asks for both, and gives a token of the same context. No call takes memory, and only `acquire` and `release` wait.
+/// one pass. `name` tells the lock from all others: it has the names of all basic locks inside. `sound` says that the locks inside belong
+/// together, and `has` that a token of this lock may be of a context. A call that is handed a token asks for both, and gives a token of the
+/// same context. No call takes memory, and only `acquire` and `release` wait.
 pub trait Composed<P: Payload>: Sized {
     type Pass: Resting;
 
@@ -32,6 +34,8 @@ pub trait Composed<P: Payload>: Sized {
     type Held: Standing<P>;
 
     type Leave: Descending;
+
+    ghost name: { Self → Name };
 
     ghost level: { Self → ℕ };
 
@@ -139,6 +143,9 @@ pub trait Composed<P: Payload>: Sized {
         requires all { AreAll (λ p. (Self.Pass.rest p).context) (has self) (level self) (tag self) (count self) passes.items }
         ensures fit { IsFit P.calls result }
         ensures tagged { root_tag P.tag result ≡ tag self };
+
+    // The basic lock that a token is of is the one that the lock's name has for its node.
+    ghost named: { (l : Self) (c : Context) → sound l → has l c → IsNamed (name l) c };
 
     /// The level at which a pass is queued.
     final fn waits_at(queue: &Self::Queue) -> u32

@@ -1,5 +1,7 @@
 //! A level of a composition.
-ghost use Rattle.std.specs.Prelude.{◌≡◌, vec_capacity, length};
+ghost use Rattle.std.specs.Prelude.{◌≡◌, vec_capacity, length, map};
+ghost use Rattle.clof_compose.specs.Names.{level_name};
+ghost use Rattle.clof_compose.specs.NameLaws.{level_named};
 ghost use Rattle.clof_compose.specs.Nodes.{IsLevel, IsOfLevel, locks_of};
 ghost use Rattle.clof_compose.specs.Levels.{level_context};
 ghost use Rattle.clof_compose.specs.Passes.{AreAll};
@@ -45,6 +47,8 @@ impl<
 
     type Leave = LevelLeave<P, B::Leave, H::Pass, H::Held, H::Leave>;
 
+    ghost name = { λ l. level_name l.level (map B.name (locks_of l.nodes.items)) (H.name l.high) };
+
     ghost level = { λ l. l.level };
 
     ghost tag = { λ l. H.tag l.high };
@@ -55,6 +59,8 @@ impl<
         (H.tag l.high) l.level l.keep l.parents.items l.nodes.items l.list.items (vec_capacity l.list) };
 
     ghost has = { λ l. IsOfLevel B.name B.tag l.level l.parents.items (locks_of l.nodes.items) };
+
+    ghost named = { λ l c sound own. level_named (H.name l.high) c sound own };
 
     fn begin(
         &self,

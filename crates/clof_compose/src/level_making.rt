@@ -1,10 +1,11 @@
 //! How a level is made over a high lock.
-ghost use Rattle.std.specs.Prelude.{◌≡◌, ◌+◌, ◌<◌, ◌≤◌, ◌^◌, ℕ, false, [], All, length, slice_get, Some, vec_capacity, IfOk, IfErr};
+ghost use Rattle.std.specs.Prelude.{◌≡◌, ◌+◌, ◌<◌, ◌≤◌, ◌^◌, ℕ, false, [], All, length, map, slice_get, Some, vec_capacity, IfOk, IfErr};
 ghost use Rattle.lock_rules.specs.Passes.{AreAll as AreAllLow};
 ghost use Rattle.clof_compose.specs.Contexts.{AreContexts, own_tag};
 ghost use Rattle.clof_compose.specs.Courses.{course_of};
-ghost use Rattle.clof_compose.specs.Levels.{level_context};
-ghost use Rattle.clof_compose.specs.Nodes.{AreFilled, AreLocks, AreMade, IsGiven, IsInShape, IsLevel, IsOfLevel, locks_of, under};
+ghost use Rattle.clof_compose.specs.Inside.{high_lock, node_locks, parents_of};
+ghost use Rattle.clof_compose.specs.Names.{level_name};
+ghost use Rattle.clof_compose.specs.Nodes.{AreFilled, AreLocks, AreMade, IsGiven, IsInShape, locks_of, under};
 ghost use Rattle.clof_compose.specs.Owns.{IsIdlePart};
 ghost use Rattle.clof_compose.specs.Passes.{AreAll};
 ghost use Rattle.clof_compose.specs.declared.own.High.TheVariants.{Idle};
@@ -53,18 +54,19 @@ pub fn make_level<
     requires contexts { AreContexts (course_of (H.tag high)).shape level (length parents.now) }
     requires nodes { AreContexts (course_of (H.tag high)).shape (level + 1) (H.count high) }
     requires few { length parents.now < 2 ^ 32 }
-    ensures level { IfOk result (λ m. m.0.level ≡ level) }
-    ensures over { IfOk result (λ m. m.0.high ≡ high) }
-    ensures made { IfOk result (λ m. AreMade B.made recipe m.0.nodes.items) }
-    ensures tag { IfOk result (λ m. H.tag m.0.high ≡ H.tag high) }
-    ensures count { IfOk result (λ m. m.0.parents.items ≡ parents.now) }
-    ensures sound { IfOk result (λ m. IsLevel B.name B.tag B.count B.Pass.place (H.has m.0.high) (H.sound m.0.high) (H.level m.0.high)
-        (H.count m.0.high) (H.tag m.0.high) m.0.level m.0.keep m.0.parents.items m.0.nodes.items m.0.list.items
-        (vec_capacity m.0.list)) }
-    ensures passes { IfOk result (λ m. AreAll (λ p. level_context p.id.level p.id.node p.id.number (B.Pass.place p.low))
-        (IsOfLevel B.name B.tag m.0.level m.0.parents.items (locks_of m.0.nodes.items)) m.0.level (H.tag m.0.high)
-        (length m.0.parents.items) m.1.items) }
-    ensures fresh { IfOk result (λ m. All (λ p. p.report.tests ≡ 0) m.1.items) }
+    ensures name { IfOk result (λ m. ⟦<Level<B, H, B::Pass, H::Pass> as Composed<P>>⟧.name m.0
+        ≡ level_name level (map B.name (node_locks m.0)) (H.name high)) }
+    ensures level { IfOk result (λ m. ⟦<Level<B, H, B::Pass, H::Pass> as Composed<P>>⟧.level m.0 ≡ level) }
+    ensures over { IfOk result (λ m. high_lock m.0 ≡ high) }
+    ensures made { IfOk result (λ m. All (λ lock. B.made lock recipe) (node_locks m.0)) }
+    ensures tag { IfOk result (λ m. ⟦<Level<B, H, B::Pass, H::Pass> as Composed<P>>⟧.tag m.0 ≡ H.tag high) }
+    ensures count { IfOk result (λ m. parents_of m.0 ≡ parents.now) }
+    ensures sound { IfOk result (λ m. ⟦<Level<B, H, B::Pass, H::Pass> as Composed<P>>⟧.sound m.0) }
+    ensures passes { IfOk result (λ m. AreAll (λ p. (⟦<LevelPass<B::Pass> as Resting>⟧.rest p).context)
+        (⟦<Level<B, H, B::Pass, H::Pass> as Composed<P>>⟧.has m.0) (⟦<Level<B, H, B::Pass, H::Pass> as Composed<P>>⟧.level m.0)
+        (⟦<Level<B, H, B::Pass, H::Pass> as Composed<P>>⟧.tag m.0) (⟦<Level<B, H, B::Pass, H::Pass> as Composed<P>>⟧.count m.0)
+        m.1.items) }
+    ensures fresh { IfOk result (λ m. All (λ p. (⟦<LevelPass<B::Pass> as Resting>⟧.rest p).report.tests ≡ 0) m.1.items) }
     ensures high { IfErr result (λ r. r.high ≡ high) }
     ensures returned { IfErr result (λ r. AreAll (λ p. (H.Pass.rest p).context) (H.has high) (H.level high) (H.tag high) (H.count high)
         r.passes.items) }

@@ -1,13 +1,17 @@
 //! How a top lock is made.
-ghost use Rattle.std.specs.Prelude.{◌≡◌, ◌<◌, ◌≤◌, [], length, map, IfOk, IfErr, vec_capacity};
+ghost use Rattle.std.specs.Prelude.{◌≡◌, ◌<◌, ◌≤◌, [], All, length, map, IfOk, IfErr, vec_capacity};
 ghost use Rattle.keep_local.specs.Shapes.{top_of};
 ghost use Rattle.clof_compose.specs.Contexts.{AreContexts};
+ghost use Rattle.clof_compose.specs.Inside.{top_lock};
+ghost use Rattle.clof_compose.specs.Names.{top_name};
 ghost use Rattle.clof_compose.specs.Passes.{AreAll};
 ghost use Rattle.clof_compose.specs.Roots.{root_tag, IsFit};
-ghost use Rattle.clof_compose.specs.Tops.{IsTop, IsOfTop, AreFresh, fresh_pass, top_context};
+ghost use Rattle.clof_compose.specs.Tops.{fresh_pass};
 
+use crate::composed::Composed;
 use crate::report::Report;
 use crate::root::Root;
+use crate::token::Resting;
 use crate::top::Top;
 use crate::top_tokens::TopPass;
 use lock_rules::{Basic, Held, Payload, Placed, Refused};
@@ -26,14 +30,16 @@ pub fn make_top<P: Payload, B: Basic<Root<P>, Held = Held<Root<P>>> + Drop>(
     requires level { level ≡ top_of root.trail.shape }
     requires some { 0 < contexts }
     requires contexts { AreContexts root.trail.shape level contexts }
-    ensures level { IfOk result (λ m. m.0.level ≡ level) }
-    ensures made { IfOk result (λ m. B.made m.0.low recipe) }
-    ensures tag { IfOk result (λ m. B.tag m.0.low ≡ root_tag P.tag root) }
-    ensures count { IfOk result (λ m. B.count m.0.low ≡ contexts) }
-    ensures sound { IfOk result (λ m. IsTop m.0.level (B.count m.0.low) (B.tag m.0.low) m.0.list.items (vec_capacity m.0.list)) }
-    ensures passes { IfOk result (λ m. AreAll (λ p. top_context p.level (B.Pass.place p.low)) (IsOfTop m.0.level (B.name m.0.low)
-        (B.tag m.0.low)) m.0.level (B.tag m.0.low) (B.count m.0.low) m.1.items) }
-    ensures fresh { IfOk result (λ m. AreFresh m.1.items) }
+    ensures name { IfOk result (λ m. ⟦<Top<B, B::Pass> as Composed<P>>⟧.name m.0 ≡ top_name level (B.name (top_lock m.0))) }
+    ensures level { IfOk result (λ m. ⟦<Top<B, B::Pass> as Composed<P>>⟧.level m.0 ≡ level) }
+    ensures made { IfOk result (λ m. B.made (top_lock m.0) recipe) }
+    ensures tag { IfOk result (λ m. ⟦<Top<B, B::Pass> as Composed<P>>⟧.tag m.0 ≡ root_tag P.tag root) }
+    ensures count { IfOk result (λ m. ⟦<Top<B, B::Pass> as Composed<P>>⟧.count m.0 ≡ contexts) }
+    ensures sound { IfOk result (λ m. ⟦<Top<B, B::Pass> as Composed<P>>⟧.sound m.0) }
+    ensures passes { IfOk result (λ m. AreAll (λ p. (⟦<TopPass<B::Pass> as Resting>⟧.rest p).context)
+        (⟦<Top<B, B::Pass> as Composed<P>>⟧.has m.0) (⟦<Top<B, B::Pass> as Composed<P>>⟧.level m.0)
+        (⟦<Top<B, B::Pass> as Composed<P>>⟧.tag m.0) (⟦<Top<B, B::Pass> as Composed<P>>⟧.count m.0) m.1.items) }
+    ensures fresh { IfOk result (λ m. All (λ p. (⟦<TopPass<B::Pass> as Resting>⟧.rest p).report.tests ≡ 0) m.1.items) }
     ensures refused { IfErr result (λ r. r.value ≡ root) }
 {
     let Ok(room) = Vec::with_capacity(alloc, contexts as usize) else {

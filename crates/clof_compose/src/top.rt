@@ -2,6 +2,8 @@
 ghost use Rattle.std.specs.Prelude.{◌≡◌, ◌<◌, ◌≤◌, [], map, false, IfOk, IfErr, vec_capacity, length};
 ghost use Rattle.keep_local.specs.Shapes.{top_of, callers_of};
 ghost use Rattle.clof_compose.specs.Courses.{course_of};
+ghost use Rattle.clof_compose.specs.Names.{top_name};
+ghost use Rattle.clof_compose.specs.NameLaws.{top_named};
 ghost use Rattle.clof_compose.specs.Passes.{AreAll};
 ghost use Rattle.clof_compose.specs.Roots.{root_tag, IsFit};
 ghost use Rattle.clof_compose.specs.Tops.{IsTop, IsOfTop, top_context};
@@ -31,6 +33,8 @@ impl<P: Payload, B: Basic<Root<P>, Held = Held<Root<P>>>> Composed<P> for Top<B,
 
     type Leave = TopLeave<B::Leave>;
 
+    ghost name = { λ t. top_name t.level (B.name t.low) };
+
     ghost level = { λ t. t.level };
 
     ghost tag = { λ t. B.tag t.low };
@@ -40,6 +44,8 @@ impl<P: Payload, B: Basic<Root<P>, Held = Held<Root<P>>>> Composed<P> for Top<B,
     ghost sound = { λ t. IsTop t.level (B.count t.low) (B.tag t.low) t.list.items (vec_capacity t.list) };
 
     ghost has = { λ t. IsOfTop t.level (B.name t.low) (B.tag t.low) };
+
+    ghost named = { λ t c _ own. top_named t.level (B.name t.low) (B.tag t.low) c own };
 
     fn begin(
         &self,

@@ -6,6 +6,7 @@ ghost use Rattle.lock_rules.specs.Steps.{IfNot, IfGot, IsNot, IsGot};
 ghost use Rattle.lock_rules.specs.Tokens.{view_of, badge_place, badge_waiting};
 ghost use Rattle.lock_rules.specs.declared.step.Answer.TheVariants.{Open, Yes};
 ghost use Rattle.lock_rules.specs.declared.view.Algorithm.TheVariants.{Mcs as mcs_algorithm};
+ghost use Rattle.lock_tree.specs.AnyKinds.{any_kind};
 ghost use Rattle.lock_tree.specs.Kinds.{algorithm_of, by_kind, kind_of, only_queues};
 ghost use Rattle.lock_tree.specs.Leaves.{AnyRests, any_waiting};
 
@@ -28,7 +29,7 @@ pub struct AnyLock<V: Cargo> {
 impl<V: Cargo> AnyLock<V> {
     /// The kind that it was made of.
     pub fn kind(&self) -> LockKind
-        ensures { result ≡ kind_of self.now.lock }
+        ensures { result ≡ any_kind self.now }
     {
         match &self.lock {
             Kinds::Ticket(lock) => kind_with(Algorithm::Ticket, lock.waiters()),

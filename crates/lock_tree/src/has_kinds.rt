@@ -1,7 +1,7 @@
 //! The kinds that the levels of a composed lock have.
 ghost use Rattle.std.specs.Prelude.{◌+◌, ℕ, List, All};
 ghost use Rattle.lock_plan.specs.declared.kind.LockKind.{LockKind as Kind};
-ghost use Rattle.clof_compose.specs.Nodes.{locks_of};
+ghost use Rattle.clof_compose.specs.Inside.{high_lock, node_locks, top_lock};
 ghost use Rattle.lock_tree.specs.Kinds.{IsOfKindAt};
 
 use crate::any_lock::AnyLock;
@@ -17,11 +17,11 @@ pub trait HasKinds<P: Payload>: Composed<P> {
 }
 
 impl<P: Payload> HasKinds<P> for Top<AnyLock<Root<P>>, Pass> {
-    ghost has_kinds = { λ l kinds level. IsOfKindAt kinds level l.low.lock };
+    ghost has_kinds = { λ l kinds level. IsOfKindAt kinds level (top_lock l).lock };
 }
 
 impl<P: Payload, H: HasKinds<P>> HasKinds<P>
     for Level<AnyLock<Own<P, H::Pass, H::Held>>, H, Pass, H::Pass> {
-    ghost has_kinds = { λ l kinds level. All (λ b. IsOfKindAt kinds level b.lock) (locks_of l.nodes.items)
-        × H.has_kinds l.high kinds (level + 1) };
+    ghost has_kinds = { λ l kinds level. All (λ b. IsOfKindAt kinds level b.lock) (node_locks l)
+        × H.has_kinds (high_lock l) kinds (level + 1) };
 }

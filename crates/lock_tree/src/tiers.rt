@@ -2,9 +2,9 @@
 ghost use Rattle.std.specs.Prelude.{◌≡◌, ◌+◌, ◌<◌, ◌^◌, ℕ, length, slice_get, All, Some, IfOk, IfErr};
 ghost use Rattle.keep_local.specs.Shapes.{IsWellFormed, callers_of, top_of};
 ghost use Rattle.clof_compose.specs.Courses.{course_of};
-ghost use Rattle.clof_compose.specs.Nodes.{locks_of};
+ghost use Rattle.clof_compose.specs.Inside.{high_lock, node_locks};
 ghost use Rattle.clof_compose.specs.Roots.{IsFit, root_tag};
-ghost use Rattle.lock_tree.specs.Kinds.{kind_of};
+ghost use Rattle.lock_tree.specs.AnyKinds.{any_kind};
 ghost use Rattle.lock_tree.specs.Made.{IsRaised};
 
 use crate::any_lock::AnyLock;
@@ -132,8 +132,8 @@ pub fn add_below<P: Payload, H: Composed<P> + Drop>(
         (⟦<LevelOver<P, H> as Composed<P>>⟧.sound m.0) (⟦<LevelOver<P, H> as Composed<P>>⟧.level m.0)
         (⟦<LevelOver<P, H> as Composed<P>>⟧.count m.0) (⟦<LevelOver<P, H> as Composed<P>>⟧.tag m.0) shape.now level (H.tag high)
         m.1.items) }
-    ensures over { IfOk result (λ m. m.0.high ≡ high) }
-    ensures made { IfOk result (λ m. All (λ b. kind_of b.lock ≡ kind) (locks_of m.0.nodes.items)) }
+    ensures over { IfOk result (λ m. high_lock m.0 ≡ high) }
+    ensures made { IfOk result (λ m. All (λ b. any_kind b ≡ kind) (node_locks m.0)) }
     ensures fit { IfErr result (λ r. IsFit P.calls r.value) }
     ensures tagged { IfErr result (λ r. root_tag P.tag r.value ≡ H.tag high) }
 {

@@ -1,2 +1,1 @@
-pub mod PlanKinds
 pub mod Raised

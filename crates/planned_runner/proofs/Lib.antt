@@ -1,3 +1,2 @@
 pub mod Crossing
-pub mod PlanKinds
 pub mod Served

@@ -1,7 +1,7 @@
-use Rattle.std.proofs.Common.{◌+◌, ap, sym, ◌∙◌, subst}
+use Rattle.std.proofs.Common.{ap, refl, ◌∙◌}
 use Rattle.clof_compose.specs.Courses.{course_of}
-use Rattle.clof_compose.specs.Nodes.{locks_of}
-use Rattle.lock_tree.proofs.MadeKinds.{all_at, if_both}
+use Rattle.clof_compose.specs.Inside.{high_lock, node_locks}
+use Rattle.lock_tree.proofs.MadeKinds.{if_both, kinds_from}
 use Rattle.lock_tree.proofs.Levels.{shape_named}
 use Rattle.lock_tree.proofs.tiers.LevelAnyLockOwnPassHeldPassPassTiers.raise.Goals as goal
 
@@ -12,7 +12,6 @@ add_below-requires-clause-same g c =
 
 pub returns-clause-kinds : goal.returns-clause-kinds
 returns-clause-kinds g c =
-    if_both c.add_below.result _ _ _ (λ m over made. (
-      all_at (λ b. b.lock) c.args.plan.now.kinds c.args.level c.kind_at.result (locks_of m.0.nodes.items) c.kind_at.ensures made,
-      subst (λ h. g.H.HasKinds.has_kinds h c.args.plan.now.kinds (c.args.level + 1)) (sym over) c.in_ok-high.ensures.kinds,
-    )) c.add_below.ensures.over c.add_below.ensures.made
+    if_both c.add_below.result _ _ _ (λ m over made. kinds_from (λ b. b.lock) g.H.HasKinds.has_kinds c.args.plan.now.kinds c.args.level
+    c.args.level refl c.kind_at.result c.kind_at.ensures (node_locks m.0) made (high_lock m.0) _ over c.in_ok-high.ensures.kinds)
+    c.add_below.ensures.over c.add_below.ensures.made
