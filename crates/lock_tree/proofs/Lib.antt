@@ -1,4 +1,1 @@
-pub mod Levels
-pub mod MadeKinds
-pub mod Names
-pub mod Raised
+pub mod Made

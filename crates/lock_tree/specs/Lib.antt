@@ -1,4 +1,1 @@
-pub mod AnyKinds
-pub mod Kinds
-pub mod Leaves
 pub mod Made

@@ -4,10 +4,10 @@ ghost use Rattle.keep_local.specs.Shapes.{callers_of, top_of};
 ghost use Rattle.clof_compose.specs.Roots.{IsFit, root_tag};
 ghost use Rattle.lock_tree.specs.Made.{IsMade};
 
-use crate::has_kinds::HasKinds;
-use crate::tiers::{LevelOver, LowPass, Tiers, TopOf, make_top_of};
+use crate::tiers::Tiers;
 use clof_compose::{Composed, Payload, Resting, Root, TopPass};
 use keep_local::Shape;
+use lock_levels::{HasKinds, LevelOver, LowPass, TopOf, make_top_of};
 use lock_plan::Plan;
 use lock_rules::{Pass, Refused};
 use std::alloc::Global;

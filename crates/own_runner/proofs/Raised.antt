@@ -6,7 +6,7 @@ use Rattle.keep_local.specs.declared.shape.Shape.{Shape}
 use Rattle.keep_local.specs.Shapes.{IsWellFormed, callers_of, top_of}
 use Rattle.keep_local.specs.States.{ShareState, new_shares}
 use Rattle.lock_plan.specs.declared.kind.LockKind.{LockKind}
-use Rattle.lock_tree.specs.Made.{IsRaised}
+use Rattle.lock_levels.specs.Raised.{IsRaised}
 use Rattle.clof_compose.specs.Contexts.{Context}
 use Rattle.clof_compose.specs.Courses.{Course, course_of}
 use Rattle.clof_compose.specs.Meanings.{Rest}

@@ -6,7 +6,7 @@ ghost use Rattle.std.specs.Prelude.{◌≡◌, ◌+◌, ◌<◌, ◌≤◌, ℕ,
 ghost use Rattle.lock_rules.specs.Tag.{leaf};
 ghost use Rattle.keep_local.specs.Shapes.{callers_of, top_of};
 ghost use Rattle.clof_compose.specs.Roots.{IsFit, root_tag};
-ghost use Rattle.lock_tree.specs.Made.{IsRaised};
+ghost use Rattle.lock_levels.specs.Raised.{IsRaised};
 ghost use Rattle.own_payload.specs.Jobs.{EachEnded};
 ghost use Rattle.own_payload.specs.Ready.{IsReady};
 ghost use Rattle.own_runner.specs.Runs.{MayRun};
@@ -14,7 +14,7 @@ ghost use Rattle.own_runner.specs.Runs.{MayRun};
 use crate::given::Given;
 use clof_compose::{Composed, Root};
 use lock_rules::passes_are_shared;
-use lock_tree::{
+use lock_levels::{
     HasKinds, LevelOver, TopOf, add_below, kind_at, low_passes_are_shared, make_top_of,
     top_passes_are_shared,
 };

@@ -11,7 +11,7 @@ use crate::given::Given;
 use crate::rising::{run_deep, run_flat};
 use clof_compose::Root;
 use keep_local::Shape;
-use lock_tree::Plan;
+use lock_levels::Plan;
 use own_payload::{Always, Noted, Serves, new_root, new_unrecorded_root};
 use std::alloc::Global;
 use std::sync::Wait;

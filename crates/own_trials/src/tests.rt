@@ -4,8 +4,8 @@ ghost use Rattle.keep_local.specs.Shapes.{IsWellFormed, callers_of, top_of};
 
 use keep_local::Shape;
 use level_harness::shape_of;
-use lock_tree::LockKind::{Clh, Hem, Mcs, Tkt};
-use lock_tree::{LockKind, Plan};
+use lock_levels::LockKind::{Clh, Hem, Mcs, Tkt};
+use lock_levels::{LockKind, Plan};
 use own_payload::Serves;
 use own_runner::{run, serve};
 use sequence::Sequence;

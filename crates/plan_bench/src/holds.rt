@@ -5,7 +5,7 @@ ghost use Rattle.keep_local.specs.Shapes.{callers_of, top_of};
 use crate::quotas::equal_quotas;
 use keep_local::Shape;
 use level_harness::{Roll, shape_of};
-use lock_tree::LockKind;
+use lock_levels::LockKind;
 use std::alloc::Global;
 use std::sync::Wait;
 use std::thread::Threads;

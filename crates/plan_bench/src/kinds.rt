@@ -1,5 +1,5 @@
 //! The kinds of a plan's levels.
-use lock_tree::LockKind;
+use lock_levels::LockKind;
 use std::alloc::Global;
 
 /// The kinds that `tkt`, `mcs`, `clh` and `hem` joined by dashes name. The answer is `None` for want of memory, and where a word names no

@@ -1,6 +1,6 @@
 //! What a run is given.
 use keep_local::Shape;
-use lock_tree::Plan;
+use lock_levels::Plan;
 use std::alloc::Global;
 
 /// What a run has beside its root and its lock.

@@ -16,7 +16,7 @@ use fresh_runner::{
 };
 use keep_local::Shape;
 use lock_rules::Pass;
-use lock_tree::{LowPass, Plan};
+use lock_levels::{LowPass, Plan};
 use out_of_memory::OutOfMemory;
 use placed_runner::{Gate, Section};
 use std::alloc::Global;

@@ -6,7 +6,7 @@ ghost use Rattle.std.specs.Prelude.{◌≡◌, ◌+◌, ◌<◌, ◌≤◌, leng
 ghost use Rattle.keep_local.specs.Shapes.{callers_of, top_of};
 ghost use Rattle.clof_compose.specs.Courses.{course_of};
 ghost use Rattle.clof_compose.specs.Roots.{IsFit, root_tag};
-ghost use Rattle.lock_tree.specs.Made.{IsRaised};
+ghost use Rattle.lock_levels.specs.Raised.{IsRaised};
 ghost use Rattle.planned_runner.specs.Runs.{MayRun};
 
 use crate::commanded::Commanded;
@@ -14,7 +14,7 @@ use crate::given::Given;
 use crate::under::run_under;
 use clof_compose::{Composed, Resting, Root, TopPass};
 use lock_rules::{Pass, passes_are_shared};
-use lock_tree::{
+use lock_levels::{
     HasKinds, LevelOver, LowPass, TopOf, add_below, kind_at, low_passes_are_shared, make_top_of,
     top_passes_are_shared,
 };

@@ -13,7 +13,7 @@ use crate::shared_runs::run_shared;
 use clof_compose::TopPass;
 use keep_local::Shape;
 use lock_rules::Pass;
-use lock_tree::{LowPass, Plan};
+use lock_levels::{LowPass, Plan};
 use out_of_memory::OutOfMemory;
 use placed_runner::{Gate, Section};
 use std::alloc::Global;

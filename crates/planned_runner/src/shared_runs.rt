@@ -14,7 +14,7 @@ use cohort_desks::Desk;
 use cohort_runner::Caller;
 use keep_local::Shape;
 use lock_rules::Pass;
-use lock_tree::{LowPass, Plan, low_passes_may_be_sent, top_passes_may_be_sent};
+use lock_levels::{LowPass, Plan, low_passes_may_be_sent, top_passes_may_be_sent};
 use out_of_memory::OutOfMemory;
 use placed_runner::{Gate, Section};
 use std::alloc::Global;

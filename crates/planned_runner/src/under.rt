@@ -7,7 +7,7 @@ use crate::commanded::{Commanded, Dealt, Served};
 use crate::given::Given;
 use clof_compose::{Composed, Resting};
 use lock_threads::{Works, by_all};
-use lock_tree::HasKinds;
+use lock_levels::HasKinds;
 use out_of_memory::OutOfMemory;
 use placed_runner::Gate;
 use std::alloc::Global;

@@ -5,7 +5,7 @@ use Rattle.keep_local.specs.declared.shape.Shape.{Shape}
 use Rattle.keep_local.specs.Shapes.{callers_of}
 use Rattle.keep_local.specs.States.{ShareState}
 use Rattle.lock_plan.specs.declared.kind.LockKind.{LockKind}
-use Rattle.lock_tree.specs.Made.{IsRaised}
+use Rattle.lock_levels.specs.Raised.{IsRaised}
 use Rattle.clof_compose.specs.Contexts.{Context}
 use Rattle.clof_compose.specs.Meanings.{Rest}
 use Rattle.tree_harness.specs.Ready.{IsReady, MayTry}

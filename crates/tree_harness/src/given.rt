@@ -1,6 +1,6 @@
 //! What a trial is given.
 use keep_local::{Shape, Share};
-use lock_tree::Plan;
+use lock_levels::Plan;
 use std::alloc::Global;
 
 /// What callers do with a lock.

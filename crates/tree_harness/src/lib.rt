@@ -1,4 +1,4 @@
-//! Trials of the locks that `lock_tree` makes: a lock is made for a plan's kinds and a shape of callers, who then walk over it on one
+//! Trials of the locks of `lock_levels`: a lock is made for a plan's kinds and a shape of callers, who then walk over it on one
 //! thread or hold it in threads of their own, or it is closed again at once.
 #![tactic(auto)]
 

@@ -5,7 +5,7 @@
 ghost use Rattle.std.specs.Prelude.{◌≡◌, ◌+◌, ◌<◌, ◌≤◌, IfSome};
 ghost use Rattle.keep_local.specs.Shapes.{callers_of, top_of};
 ghost use Rattle.clof_compose.specs.Roots.{IsFit, root_tag};
-ghost use Rattle.lock_tree.specs.Made.{IsRaised};
+ghost use Rattle.lock_levels.specs.Raised.{IsRaised};
 ghost use Rattle.tree_harness.specs.Ready.{MayTry};
 
 use crate::given::Given;
@@ -14,7 +14,7 @@ use crate::tried::Tried;
 use crate::under::try_under;
 use clof_compose::{Composed, Resting, Root, TopPass};
 use lock_rules::{Pass, Refused, passes_are_shared};
-use lock_tree::{
+use lock_levels::{
     LevelOver, LowPass, TopOf, add_below, kind_at, low_passes_are_shared, make_top_of,
     top_passes_are_shared,
 };

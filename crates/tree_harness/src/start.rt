@@ -9,7 +9,7 @@ ghost use Rattle.level_harness.specs.Rooms.{HasRoom, roll_tag};
 use clof_compose::Root;
 use keep_local::{Shape, Share, Trail};
 use level_harness::{Roll, copy_of};
-use lock_tree::{LockKind, Plan};
+use lock_levels::{LockKind, Plan};
 use sequence::Sequence;
 use std::alloc::Global;
 

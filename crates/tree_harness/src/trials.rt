@@ -9,7 +9,7 @@ use crate::rising::{try_deep, try_flat};
 use crate::start::{Start, make_start};
 use keep_local::Shape;
 use level_harness::Roll;
-use lock_tree::LockKind;
+use lock_levels::LockKind;
 use std::alloc::Global;
 use std::sync::Wait;
 use std::thread::Threads;

@@ -10,7 +10,7 @@ mod walks;
 use clof_compose::Root;
 use keep_local::{Turn, is_lawful};
 use level_harness::{Roll, Stood, shape_of};
-use lock_tree::LockKind;
+use lock_levels::LockKind;
 use std::alloc::Global;
 use std::sync::Wait;
 use std::thread::Threads;

@@ -2,7 +2,7 @@
 use lock_harness::Told::{self, Got, No, Not, Yes};
 use lock_harness::{Call, Move, Parcel, START, carry_out, first, second};
 use lock_rules::Basic;
-use lock_tree::{AnyLock, LockKind};
+use lock_levels::{AnyLock, LockKind};
 use std::alloc::Global;
 
 /// Whether two passes of a lock of this kind that make these moves are told this, and find the number in the value at the end.

@@ -1,6 +1,6 @@
 //! Locks that are made and closed again.
 use super::{Setting, has_turns, tried};
-use lock_tree::LockKind::{Clh, Hem, Mcs, Tkt};
+use lock_levels::LockKind::{Clh, Hem, Mcs, Tkt};
 use tree_harness::Trial;
 
 /// Locks of one to five levels, each of several kinds.

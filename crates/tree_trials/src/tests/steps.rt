@@ -1,7 +1,7 @@
 //! Orders of steps that no round makes: a caller that leaves asks more than once before the one behind it looks.
 use super::{Setting, has_turns, stood_at, told, tried, turn};
 use level_harness::Stood::{Holding, Idle, Leaving, Nowhere, Queued};
-use lock_tree::LockKind::{Hem, Mcs, Tkt};
+use lock_levels::LockKind::{Hem, Mcs, Tkt};
 use tree_harness::Trial;
 
 /// The node lets the top go, and its own Hemlock has the grant taken late.

@@ -2,7 +2,7 @@
 use super::{Setting, is_of_its_turns, tried, turns_in};
 use clof_compose::Root;
 use level_harness::Roll;
-use lock_tree::LockKind::{Clh, Hem, Mcs, Tkt};
+use lock_levels::LockKind::{Clh, Hem, Mcs, Tkt};
 use tree_harness::Trial;
 
 /// How often each thread holds the lock.

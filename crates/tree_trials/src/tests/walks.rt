@@ -1,7 +1,7 @@
 //! The turns of walks, in their order, by hand and by the plain model in bench/walk_model.py.
 use super::{Setting, has_turns, told, tried, turn, turns_in};
 use keep_local::Turn;
-use lock_tree::LockKind::{self, Clh, Hem, Mcs, Tkt};
+use lock_levels::LockKind::{self, Clh, Hem, Mcs, Tkt};
 use tree_harness::Trial;
 
 #[test]

@@ -1,4 +1,4 @@
-use Rattle.lock_tree.proofs.Levels.{made_of}
+use Rattle.lock_tree.proofs.Made.{made_of}
 use Rattle.lock_tree.proofs.depths.make_5.Goals as goal
 
 pub returns-in-Ok-clause-made : goal.returns-in-Ok-clause-made

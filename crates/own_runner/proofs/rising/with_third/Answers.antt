@@ -1,6 +1,6 @@
 use Rattle.std.proofs.Common.{◌≡◌, ◌+◌, ◌-◌, arith}
-use Rattle.lock_tree.proofs.Raised.{risen}
-use Rattle.lock_tree.proofs.MadeKinds.{kinds_from}
+use Rattle.lock_levels.proofs.Raised.{risen}
+use Rattle.lock_levels.proofs.MadeKinds.{kinds_from}
 use Rattle.own_runner.proofs.rising.with_third.Goals as goal
 
 pub with_fourth-requires-clause-raised : goal.with_fourth-requires-clause-raised

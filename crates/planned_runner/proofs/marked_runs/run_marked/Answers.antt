@@ -1,7 +1,7 @@
 use Rattle.std.proofs.Common.{◌≡◌, ◌∙◌, ap, arith}
 use Rattle.std.proofs.lemmas.Result.{IfOk-weaker}
 use denote.Param.Send.{sendable}
-use Rattle.lock_tree.proofs.Levels.{shape_named}
+use Rattle.lock_levels.proofs.Levels.{shape_named}
 use Rattle.fresh_runner.specs.Books.{fresh_book_tag}
 use Rattle.planned_runner.proofs.marked_runs.run_marked.Goals as goal
 

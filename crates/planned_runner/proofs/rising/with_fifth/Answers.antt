@@ -1,5 +1,5 @@
 use Rattle.std.proofs.Common.{refl}
-use Rattle.lock_tree.proofs.MadeKinds.{kinds_from}
+use Rattle.lock_levels.proofs.MadeKinds.{kinds_from}
 use Rattle.planned_runner.proofs.rising.with_fifth.Goals as goal
 
 pub run_under-requires-clause-kinds : goal.run_under-requires-clause-kinds

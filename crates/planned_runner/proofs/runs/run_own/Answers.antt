@@ -1,6 +1,6 @@
 use Rattle.std.proofs.Common.{◌≡◌, ◌∙◌, ap, arith}
 use Rattle.std.proofs.lemmas.Result.{IfOk-weaker}
-use Rattle.lock_tree.proofs.Levels.{shape_named}
+use Rattle.lock_levels.proofs.Levels.{shape_named}
 use Rattle.threaded_runner.specs.Books.{book_tag}
 use Rattle.planned_runner.proofs.runs.run_own.Goals as goal
 

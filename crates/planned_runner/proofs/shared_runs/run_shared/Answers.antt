@@ -12,7 +12,7 @@ use Rattle.clof_compose.specs.contracts.level_tokens.LevelPassResting.TheImpl as
 use Rattle.clof_compose.specs.contracts.top_tokens.TopPass.{the_row as the_top_row}
 use Rattle.clof_compose.specs.contracts.top_tokens.TopPassResting.TheImpl as top_resting
 use Rattle.clof_compose.specs.declared.token.Resting as resting
-use Rattle.lock_tree.proofs.Levels.{shape_named}
+use Rattle.lock_levels.proofs.Levels.{shape_named}
 use Rattle.cohort_desks.proofs.Crossing.{desk_sent}
 use Rattle.cohort_runner.proofs.Crossing.{caller_sent}
 use Rattle.cohort_runner.specs.contracts.caller.CallerNumbered.TheImpl as numbered

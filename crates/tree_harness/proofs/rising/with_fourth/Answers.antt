@@ -1,5 +1,5 @@
 use Rattle.std.proofs.Common.{◌+◌, ◌-◌, arith}
-use Rattle.lock_tree.proofs.Raised.{risen}
+use Rattle.lock_levels.proofs.Raised.{risen}
 use Rattle.tree_harness.proofs.rising.with_fourth.Goals as goal
 
 pub with_fifth-requires-clause-raised : goal.with_fifth-requires-clause-raised

@@ -1,8 +1,8 @@
 use Rattle.std.proofs.Common.{ap, refl, ◌∙◌}
 use Rattle.clof_compose.specs.Courses.{course_of}
 use Rattle.clof_compose.specs.Inside.{high_lock, node_locks}
-use Rattle.lock_tree.proofs.MadeKinds.{if_both, kinds_from}
-use Rattle.lock_tree.proofs.Levels.{shape_named}
+use Rattle.lock_levels.proofs.MadeKinds.{if_both, kinds_from}
+use Rattle.lock_levels.proofs.Levels.{shape_named}
 use Rattle.lock_tree.proofs.tiers.LevelAnyLockOwnPassHeldPassPassTiers.raise.Goals as goal
 
 pub add_below-requires-clause-same : goal.add_below-requires-clause-same

@@ -1,9 +1,9 @@
 use Rattle.std.proofs.Common.{ap, ◌∙◌}
 use Rattle.lock_rules.specs.Views.{algorithm_number}
-use Rattle.lock_tree.specs.Kinds.{algorithm_of}
-use Rattle.lock_tree.specs.Leaves.{algorithm_in}
-use Rattle.lock_tree.proofs.Names.{algorithm_told, names_tell}
-use Rattle.lock_tree.proofs.any_lock.AnyLockBasic.begin_release.Goals as goal
+use Rattle.lock_levels.specs.Kinds.{algorithm_of}
+use Rattle.lock_levels.specs.Leaves.{algorithm_in}
+use Rattle.lock_levels.proofs.Names.{algorithm_told, names_tell}
+use Rattle.lock_levels.proofs.any_lock.AnyLockBasic.begin_release.Goals as goal
 
 pub returns-in-Not-begin_release-clause-rests : goal.returns-in-Not-begin_release-clause-rests
 returns-in-Not-begin_release-clause-rests g c =

@@ -1,5 +1,5 @@
 //! The token of a pass that leaves a lock of one of the four kinds.
-ghost use Rattle.lock_tree.specs.Leaves.{AnyRests, any_waiting};
+ghost use Rattle.lock_levels.specs.Leaves.{AnyRests, any_waiting};
 
 use lock_rules::{Cargo, Departing};
 

@@ -7,8 +7,8 @@ use Rattle.ticket_lock.specs.declared.lock.Ticket.{Ticket as TicketLock}
 use Rattle.mcs_lock.specs.declared.lock.Mcs.{Mcs as McsLock}
 use Rattle.clh_lock.specs.declared.lock.Clh.{Clh as ClhLock}
 use Rattle.hemlock_lock.specs.declared.lock.Hemlock.{Hemlock as HemlockLock}
-use Rattle.lock_tree.specs.Kinds.{IsOfKindAt, kind_of}
-use Rattle.lock_tree.specs.declared.kinds.Kinds.{Kinds}
+use Rattle.lock_levels.specs.Kinds.{IsOfKindAt, kind_of}
+use Rattle.lock_levels.specs.declared.kinds.Kinds.{Kinds}
 
 -- locks of the kind at a place of a list
 pub all_at : {A V : Type 0} (lock : A → Kinds (TicketLock V) (McsLock V) (ClhLock V) (HemlockLock V)) (kinds : List LockKind) (level : ℕ)

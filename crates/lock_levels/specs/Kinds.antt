@@ -15,8 +15,8 @@ use Rattle.clh_lock.specs.Choice.{clh_waiters}
 use Rattle.clh_lock.specs.declared.lock.Clh.{Clh as ClhLock}
 use Rattle.hemlock_lock.specs.Choice.{hemlock_waiters}
 use Rattle.hemlock_lock.specs.declared.lock.Hemlock.{Hemlock as HemlockLock}
-use Rattle.lock_tree.specs.declared.kinds.Kinds.{Kinds}
-use Rattle.lock_tree.specs.declared.kinds.Kinds.TheVariants.{Ticket, Mcs, Clh, Hemlock}
+use Rattle.lock_levels.specs.declared.kinds.Kinds.{Kinds}
+use Rattle.lock_levels.specs.declared.kinds.Kinds.TheVariants.{Ticket, Mcs, Clh, Hemlock}
 
 -- the kind of the locks of an algorithm that learn of waiters in this way
 abbrev pub kind_with : Algorithm → Waiters → LockKind

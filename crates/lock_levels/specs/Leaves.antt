@@ -8,8 +8,8 @@ use Rattle.lock_rules.specs.Views.{algorithm_number}
 use Rattle.lock_rules.specs.declared.view.Algorithm.{Algorithm}
 use Rattle.lock_rules.specs.declared.view.Algorithm.TheVariants.{Mcs as McsAlgorithm, Hemlock as HemlockAlgorithm}
 use Rattle.mcs_lock.specs.Leaves.{leave_waiting, HasHome}
-use Rattle.lock_tree.specs.declared.any_leave.AnyLeave.{AnyLeave}
-use Rattle.lock_tree.specs.declared.any_leave.AnyLeave.TheVariants.{Mcs, Hemlock}
+use Rattle.lock_levels.specs.declared.any_leave.AnyLeave.{AnyLeave}
+use Rattle.lock_levels.specs.declared.any_leave.AnyLeave.TheVariants.{Mcs, Hemlock}
 
 -- the number of the algorithm in the name of a lock
 abbrev pub algorithm_in : Tag → ℕ

@@ -1,7 +1,7 @@
 use Rattle.std.proofs.Common.{ap, sym, ◌∙◌}
-use Rattle.lock_tree.specs.Leaves.{algorithm_in, any_waiting}
-use Rattle.lock_tree.proofs.Names.{is_hemlock, is_mcs, algorithm_told, names_tell}
-use Rattle.lock_tree.proofs.any_lock.AnyLockBasic.poll_release.Goals as goal
+use Rattle.lock_levels.specs.Leaves.{algorithm_in, any_waiting}
+use Rattle.lock_levels.proofs.Names.{is_hemlock, is_mcs, algorithm_told, names_tell}
+use Rattle.lock_levels.proofs.any_lock.AnyLockBasic.poll_release.Goals as goal
 
 pub unreachable-requires : goal.unreachable-requires
 unreachable-requires g c =

@@ -6,9 +6,9 @@ ghost use Rattle.lock_rules.specs.Steps.{IfNot, IfGot, IsNot, IsGot};
 ghost use Rattle.lock_rules.specs.Tokens.{view_of, badge_place, badge_waiting};
 ghost use Rattle.lock_rules.specs.declared.step.Answer.TheVariants.{Open, Yes};
 ghost use Rattle.lock_rules.specs.declared.view.Algorithm.TheVariants.{Mcs as mcs_algorithm};
-ghost use Rattle.lock_tree.specs.AnyKinds.{any_kind};
-ghost use Rattle.lock_tree.specs.Kinds.{algorithm_of, by_kind, kind_of, only_queues};
-ghost use Rattle.lock_tree.specs.Leaves.{AnyRests, any_waiting};
+ghost use Rattle.lock_levels.specs.AnyKinds.{any_kind};
+ghost use Rattle.lock_levels.specs.Kinds.{algorithm_of, by_kind, kind_of, only_queues};
+ghost use Rattle.lock_levels.specs.Leaves.{AnyRests, any_waiting};
 
 use crate::any_leave::AnyLeave;
 use crate::kinds::{Kinds, kind_with, parts_of};

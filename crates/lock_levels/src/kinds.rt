@@ -1,6 +1,6 @@
 //! The kinds of basic locks: four algorithms, each of which learns of waiters in one of two ways.
 ghost use Rattle.std.specs.Prelude.{◌≡◌};
-ghost use Rattle.lock_tree.specs.Kinds.{kind_with};
+ghost use Rattle.lock_levels.specs.Kinds.{kind_with};
 
 use lock_plan::LockKind;
 use lock_rules::{Algorithm, Waiters};

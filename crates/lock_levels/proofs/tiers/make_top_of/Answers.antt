@@ -2,8 +2,8 @@ use Rattle.std.proofs.Common.{◌^◌, ◌<◌, Some, ap, sym, ◌∙◌, subst,
 use Rattle.std.proofs.lemmas.Result.{IfOk-weaker}
 use Rattle.keep_local.specs.Shapes.{callers_of}
 use Rattle.lock_shape.proofs.Shapes.{contexts_few}
-use Rattle.lock_tree.proofs.Levels.{contexts_some}
-use Rattle.lock_tree.proofs.tiers.make_top_of.Goals as goal
+use Rattle.lock_levels.proofs.Levels.{contexts_some}
+use Rattle.lock_levels.proofs.tiers.make_top_of.Goals as goal
 
 pub overflow_cast-contexts : goal.overflow_cast-contexts
 overflow_cast-contexts g c =

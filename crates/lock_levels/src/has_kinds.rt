@@ -2,7 +2,7 @@
 ghost use Rattle.std.specs.Prelude.{◌+◌, ℕ, List, All};
 ghost use Rattle.lock_plan.specs.declared.kind.LockKind.{LockKind as Kind};
 ghost use Rattle.clof_compose.specs.Inside.{high_lock, node_locks, top_lock};
-ghost use Rattle.lock_tree.specs.Kinds.{IsOfKindAt};
+ghost use Rattle.lock_levels.specs.Kinds.{IsOfKindAt};
 
 use crate::any_lock::AnyLock;
 use clof_compose::{Composed, Level, Own, Payload, Root, Top};

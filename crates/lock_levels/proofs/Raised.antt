@@ -2,7 +2,7 @@
 use Rattle.std.proofs.Common.{◌≡◌, ℕ, List, refl, subst}
 use Rattle.lock_rules.specs.Tag.{Tag}
 use Rattle.keep_local.specs.declared.shape.Shape.{Shape}
-use Rattle.lock_tree.specs.Made.{IsRaised}
+use Rattle.lock_levels.specs.Raised.{IsRaised}
 use Rattle.clof_compose.specs.Contexts.{Context}
 use Rattle.clof_compose.specs.Meanings.{Rest}
 

@@ -7,10 +7,10 @@ use Rattle.lock_rules.specs.declared.view.Algorithm.{Algorithm}
 use Rattle.lock_rules.specs.declared.view.Algorithm.TheVariants.{Ticket as TicketAlgorithm, Mcs as McsAlgorithm}
 use Rattle.lock_rules.specs.declared.view.Algorithm.TheVariants.{Clh as ClhAlgorithm, Hemlock as HemlockAlgorithm}
 use Rattle.lock_rules.specs.declared.view.Waiters.{Waiters}
-use Rattle.lock_tree.specs.Kinds.{algorithm_of, by_kind}
-use Rattle.lock_tree.specs.Leaves.{algorithm_in}
-use Rattle.lock_tree.specs.declared.kinds.Kinds.{Kinds}
-use Rattle.lock_tree.specs.declared.kinds.Kinds.TheVariants.{Ticket, Mcs, Clh, Hemlock}
+use Rattle.lock_levels.specs.Kinds.{algorithm_of, by_kind}
+use Rattle.lock_levels.specs.Leaves.{algorithm_in}
+use Rattle.lock_levels.specs.declared.kinds.Kinds.{Kinds}
+use Rattle.lock_levels.specs.declared.kinds.Kinds.TheVariants.{Ticket, Mcs, Clh, Hemlock}
 
 pub algorithm_in-lock_name : (a : Algorithm) (c : Waiters) (z : TableId) → algorithm_in (lock_name a c z) ≡ algorithm_number a
 unfolding lock_name

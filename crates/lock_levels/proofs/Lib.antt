@@ -1,0 +1,4 @@
+pub mod Levels
+pub mod MadeKinds
+pub mod Names
+pub mod Raised

@@ -1,0 +1,4 @@
+pub mod AnyKinds
+pub mod Kinds
+pub mod Leaves
+pub mod Raised
