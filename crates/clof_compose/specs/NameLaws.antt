@@ -24,8 +24,8 @@ top_named level name tag c own = record {
 }
 
 module _ {B L HL : Type 0} {name tag : B → Tag} {count : B → ℕ} {place : L → Place} {has : Context → Type 0} {sound : Type 0}
-    {high_level high_count : ℕ} {t : Tag} {level keep : ℕ} {parents : List ℕ} {nodes : List (Node B L)} {list : List HL} {capacity : ℕ}
-    where
+    {high_level high_count : ℕ} {t : Tag} {level keep : ℕ} {parents : List ℕ} {nodes : List (Node B L)}
+    {list : List HL} {capacity : ℕ} where
   pub level_named : (high : Name) (c : Context)
       → IsLevel name tag count place has sound high_level high_count t level keep parents nodes list capacity
       → IsOfLevel name tag level parents (locks_of nodes) c → IsNamed (level_name level (map name (locks_of nodes)) high) c
