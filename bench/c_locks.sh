@@ -16,12 +16,6 @@ theirs=$(compiled ck_locks)
 rattle=crates/lock_bench/out/lock_bench
 [ $# -gt 0 ] || set -- ticket mcs clh hemlock
 
-# FILE HOLDS: the least and the greatest of its times a hold, or a dash where there are none
-range() {
-  [ -s "$1" ] || { echo -; return; }
-  sort -n "$1" | awk -v n="$2" 'NR == 1 { low = $1 } { high = $1 } END { printf "%.1f..%.1f\n", low / n, high / n }'
-}
-
 machine
 cc --version | head -1
 printf '%-8s %7s %16s %16s %16s %16s\n' lock threads 'ns library' 'ns lock_bench' 'ns ck' 'ns mutex'

@@ -1,4 +1,4 @@
-# What bench/locks.sh, bench/cohorts.sh and bench/queries.sh share, read by `.`: the machine, and how two programs are timed in turn.
+# What bench/locks.sh, bench/c_locks.sh, bench/cohorts.sh and bench/queries.sh share, read by `.`: the machine, and how programs are timed.
 
 # the processor, how many there are, and what else runs
 machine() {
@@ -30,16 +30,8 @@ nanoseconds() {
 # the middle one of the numbers in a file
 median() { sort -n "$1" | sed -n "$((($(wc -l < "$1") + 1) / 2))p"; }
 
-# WORDS -- WORDS: the medians of five runs of the one program and of the other, in turn
-medians() {
-  local here there words=()
-  while [ "$1" != -- ]; do words+=("$1"); shift; done
-  shift
-  here=$(mktemp) there=$(mktemp)
-  for _ in 1 2 3 4 5; do
-    nanoseconds "${words[@]}" >> "$here"
-    nanoseconds "$@" >> "$there"
-  done
-  echo "$(median "$here") $(median "$there")"
-  rm -f "$here" "$there"
+# FILE HOLDS: the least and the greatest of its times a hold, or a dash where there are none
+range() {
+  [ -s "$1" ] || { echo -; return; }
+  sort -n "$1" | awk -v n="$2" 'NR == 1 { low = $1 } { high = $1 } END { printf "%.1f..%.1f\n", low / n, high / n }'
 }
