@@ -1,8 +1,8 @@
 /*
- * The work of crates/lock_bench by the same atomic steps in C: each thread takes the lock as often as asked and adds one to a number. Each step
- * is a sequentially consistent operation on one word, each pass has a line of its own, and a wait pauses as the locks' waits do. What is
- * left of the difference to lock_bench is what the proof costs, and of the difference to Concurrency Kit what the order costs. It prints the
- * lock, the number of threads and the number at the end.
+ * The work of crates/lock_bench by the same atomic steps in C: each thread takes the lock as often as asked and adds one to a number. Each
+ * step is a sequentially consistent operation on one word, each pass has a line of its own, and a wait pauses as the locks' waits do. What
+ * is left of the difference to lock_bench is what the proof costs, and of the difference to Concurrency Kit what the order costs. It
+ * prints the lock, the number of threads and the number at the end.
  *
  *   cc -O2 -pthread -o sc_locks sc_locks.c && ./sc_locks mcs 4 1000000
  *

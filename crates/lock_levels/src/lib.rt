@@ -1,7 +1,7 @@
 //! The levels of a plan's locks: a basic lock of any of the four kinds, and a composed lock that gets one level of them more.
 //!
-//! `make_top_of` makes the top, and `add_below` one level below a lock of any type; each is of the kind that the plan has for it. `lock_tree`
-//! has locks of one to five levels.
+//! `make_top_of` makes the top, and `add_below` one level below a lock of any type; each is of the kind that the plan has for it.
+//! `lock_tree` has locks of one to five levels.
 #![tactic(auto)]
 
 mod any_leave;
