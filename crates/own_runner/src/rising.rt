@@ -13,11 +13,11 @@ ghost use Rattle.own_runner.specs.Runs.{MayRun};
 
 use crate::given::Given;
 use clof_compose::{Composed, Root};
-use lock_rules::passes_are_shared;
 use lock_levels::{
     HasKinds, LevelOver, TopOf, add_below, kind_at, low_passes_are_shared, make_top_of,
     top_passes_are_shared,
 };
+use lock_rules::passes_are_shared;
 use own_payload::{Lists, Noted, Serves, serve};
 use std::sync::Wait;
 use std::thread::Threads;

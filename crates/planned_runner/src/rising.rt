@@ -13,11 +13,11 @@ use crate::commanded::Commanded;
 use crate::given::Given;
 use crate::under::run_under;
 use clof_compose::{Composed, Resting, Root, TopPass};
-use lock_rules::{Pass, passes_are_shared};
 use lock_levels::{
     HasKinds, LevelOver, LowPass, TopOf, add_below, kind_at, low_passes_are_shared, make_top_of,
     top_passes_are_shared,
 };
+use lock_rules::{Pass, passes_are_shared};
 use out_of_memory::OutOfMemory;
 use placed_runner::Gate;
 use std::sync::Wait;

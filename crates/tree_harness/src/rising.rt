@@ -13,11 +13,11 @@ use crate::outcome::{End, Outcome};
 use crate::tried::Tried;
 use crate::under::try_under;
 use clof_compose::{Composed, Resting, Root, TopPass};
-use lock_rules::{Pass, Refused, passes_are_shared};
 use lock_levels::{
     LevelOver, LowPass, TopOf, add_below, kind_at, low_passes_are_shared, make_top_of,
     top_passes_are_shared,
 };
+use lock_rules::{Pass, Refused, passes_are_shared};
 use std::sync::Wait;
 use std::thread::Threads;
 

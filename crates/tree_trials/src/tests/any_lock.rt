@@ -1,8 +1,8 @@
 //! Tests of a lock of any kind.
 use lock_harness::Told::{self, Got, No, Not, Yes};
 use lock_harness::{Call, Move, Parcel, START, carry_out, first, second};
-use lock_rules::Basic;
 use lock_levels::{AnyLock, LockKind};
+use lock_rules::Basic;
 use std::alloc::Global;
 
 /// Whether two passes of a lock of this kind that make these moves are told this, and find the number in the value at the end.
