@@ -3,6 +3,7 @@ ghost use Rattle.std.specs.Prelude.{◌≡◌, ◌<◌, ◌≤◌, [], ◌∷◌
 ghost use Rattle.calc_query.specs.declared.query.Op.TheVariants as ops;
 ghost use Rattle.calc_query.specs.declared.query.Numbering.TheVariants as numberings;
 ghost use Rattle.calc_query.specs.Selection.{selected, HasLayers};
+ghost use Rattle.distrib_rules.specs.Faults.{mask_limit};
 ghost use Rattle.out_of_memory.specs.Memory.{UnlessMemory};
 ghost use Rattle.placed_runner.specs.declared.fault.SectionFault.TheVariants as faults;
 ghost use Rattle.placed_runner.specs.Places.{lone_pu, place_of, masks_of, first_pu, mask_pu, pu_on};
@@ -80,7 +81,7 @@ fn lone_pu(tree: &Tree, set: &CpuSet) -> Option<u32>
 /// The masks over which so many callers are spread that may stand on any PU.
 pub(crate) fn masks(alloc: Global, tree: &Tree, callers: u32) -> Result<Vec<CpuSet>, OutOfMemory>
     requires some { 0 < callers }
-    requires few { callers ≤ 4096 }
+    requires few { callers ≤ mask_limit }
     ensures masks { IfOk result (λ masks. masks.items ≡ masks_of tree.now callers) }
     ensures count { IfOk result (λ masks. length masks.items ≡ callers) }
 {
