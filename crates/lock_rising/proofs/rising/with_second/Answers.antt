@@ -1,0 +1,21 @@
+use Rattle.std.proofs.Common.{◌≡◌, ◌+◌, ◌-◌, arith}
+use Rattle.lock_levels.proofs.Raised.{risen}
+use Rattle.lock_levels.proofs.MadeKinds.{kinds_from}
+use Rattle.lock_rising.proofs.rising.with_second.Goals as goal
+
+pub with_third-requires-clause-raised : goal.with_third-requires-clause-raised
+with_third-requires-clause-raised g c κs within =
+    risen c.args.level c.in-Ok.ensures.raised (c.args.level - 1 + 1) (omega (arith, c.if-level-eq0.false))
+
+pub with_third-requires-clause-kinds : goal.with_third-requires-clause-kinds
+with_third-requires-clause-kinds g c κs within =
+    let made = c.in-Ok.ensures in
+    let same : c.args.level ≡ c.args.level - 1 + 1 = omega (arith, c.if-level-eq0.false) in
+    kinds_from (λ b. b.lock) g.H.HasKinds.has_kinds c.args.plan.now.kinds c.args.level (c.args.level - 1 + 1) same
+    c.kind_at.result c.kind_at.ensures _ made.made _ c.args.high made.over c.requires.kinds
+
+pub work-requires-clause-kinds : goal.work-requires-clause-kinds
+work-requires-clause-kinds g c κs within =
+    let made = c.in-Ok.ensures in
+    kinds_from (λ b. b.lock) g.H.HasKinds.has_kinds c.args.plan.now.kinds c.args.level 0 c.if-level-eq0.true c.kind_at.result
+    c.kind_at.ensures _ made.made _ c.args.high made.over c.requires.kinds
