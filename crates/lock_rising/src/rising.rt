@@ -51,11 +51,13 @@ pub fn rise<P: Payload + Send + Sync, U: UnderLock<P, LowPass>>(
     plan: &Plan,
     shape: &Shape,
     root: Root<P>,
+    top: u32,
     work: U,
 ) -> U::Outcome
     requires kinds { length plan.now.kinds ≡ top_of shape.now + 1 }
-    requires some { 0 < top_of shape.now }
-    requires most { top_of shape.now ≤ 4 }
+    requires top { top_of shape.now ≡ top }
+    requires some { 0 < top }
+    requires most { top ≤ 4 }
     requires formed { IsWellFormed shape.now }
     requires callers { 0 < callers_of shape.now }
     requires few { callers_of shape.now < 2 ^ 32 }
@@ -66,7 +68,6 @@ pub fn rise<P: Payload + Send + Sync, U: UnderLock<P, LowPass>>(
 {
     passes_are_shared();
     top_passes_are_shared();
-    let top = (plan.kinds.as_slice().len() - 1) as u32;
     match make_top_of::<P>(alloc, plan, root, shape, top) {
         Ok((lock, passes)) => {
             with_second::<P, TopOf<P>, U>(alloc, plan, shape, lock, passes, top - 1, work)

@@ -1,7 +1,15 @@
-//! What a run is given.
+//! What a run is given, and the run under a lock that is ready.
+ghost use Rattle.std.specs.Prelude.{◌≡◌, ℕ, IfSome};
+ghost use Rattle.own_runner.specs.Runs.{IsLeft, MayRun};
+
+use clof_compose::{Composed, Resting, Root};
 use keep_local::{Shape, Share};
-use lock_levels::Plan;
+use lock_levels::{HasKinds, Plan};
+use lock_rising::UnderLock;
+use own_payload::{Lists, Noted, Serves, serve};
 use std::alloc::Global;
+use std::sync::Wait;
+use std::thread::Threads;
 
 /// What a run has beside its root and its lock.
 #[derive(Drop)]
@@ -14,4 +22,50 @@ pub(crate) struct Given<'r, S, R> {
     pub(crate) shares: Vec<Share>,
     /// What the callers do.
     pub(crate) server: &'r S,
+}
+
+impl<
+    'r,
+    Q: Resting + Send,
+    T: Send + Sync + Drop,
+    S: Serves<T> + Sync,
+    R: Threads + Wait + Sync,
+> UnderLock<Noted<T>, Q> for Given<'r, S, R>
+where
+    S::Task: Send,
+    S::Answer: Send,
+{
+    type Outcome = Option<Root<Noted<T>>>;
+
+    // the tag of the lock's root is for callers with these shares, and the server may be asked for each
+    ghost may = { λ given tag shape kinds. MayRun tag shape kinds given.shares.items × ((caller : ℕ) → S.may given.server.now caller) };
+
+    // a root that a run leaves, or there was no memory
+    ghost gives = { λ given tag left. IfSome left (IsLeft (S.stops given.server.now) tag) };
+
+    fn work<C: Composed<Noted<T>, Pass = Q> + HasKinds<Noted<T>> + Sync + Drop>(
+        self,
+        _plan: &Plan,
+        _shape: &Shape,
+        lock: C,
+        passes: Vec<Q>,
+    ) -> Option<Root<Noted<T>>>
+    where
+        C::Queue: Send,
+        C::Held: Send,
+        C::Leave: Send,
+    {
+        let Given {
+            rt,
+            alloc,
+            shares,
+            server,
+            ..
+        } = self;
+        serve(rt, alloc, lock, Lists { passes, shares }, server)
+    }
+
+    fn refused(self, _root: Root<Noted<T>>) -> Option<Root<Noted<T>>> {
+        None
+    }
 }

@@ -15,8 +15,8 @@ use fresh_runner::{
     FreshBook, FreshJob, Marked, fresh_books_may_be_sent, fresh_books_may_be_shared, fresh_root_of,
 };
 use keep_local::Shape;
-use lock_rules::Pass;
 use lock_levels::{LowPass, Plan};
+use lock_rules::Pass;
 use out_of_memory::OutOfMemory;
 use placed_runner::{Gate, Section};
 use std::alloc::Global;

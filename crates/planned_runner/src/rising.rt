@@ -1,25 +1,20 @@
-//! The levels of a run's lock, made from the top down.
-//!
-//! Each function adds one level below a lock of any type and hands on what it made. So none of them has a type of more than one level to
-//! compare, and what the checker makes of five levels is five times what it makes of one.
-ghost use Rattle.std.specs.Prelude.{◌≡◌, ◌+◌, ◌<◌, ◌≤◌, length, IfOk};
+//! A run's lock, made for its plan, and the run under it.
+ghost use Rattle.std.specs.Prelude.{◌≡◌, ◌<◌, ◌≤◌, IfOk};
 ghost use Rattle.keep_local.specs.Shapes.{callers_of, top_of};
 ghost use Rattle.clof_compose.specs.Courses.{course_of};
 ghost use Rattle.clof_compose.specs.Roots.{IsFit, root_tag};
-ghost use Rattle.lock_levels.specs.Raised.{IsRaised};
 ghost use Rattle.planned_runner.specs.Runs.{MayRun};
 
 use crate::commanded::Commanded;
 use crate::given::Given;
-use crate::under::run_under;
-use clof_compose::{Composed, Resting, Root, TopPass};
-use lock_rules::{Pass, passes_are_shared};
-use lock_levels::{
-    HasKinds, LevelOver, LowPass, TopOf, add_below, kind_at, low_passes_are_shared, make_top_of,
-    top_passes_are_shared,
-};
+use crate::under::Run;
+use clof_compose::{Root, TopPass};
+use lock_levels::LowPass;
+use lock_rising::{rise, rise_flat};
+use lock_rules::Pass;
 use out_of_memory::OutOfMemory;
 use placed_runner::Gate;
+use std::marker::PhantomData;
 use std::sync::Wait;
 use std::thread::Threads;
 
@@ -41,13 +36,12 @@ pub(crate) fn run_flat<
     requires may { MayRun (root_tag P.tag root) given.shape.now given.plan.now.kinds P.dealt given.brought }
     ensures { IfOk result (P.left (course_of (root_tag P.tag root))) }
 {
-    passes_are_shared();
-    match make_top_of::<P>(given.alloc, given.plan, root, given.shape, 0) {
-        Ok((lock, passes)) => {
-            run_under::<TopPass<Pass>, K, J, B, F, P, R, TopOf<P>, G>(given, lock, passes)
-        }
-        Err(_) => Err(OutOfMemory),
-    }
+    let (alloc, plan, shape) = (given.alloc, given.plan, given.shape);
+    let run = Run::<'r, K, J, B, F, R, G> {
+        given,
+        kind: PhantomData,
+    };
+    rise_flat::<P, Run<'r, K, J, B, F, R, G>>(alloc, plan, shape, root, run)
 }
 
 /// A run under a lock of two to five levels.
@@ -70,167 +64,10 @@ pub(crate) fn run_deep<
     requires may { MayRun (root_tag P.tag root) given.shape.now given.plan.now.kinds P.dealt given.brought }
     ensures { IfOk result (P.left (course_of (root_tag P.tag root))) }
 {
-    passes_are_shared();
-    top_passes_are_shared();
-    match make_top_of::<P>(given.alloc, given.plan, root, given.shape, top) {
-        Ok((lock, passes)) => {
-            with_second::<K, J, B, F, P, TopOf<P>, R, G>(given, lock, passes, top - 1)
-        }
-        Err(_) => Err(OutOfMemory),
-    }
-}
-
-// A run under a lock with a second level below this one, and with as many more as lie below it.
-fn with_second<
-    'r,
-    K: Sync,
-    J: Send + Drop,
-    B: Drop,
-    F,
-    P: Commanded<LowPass, K, J, B, F> + Send + Sync,
-    H: HasKinds<P> + Sync + Drop,
-    R: Threads + Wait + Sync,
-    G: Gate + Sync,
->(given: Given<'r, B, R, G>, high: H, passes: Vec<H::Pass>, level: u32) -> Result<F, OutOfMemory>
-where
-    H::Pass: Send + Sync,
-    H::Queue: Send,
-    H::Held: Send,
-    H::Leave: Send,
-    requires raised { IsRaised H.Pass.rest (H.has high) (H.sound high) (H.level high) (H.count high) (H.tag high) given.shape.now
-        (level + 1) (H.tag high) passes.items }
-    requires kinds { H.has_kinds high given.plan.now.kinds (level + 1) }
-    requires may { MayRun (H.tag high) given.shape.now given.plan.now.kinds P.dealt given.brought }
-    requires level { level < top_of given.shape.now }
-    requires most { level < 4 }
-    ensures { IfOk result (P.left (course_of (H.tag high))) }
-{
-    passes_are_shared();
-    low_passes_are_shared();
-    let kind = kind_at(given.plan, level);
-    match add_below::<P, H>(given.alloc, kind, given.shape, level, high, passes) {
-        Ok((lock, passes)) => {
-            if level == 0 {
-                run_under::<LowPass, K, J, B, F, P, R, LevelOver<P, H>, G>(given, lock, passes)
-            } else {
-                with_third::<K, J, B, F, P, LevelOver<P, H>, R, G>(given, lock, passes, level - 1)
-            }
-        }
-        Err(_) => Err(OutOfMemory),
-    }
-}
-
-// The same with a third level.
-fn with_third<
-    'r,
-    K: Sync,
-    J: Send + Drop,
-    B: Drop,
-    F,
-    P: Commanded<LowPass, K, J, B, F> + Send + Sync,
-    H: HasKinds<P> + Sync + Drop,
-    R: Threads + Wait + Sync,
-    G: Gate + Sync,
->(given: Given<'r, B, R, G>, high: H, passes: Vec<H::Pass>, level: u32) -> Result<F, OutOfMemory>
-where
-    H::Pass: Send + Sync,
-    H::Queue: Send,
-    H::Held: Send,
-    H::Leave: Send,
-    requires raised { IsRaised H.Pass.rest (H.has high) (H.sound high) (H.level high) (H.count high) (H.tag high) given.shape.now
-        (level + 1) (H.tag high) passes.items }
-    requires kinds { H.has_kinds high given.plan.now.kinds (level + 1) }
-    requires may { MayRun (H.tag high) given.shape.now given.plan.now.kinds P.dealt given.brought }
-    requires level { level < top_of given.shape.now }
-    requires most { level < 3 }
-    ensures { IfOk result (P.left (course_of (H.tag high))) }
-{
-    passes_are_shared();
-    low_passes_are_shared();
-    let kind = kind_at(given.plan, level);
-    match add_below::<P, H>(given.alloc, kind, given.shape, level, high, passes) {
-        Ok((lock, passes)) => {
-            if level == 0 {
-                run_under::<LowPass, K, J, B, F, P, R, LevelOver<P, H>, G>(given, lock, passes)
-            } else {
-                with_fourth::<K, J, B, F, P, LevelOver<P, H>, R, G>(given, lock, passes, level - 1)
-            }
-        }
-        Err(_) => Err(OutOfMemory),
-    }
-}
-
-// The same with a fourth level.
-fn with_fourth<
-    'r,
-    K: Sync,
-    J: Send + Drop,
-    B: Drop,
-    F,
-    P: Commanded<LowPass, K, J, B, F> + Send + Sync,
-    H: HasKinds<P> + Sync + Drop,
-    R: Threads + Wait + Sync,
-    G: Gate + Sync,
->(given: Given<'r, B, R, G>, high: H, passes: Vec<H::Pass>, level: u32) -> Result<F, OutOfMemory>
-where
-    H::Pass: Send + Sync,
-    H::Queue: Send,
-    H::Held: Send,
-    H::Leave: Send,
-    requires raised { IsRaised H.Pass.rest (H.has high) (H.sound high) (H.level high) (H.count high) (H.tag high) given.shape.now
-        (level + 1) (H.tag high) passes.items }
-    requires kinds { H.has_kinds high given.plan.now.kinds (level + 1) }
-    requires may { MayRun (H.tag high) given.shape.now given.plan.now.kinds P.dealt given.brought }
-    requires level { level < top_of given.shape.now }
-    requires most { level < 2 }
-    ensures { IfOk result (P.left (course_of (H.tag high))) }
-{
-    passes_are_shared();
-    low_passes_are_shared();
-    let kind = kind_at(given.plan, level);
-    match add_below::<P, H>(given.alloc, kind, given.shape, level, high, passes) {
-        Ok((lock, passes)) => {
-            if level == 0 {
-                run_under::<LowPass, K, J, B, F, P, R, LevelOver<P, H>, G>(given, lock, passes)
-            } else {
-                with_fifth::<K, J, B, F, P, LevelOver<P, H>, R, G>(given, lock, passes)
-            }
-        }
-        Err(_) => Err(OutOfMemory),
-    }
-}
-
-// The same with a fifth level, which is the lowest.
-fn with_fifth<
-    'r,
-    K: Sync,
-    J: Send + Drop,
-    B: Drop,
-    F,
-    P: Commanded<LowPass, K, J, B, F> + Send + Sync,
-    H: HasKinds<P> + Sync + Drop,
-    R: Threads + Wait + Sync,
-    G: Gate + Sync,
->(given: Given<'r, B, R, G>, high: H, passes: Vec<H::Pass>) -> Result<F, OutOfMemory>
-where
-    H::Pass: Send + Sync,
-    H::Queue: Send,
-    H::Held: Send,
-    H::Leave: Send,
-    requires raised { IsRaised H.Pass.rest (H.has high) (H.sound high) (H.level high) (H.count high) (H.tag high) given.shape.now
-        1 (H.tag high) passes.items }
-    requires kinds { H.has_kinds high given.plan.now.kinds 1 }
-    requires may { MayRun (H.tag high) given.shape.now given.plan.now.kinds P.dealt given.brought }
-    requires top { 0 < top_of given.shape.now }
-    ensures { IfOk result (P.left (course_of (H.tag high))) }
-{
-    passes_are_shared();
-    low_passes_are_shared();
-    let kind = kind_at(given.plan, 0);
-    match add_below::<P, H>(given.alloc, kind, given.shape, 0, high, passes) {
-        Ok((lock, passes)) => {
-            run_under::<LowPass, K, J, B, F, P, R, LevelOver<P, H>, G>(given, lock, passes)
-        }
-        Err(_) => Err(OutOfMemory),
-    }
+    let (alloc, plan, shape) = (given.alloc, given.plan, given.shape);
+    let run = Run::<'r, K, J, B, F, R, G> {
+        given,
+        kind: PhantomData,
+    };
+    rise::<P, Run<'r, K, J, B, F, R, G>>(alloc, plan, shape, root, top, run)
 }

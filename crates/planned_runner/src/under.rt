@@ -1,13 +1,15 @@
 //! A run under a lock that is ready, of any depth.
 ghost use Rattle.std.specs.Prelude.{◌≡◌, ℕ, IfOk};
 ghost use Rattle.clof_compose.specs.Courses.{course_of};
-ghost use Rattle.planned_runner.specs.Runs.{IsSet};
+ghost use Rattle.planned_runner.specs.Runs.{IsSet, MayRun};
 
 use crate::commanded::{Commanded, Dealt, Served};
 use crate::given::Given;
-use clof_compose::{Composed, Resting};
+use clof_compose::{Composed, Resting, Root};
+use keep_local::Shape;
+use lock_levels::{HasKinds, Plan};
+use lock_rising::UnderLock;
 use lock_threads::{Works, by_all};
-use lock_levels::HasKinds;
 use out_of_memory::OutOfMemory;
 use placed_runner::Gate;
 use std::alloc::Global;
@@ -73,35 +75,58 @@ where
     P::gather::<C, G, R>(rt, lock, gate, floor, jobs, aside)
 }
 
-/// A run under a lock that is ready and whose levels have the plan's kinds, which is then taken apart.
-pub(crate) fn run_under<
+/// A run, for whatever lock its plan comes to. The threads have a floor K before them and do jobs J, and the run leaves F.
+#[derive(Drop)]
+pub(crate) struct Run<'r, K, J, B, F, R, G> {
+    pub(crate) given: Given<'r, B, R, G>,
+    pub(crate) kind: PhantomData<(K, J, F)>,
+}
+
+impl<
     'r,
     Q: Resting + Send,
     K: Sync,
     J: Send + Drop,
-    B,
+    B: Drop,
     F,
     P: Commanded<Q, K, J, B, F> + Send + Sync,
     R: Threads + Wait + Sync,
-    C: Composed<P, Pass = Q> + HasKinds<P> + Sync + Drop,
     G: Gate + Sync,
->(given: Given<'r, B, R, G>, lock: C, passes: Vec<Q>) -> Result<F, OutOfMemory>
-where
-    C::Queue: Send,
-    C::Held: Send,
-    C::Leave: Send,
-    requires set { IsSet Q.rest (C.has lock) (C.sound lock) (C.level lock) (C.count lock) (C.tag lock) P.dealt given.brought
-        passes.items }
-    requires kinds { C.has_kinds lock given.plan.now.kinds 0 }
-    ensures { IfOk result (P.left (course_of (C.tag lock))) }
-{
-    let Given {
-        rt,
-        alloc,
-        brought,
-        gate,
-        ..
-    } = given;
-    let crew = run_threads::<Q, K, J, B, F, P, R, C, G>(rt, alloc, &lock, passes, brought, gate);
-    P::close::<C>(lock, crew)
+> UnderLock<P, Q> for Run<'r, K, J, B, F, R, G> {
+    type Outcome = Result<F, OutOfMemory>;
+
+    // the tag of the lock's root is for the callers of the run
+    ghost may = { λ run tag shape kinds. MayRun tag shape kinds P.dealt run.given.brought };
+
+    // what a run leaves, or there was no memory
+    ghost gives = { λ _ tag result. IfOk result (P.left (course_of tag)) };
+
+    fn work<C: Composed<P, Pass = Q> + HasKinds<P> + Sync + Drop>(
+        self,
+        _plan: &Plan,
+        _shape: &Shape,
+        lock: C,
+        passes: Vec<Q>,
+    ) -> Result<F, OutOfMemory>
+    where
+        C::Queue: Send,
+        C::Held: Send,
+        C::Leave: Send,
+    {
+        let Given {
+            rt,
+            alloc,
+            brought,
+            gate,
+            ..
+        } = self.given;
+        let crew = run_threads::<Q, K, J, B, F, P, R, C, G>(
+            rt, alloc, &lock, passes, brought, gate,
+        );
+        P::close::<C>(lock, crew)
+    }
+
+    fn refused(self, _root: Root<P>) -> Result<F, OutOfMemory> {
+        Err(OutOfMemory)
+    }
 }

@@ -1,4 +1,4 @@
--- How a lock stands whose callers may begin, and what it is made by.
+-- How a lock stands whose callers may begin, what it is made by, and what a trial leaves.
 use Rattle.std.specs.Prelude.{◌≡◌, ℕ, ◌+◌, ◌<◌, ◌^◌, List, length}
 use Rattle.lock_rules.specs.Tag.{Tag}
 use Rattle.keep_local.specs.declared.shape.Shape.{Shape}
@@ -9,6 +9,8 @@ use Rattle.clof_compose.specs.Contexts.{Context}
 use Rattle.clof_compose.specs.Courses.{Course, course_of}
 use Rattle.clof_compose.specs.Meanings.{Rest}
 use Rattle.clof_compose.specs.Passes.{AreAll}
+use Rattle.clof_compose.specs.Roots.{IsFit, root_tag}
+use Rattle.clof_compose.specs.declared.root.Root.{Root}
 use Rattle.level_harness.specs.Rooms.{HasRoom}
 
 -- a trail has a quota for each caller, these are all its shares, and the payload has room for all calls
@@ -33,3 +35,8 @@ pub record MayTry (tag : Tag) (shape : Shape) (kinds : List LockKind) (shares : 
   pub shape_is : (course_of tag).shape ≡ shape
   pub kinds_each : length kinds ≡ top_of shape + 1
   pub dealt : IsDealt (course_of tag) shares
+
+-- a trial leaves a fit root with the tag of its lock
+pub record IsLeft {P : Type 0} (calls : P → List ℕ) (tag_of : P → Tag) (tag : Tag) (root : Root P) : Type 0 where
+  pub fit : IsFit calls root
+  pub tagged : root_tag tag_of root ≡ tag

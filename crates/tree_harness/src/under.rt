@@ -1,15 +1,17 @@
 //! A trial of a lock that is ready, of any number of levels.
 ghost use Rattle.std.specs.Prelude.{◌≡◌, IfSome};
 ghost use Rattle.clof_compose.specs.Roots.{IsFit, root_tag};
-ghost use Rattle.tree_harness.specs.Ready.{IsReady};
+ghost use Rattle.tree_harness.specs.Ready.{IsLeft, IsReady, MayTry};
 ghost use Rattle.tree_harness.specs.Shifts.{HasWorked, MayWork};
 
 use crate::given::{Given, Trial};
 use crate::outcome::{End, Outcome};
 use crate::tried::{Dealt, Tried};
 use clof_compose::{Composed, Resting, Root};
-use keep_local::Share;
+use keep_local::{Shape, Share};
 use level_harness::Job;
+use lock_levels::{HasKinds, Plan};
+use lock_rising::UnderLock;
 use lock_threads::{Works, by_all};
 use std::alloc::Global;
 use std::marker::PhantomData;
@@ -65,38 +67,52 @@ where
     P::finish::<C>(lock, Dealt { jobs, passes })
 }
 
-/// A trial of a lock that is ready, which is then taken apart.
-pub(crate) fn try_under<
-    'r,
-    Q: Resting + Send,
-    P: Tried<Q> + Send + Sync,
-    R: Threads + Wait + Sync,
-    C: Composed<P, Pass = Q> + Sync + Drop,
->(given: Given<'r, R>, lock: C, passes: Vec<Q>) -> Option<Outcome<P>>
-where
-    C::Queue: Send,
-    C::Held: Send,
-    C::Leave: Send,
-    requires { IsReady Q.rest (C.has lock) (C.sound lock) (C.level lock) (C.count lock) (C.tag lock) passes.items given.shares.items }
-    ensures fit { IfSome result (λ o. IsFit P.calls o.root) }
-    ensures tagged { IfSome result (λ o. root_tag P.tag o.root ≡ C.tag lock) }
-{
-    let Given {
-        rt,
-        alloc,
-        shares,
-        trial,
-        ..
-    } = given;
-    match trial {
-        Trial::Walk(order) => P::walk::<C, R>(rt, alloc, lock, passes, shares, order),
-        Trial::Hold => {
-            match hold_under::<Q, P, R, C>(rt, alloc, lock, passes, shares) {
-                Some(root) => Some(done(root)),
-                None => None,
+impl<'r, Q: Resting + Send, P: Tried<Q> + Send + Sync, R: Threads + Wait + Sync> UnderLock<P, Q>
+    for Given<'r, R> {
+    type Outcome = Option<Outcome<P>>;
+
+    // the tag of the lock's root is for callers with these shares
+    ghost may = { λ given tag shape kinds. MayTry tag shape kinds given.shares.items };
+
+    // the root that comes back is fit and has this tag
+    ghost gives = { λ _ tag outcome. IfSome outcome (λ o. IsLeft P.calls P.tag tag o.root) };
+
+    fn work<C: Composed<P, Pass = Q> + HasKinds<P> + Sync + Drop>(
+        self,
+        _plan: &Plan,
+        _shape: &Shape,
+        lock: C,
+        passes: Vec<Q>,
+    ) -> Option<Outcome<P>>
+    where
+        C::Queue: Send,
+        C::Held: Send,
+        C::Leave: Send,
+    {
+        let Given {
+            rt,
+            alloc,
+            shares,
+            trial,
+            ..
+        } = self;
+        match trial {
+            Trial::Walk(order) => P::walk::<C, R>(rt, alloc, lock, passes, shares, order),
+            Trial::Hold => {
+                match hold_under::<Q, P, R, C>(rt, alloc, lock, passes, shares) {
+                    Some(root) => Some(done(root)),
+                    None => None,
+                }
             }
+            Trial::Close => Some(done(lock.close(passes))),
         }
-        Trial::Close => Some(done(lock.close(passes))),
+    }
+
+    fn refused(self, root: Root<P>) -> Option<Outcome<P>> {
+        Some(Outcome {
+            root,
+            end: End::Refused,
+        })
     }
 }
 

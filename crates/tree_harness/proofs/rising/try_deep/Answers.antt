@@ -1,0 +1,8 @@
+use Rattle.level_harness.proofs.Making.{if_some}
+use Rattle.tree_harness.proofs.rising.try_deep.Goals as goal
+
+pub returns-clause-fit : goal.returns-clause-fit
+returns-clause-fit g c = if_some _ _ c.rise.result (λ o left. left.fit) c.rise.ensures
+
+pub returns-clause-tagged : goal.returns-clause-tagged
+returns-clause-tagged g c = if_some _ _ c.rise.result (λ o left. left.tagged) c.rise.ensures
