@@ -62,12 +62,6 @@ leads_end views [] first last id w at p e = λ u at'.
     (ap (λ (x : View). x.predecessor) (sym same) ∙ p ∙ e, ap (λ (x : View). x.node) same)
 leads_end views (j ∷ js) first last id w at p l = λ u at'. let r = l u at' in (r.0, leads_end views js u.node last id w at p r.1)
 
--- where the queue is empty, the last node is the first
-pub leads_none : (name : ℕ → ℕ) (views : List View) (seats : List ℕ) (first last : ℕ) → map name seats ≡ []
-    → Leads views first seats last → last ≡ first
-leads_none name views [] first last none_there l = l
-leads_none name views (j ∷ js) first last none_there l = absurd (cc)
-
 module _ (views : List View) where
   abbrev pub AllBusy : List ℕ → Type 0
   AllBusy seats = (i j : ℕ) → get_elem? seats i ≡ some j → IsBusyAt false views j

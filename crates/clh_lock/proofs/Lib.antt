@@ -2,4 +2,3 @@ pub mod Nodes
 pub mod Chain
 pub mod Queue
 pub mod Kept
-pub mod Owners

@@ -26,7 +26,6 @@
 //!
 //! `waiting`, `tail` and the flags stand on lines of their own in one `LockWords`. `specs/Rule` says what holds of `tail` and the flags,
 //! `specs/Kinds` has the kinds of step: the word, what a step does to it and to the view of its seat, and its event in the queue.
-//! `specs/Nodes` has what the rule says of the nodes.
 #![tactic(auto)]
 
 mod kinds;
@@ -34,5 +33,5 @@ mod laws;
 mod lock;
 
 pub use kinds::{FetchAndStoreTail, LoadTail, LoadWatched, StoreGranted, StorePending};
-pub use laws::{ClhWords, rule_has_nodes};
+pub use laws::ClhWords;
 pub use lock::Clh;

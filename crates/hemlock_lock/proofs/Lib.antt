@@ -2,4 +2,3 @@ pub mod Chains
 pub mod Queue
 pub mod Kept
 pub mod Tokens
-pub mod Grants

@@ -1,4 +1,4 @@
--- What the holder of a Hemlock asked, and how it left.
+-- How the holder of a Hemlock left.
 use Rattle.std.proofs.Common.{◌≡◌, ◌≢◌, ℕ, Bool, [], ◌∷◌, Some, refl, ap, sym, ◌∙◌, subst}
 use Rattle.atomic_table.specs.Table.{rest}
 use Rattle.atomic_table.specs.declared.badge.Badge.{Badge}
@@ -9,25 +9,10 @@ use Rattle.lock_rules.specs.Views.{IsPlain}
 use Rattle.lock_rules.specs.declared.held.Held.{Held}
 use Rattle.lock_rules.specs.declared.view.Phase.TheVariants.{Leaving}
 use Rattle.lock_rules.specs.declared.view.View.{View}
-use Rattle.lock_rules.specs.declared.view.Waiters.{Waiters}
-use Rattle.lock_rules.specs.declared.view.Waiters.TheVariants.{Queue, Count}
-use Rattle.lock_tables.specs.Counting.{is_announced, Counted}
 use Rattle.lock_tables.specs.Happened.{Seated, missed_view}
 use Rattle.lock_tables.proofs.Seats.{alike, alike_plain}
-use Rattle.hemlock_lock.specs.Calls.{Asks, HasMade, HasGranted, HasWaited}
-use Rattle.hemlock_lock.specs.Kinds.{own_name, followed_view, left_view, others_wait, load_tail, exchange_tail, store_grant, load_grant}
-use Rattle.hemlock_lock.specs.Rule.{hemlock_discipline}
-
-module _ {V : Type 0} (fit : V → Type 0) (tag_of : V → Tag) (parked : V → Bool) (c : Waiters) (before now : Held V) (found : ℕ)
-    (answer : Bool) where
-  pub asked_tail : c ≡ Queue → answer ≡ others_wait (held_view before) found
-      → HasMade fit tag_of parked load_tail before.seat.seat.me found now.seat.seat.me → Asks fit tag_of parked c before now answer
-  asked_tail e told step = subst (λ (w : Waiters). Asks fit tag_of parked w before now answer) (sym e) (found, told, step)
-
-  pub asked_count : c ≡ Count → answer ≡ is_announced found
-      → Counted hemlock_discipline fit tag_of parked before.seat.seat.me found now.seat.seat.me
-      → Asks fit tag_of parked c before now answer
-  asked_count e told step = subst (λ (w : Waiters). Asks fit tag_of parked w before now answer) (sym e) (found, told, step)
+use Rattle.hemlock_lock.specs.Calls.{HasMade, HasGranted, HasWaited}
+use Rattle.hemlock_lock.specs.Kinds.{own_name, followed_view, left_view, exchange_tail, store_grant, load_grant}
 
 module _ {V : Type 0} (fit : V → Type 0) (tag_of : V → Tag) (parked : V → Bool) where
   -- behind the exchange that found another, and the store of the grant

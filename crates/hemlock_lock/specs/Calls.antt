@@ -7,9 +7,8 @@ use Rattle.lock_rules.specs.Tokens.{view_of}
 use Rattle.lock_rules.specs.declared.held.Held.{Held}
 use Rattle.lock_rules.specs.declared.view.Phase.TheVariants.{Leaving}
 use Rattle.lock_rules.specs.declared.view.View.{View}
-use Rattle.lock_rules.specs.declared.view.Waiters.{Waiters}
-use Rattle.lock_rules.specs.declared.view.Waiters.TheVariants.{Queue, Count}
-use Rattle.lock_tables.specs.Counting.{is_announced, Counted, HasAnnounced, HasWithdrawn}
+use Rattle.lock_tables.specs.Calls.{HasMissedBy, HasAskedBy}
+use Rattle.lock_tables.specs.Counting.{HasAnnounced, HasWithdrawn}
 use Rattle.lock_tables.specs.Happened.{Seated, announced_view}
 use Rattle.lock_tables.specs.Kinds.{StepKind, Made}
 use Rattle.hemlock_lock.specs.Kinds.{own_name, entered_view, granted_view, cleared_view, followed_view, left_view, others_wait, swap_tail}
@@ -48,7 +47,7 @@ module _ {V : Type 0} (fit : V → Type 0) (tag_of : V → Tag) (parked : V → 
 
   -- a load of the predecessor's grant that did not show 1
   abbrev pub HasMissed : Badge View → Badge View → Type 0
-  HasMissed before now = (found : ℕ) × (found ≢ 1) × HasMade load_predecessor_grant (view_of before, []) found (view_of now, [])
+  HasMissed = HasMissedBy hemlock_discipline fit tag_of parked load_predecessor_grant (λ v. 1)
 
   -- a load of the predecessor's grant that showed 1, and the store of 0 there; the value that was at home is the holder's, which is no
   -- longer announced
@@ -61,16 +60,9 @@ module _ {V : Type 0} (fit : V → Type 0) (tag_of : V → Tag) (parked : V → 
         (cleared_view (granted_view (view_of before)), (0, Some after.value) ∷ [])
     pub withdrawn : HasWithdrawnLast (cleared_view (granted_view (view_of before))) after
 
-  -- by a load of `tail`, where the answer is yes exactly where it named another than the holder, or in a lock that counts by one of
-  -- `waiting`, where the answer is yes exactly where somebody is announced
-  abbrev pub Asks : Waiters → Held V → Held V → Bool → Type 0
-  Asks Queue before now answer = (found : ℕ) × (answer ≡ others_wait (held_view before) found)
-      × HasMade load_tail before.seat.seat.me found now.seat.seat.me
-  Asks Count before now answer = (found : ℕ) × (answer ≡ is_announced found)
-      × Counted hemlock_discipline fit tag_of parked before.seat.seat.me found now.seat.seat.me
-
+  -- a load of `tail`, with a yes exactly where it named another than the holder; in a counted lock a load of `waiting`
   abbrev pub HasAsked : Held V → Held V → Bool → Type 0
-  HasAsked before now answer = Asks (held_view before).waiters before now answer
+  HasAsked before = HasAskedBy hemlock_discipline fit tag_of parked load_tail others_wait (held_view before).waiters before
 
   -- the exchange of `tail` from the own name to 0; the holder's value is at home then
   abbrev pub HasLeft : Held V → Badge View → Type 0

@@ -11,6 +11,7 @@ pub struct SwapTail;
 impl KindOf<HemlockWords> for SwapTail {
     ghost kind = { swap_tail };
 
+    #[tactic(auto, using(crate::proofs::Kept::swaps))]
     fn is_kept() {}
 }
 
@@ -20,6 +21,7 @@ pub struct LoadPredecessorGrant;
 impl KindOf<HemlockWords> for LoadPredecessorGrant {
     ghost kind = { load_predecessor_grant };
 
+    #[tactic(auto, using(crate::proofs::Kept::polls))]
     fn is_kept() {}
 }
 
@@ -29,6 +31,7 @@ pub struct ClearPredecessorGrant;
 impl KindOf<HemlockWords> for ClearPredecessorGrant {
     ghost kind = { clear_predecessor_grant };
 
+    #[tactic(auto, using(crate::proofs::Kept::clears))]
     fn is_kept() {}
 }
 
@@ -38,6 +41,7 @@ pub struct LoadTail;
 impl KindOf<HemlockWords> for LoadTail {
     ghost kind = { load_tail };
 
+    #[tactic(auto, using(crate::proofs::Kept::waits))]
     fn is_kept() {}
 }
 
@@ -47,6 +51,7 @@ pub struct ExchangeTail;
 impl KindOf<HemlockWords> for ExchangeTail {
     ghost kind = { exchange_tail };
 
+    #[tactic(auto, using(crate::proofs::Kept::exchanges))]
     fn is_kept() {}
 }
 
@@ -56,6 +61,7 @@ pub struct StoreGrant;
 impl KindOf<HemlockWords> for StoreGrant {
     ghost kind = { store_grant };
 
+    #[tactic(auto, using(crate::proofs::Kept::grants))]
     fn is_kept() {}
 }
 
@@ -65,5 +71,6 @@ pub struct LoadGrant;
 impl KindOf<HemlockWords> for LoadGrant {
     ghost kind = { load_grant };
 
+    #[tactic(auto, using(crate::proofs::Kept::looks))]
     fn is_kept() {}
 }

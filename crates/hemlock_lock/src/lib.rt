@@ -23,7 +23,7 @@
 //! sequentially consistent operation on one word.
 //!
 //! `tail` and the grants stand on lines of their own in one `LockWords`. `specs/Rule` says what holds of them, `specs/Kinds` has the
-//! kinds of step, `specs/Calls` what each call did, and `specs/Grants` what follows of the passes that leave.
+//! kinds of step, and `specs/Calls` what each call did.
 #![tactic(auto)]
 
 mod kinds;
@@ -35,6 +35,6 @@ pub use kinds::{
     ClearPredecessorGrant, ExchangeTail, LoadGrant, LoadPredecessorGrant, LoadTail, StoreGrant,
     SwapTail,
 };
-pub use laws::{HemlockWords, rule_has_grants};
+pub use laws::HemlockWords;
 pub use leave::Leave;
 pub use lock::Hemlock;

@@ -1,5 +1,5 @@
 //! The lock and its calls.
-ghost use Rattle.std.specs.Prelude.{◌≡◌, ◌≢◌, ◌+◌, ◌≤◌, ◌<◌, ◌^◌, ◌⊎◌, [], true, false, refl};
+ghost use Rattle.std.specs.Prelude.{◌≡◌, ◌≢◌, ◌+◌, ◌≤◌, ◌<◌, ◌⊎◌, [], true, false, refl};
 ghost use Rattle.lock_rules.specs.declared.view.Algorithm.TheVariants.{Hemlock as hemlock_algorithm};
 ghost use Rattle.lock_rules.specs.declared.step.Answer.TheVariants.{Open, Yes};
 ghost use Rattle.lock_rules.specs.Rows.{row_of};
@@ -9,7 +9,6 @@ ghost use Rattle.lock_rules.specs.Steps.{IfNot, IfGot};
 ghost use Rattle.lock_rules.specs.Passes.{IsOf, AreAll};
 ghost use Rattle.lock_rules.specs.Tokens.{view_of, badge_place, badge_waiting};
 ghost use Rattle.lock_tables.specs.Happened.{counting};
-ghost use Rattle.lock_tables.specs.Seats.{IsSized};
 ghost use Rattle.lock_tables.specs.Words.{words_key, words_table, IsOwnOf, IsSeatIn};
 ghost use Rattle.hemlock_lock.specs.Calls.{HasQueued, HasTakenAtOnce, HasMissed, HasTaken, HasAsked, HasReleased, HasBegunToLeave};
 ghost use Rattle.hemlock_lock.specs.Calls.{HasDone, HasWaited};
@@ -33,8 +32,6 @@ const TAIL: usize = 16;
 #[derive(Drop)]
 pub struct Hemlock<V: Cargo> {
     words: LockWords<V, HemlockWords>,
-    ghost sized: { IsSized hemlock_algorithm (words_key words).passes (words_table words) },
-    ghost few: { (words_key words).passes < 2 ^ 32 },
 }
 
 impl<V: Cargo> Hemlock<V> {
@@ -259,7 +256,7 @@ impl<V: Cargo> Basic<V> for Hemlock<V> {
         ensures tagged { V.tag result ≡ V.tag (words_key self.words).value.value }
         ensures unparked { V.parked result ≡ false }
     {
-        let Hemlock { words, .. } = self;
+        let Hemlock { words } = self;
         words.close(passes)
     }
 }

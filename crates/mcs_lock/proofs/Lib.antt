@@ -1,6 +1,4 @@
 pub mod Places
 pub mod Queue
 pub mod Links
-pub mod Words
-pub mod Tokens
 pub mod Kept

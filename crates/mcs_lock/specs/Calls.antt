@@ -6,10 +6,9 @@ use Rattle.lock_rules.specs.Tag.{Tag}
 use Rattle.lock_rules.specs.Tokens.{view_of}
 use Rattle.lock_rules.specs.declared.held.Held.{Held}
 use Rattle.lock_rules.specs.declared.view.View.{View}
-use Rattle.lock_rules.specs.declared.view.Waiters.{Waiters}
-use Rattle.lock_rules.specs.declared.view.Waiters.TheVariants.{Queue, Count}
-use Rattle.lock_tables.specs.Counting.{is_announced, Counted, HasAnnounced, HasWithdrawn}
-use Rattle.lock_tables.specs.Happened.{Seated, took_view, announced_view}
+use Rattle.lock_tables.specs.Calls.{HasMissedBy, HasTakenBy, HasAskedBy}
+use Rattle.lock_tables.specs.Counting.{HasAnnounced, HasWithdrawn}
+use Rattle.lock_tables.specs.Happened.{Seated, announced_view}
 use Rattle.lock_tables.specs.Kinds.{StepKind, Made}
 use Rattle.mcs_lock.specs.Kinds.{cleared_view, raised_view, queued_view, entered_view, looked_view, others_wait, store_next, store_locked}
 use Rattle.mcs_lock.specs.Kinds.{fetch_and_store_tail, store_predecessor_next, load_locked, load_tail, load_next, store_successor_locked}
@@ -51,43 +50,26 @@ module _ {V : Type 0} (fit : V → Type 0) (tag_of : V → Tag) (parked : V → 
     pub entered : HasMade fetch_and_store_tail (ready_view (view_of before), []) found (queued_view (ready_view (view_of before)) found, [])
     pub linked : HasStored store_predecessor_next (queued_view (ready_view (view_of before)) found, []) (view_of after, [])
 
-  -- where the lock counts, the subtraction from `waiting`, by a pass that has taken and has its value in hand
-  abbrev pub HasTold : View → Held V → Type 0
-  HasTold taken after =
-      HasWithdrawn mcs_discipline fit tag_of parked taken.waiters (taken, (0, None) ∷ []) (held_view after, (0, None) ∷ [])
-
-  -- the swap, which found none; the value that was at home is the holder's
+  -- the swap, which found none; the value that was at home is the holder's. In a counted lock the subtraction from `waiting` is last
   pub record HasEnteredAndTaken (before : Badge View) (after : Held V) : Type 0 where
     pub prepared : HasPrepared (view_of before)
     pub found : ℕ
     pub alone : found ≡ 0
     pub entered : HasMade fetch_and_store_tail (ready_view (view_of before), []) found
         (entered_view (ready_view (view_of before)), (0, Some after.value) ∷ [])
-    pub told : HasTold (entered_view (ready_view (view_of before))) after
+    pub withdrawn : HasWithdrawn mcs_discipline fit tag_of parked (view_of before).waiters
+        (entered_view (ready_view (view_of before)), (0, None) ∷ []) (held_view after, (0, None) ∷ [])
 
-  -- a load of own `locked` that was not 0
-  pub record HasMissed (before after : Badge View) : Type 0 where
-    pub found : ℕ
-    pub other : found ≢ 0
-    pub step : HasMade load_locked (view_of before, []) found (view_of after, [])
+  -- a load of own `locked` that was not 0, and one that was
+  abbrev pub HasMissed : Badge View → Badge View → Type 0
+  HasMissed = HasMissedBy mcs_discipline fit tag_of parked load_locked (λ v. 0)
 
-  -- a load of own `locked` that was 0; the value that was at home is the holder's
-  pub record HasTaken (before : Badge View) (after : Held V) : Type 0 where
-    pub found : ℕ
-    pub free : found ≡ 0
-    pub step : HasMade load_locked (view_of before, []) found (took_view (view_of before), (0, Some after.value) ∷ [])
-    pub told : HasTold (took_view (view_of before)) after
+  abbrev pub HasTaken : Badge View → Held V → Type 0
+  HasTaken = HasTakenBy mcs_discipline fit tag_of parked load_locked (λ v. 0)
 
-  -- a load of `tail`, with a yes exactly where it did not name the holder, or in a lock that counts a load of `waiting`, with a yes exactly
-  -- where it was not 0
-  abbrev pub HasAskedBy : Waiters → Held V → Held V → Bool → Type 0
-  HasAskedBy Queue before now answer = (found : ℕ) × (answer ≡ others_wait (held_view before) found)
-      × HasMade load_tail before.seat.seat.me found now.seat.seat.me
-  HasAskedBy Count before now answer = (found : ℕ) × (answer ≡ is_announced found)
-      × Counted mcs_discipline fit tag_of parked before.seat.seat.me found now.seat.seat.me
-
+  -- a load of `tail`, with a yes exactly where it did not name the holder; in a counted lock a load of `waiting`
   abbrev pub HasAsked : Held V → Held V → Bool → Type 0
-  HasAsked before now answer = HasAskedBy (held_view before).waiters before now answer
+  HasAsked before = HasAskedBy mcs_discipline fit tag_of parked load_tail others_wait (held_view before).waiters before
 
   -- a load of own `next`, which named a successor, and the store of its `locked`
   pub record HasPassed (me : Seated V) (after : Badge View) : Type 0 where

@@ -41,6 +41,6 @@ pub use kinds::{
     CompareAndSwapTail, FetchAndStoreTail, LoadLocked, LoadNext, LoadTail, StoreLocked, StoreNext,
     StorePredecessorNext, StoreSuccessorLocked,
 };
-pub use laws::{McsWords, rule_has_links};
+pub use laws::McsWords;
 pub use leave::Leave;
 pub use lock::Mcs;

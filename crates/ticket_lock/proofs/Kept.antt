@@ -88,12 +88,7 @@ pub polls : IsKept ticket_discipline load_serving
 polls = record {
   noted = λ v found. (
     record { same = refl; steps = refl; entered = refl; read = refl },
-    record {
-      same = refl;
-      steps = refl;
-      entered = refl;
-      read = refl;
-    },
+    record { same = refl; steps = refl; entered = refl; read = refl },
   );
   keeps = λ s asks low. record {
     apart = λ e. omega arith;

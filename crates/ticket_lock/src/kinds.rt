@@ -10,6 +10,7 @@ pub struct AddNext;
 impl KindOf<TicketWords> for AddNext {
     ghost kind = { add_next };
 
+    #[tactic(auto, using(crate::proofs::Kept::adds))]
     fn is_kept() {}
 }
 
@@ -19,6 +20,7 @@ pub struct LoadServing;
 impl KindOf<TicketWords> for LoadServing {
     ghost kind = { load_serving };
 
+    #[tactic(auto, using(crate::proofs::Kept::polls))]
     fn is_kept() {}
 }
 
@@ -28,6 +30,7 @@ pub struct LoadNext;
 impl KindOf<TicketWords> for LoadNext {
     ghost kind = { load_next };
 
+    #[tactic(auto, using(crate::proofs::Kept::waits))]
     fn is_kept() {}
 }
 
@@ -37,5 +40,6 @@ pub struct StoreServing;
 impl KindOf<TicketWords> for StoreServing {
     ghost kind = { store_serving };
 
+    #[tactic(auto, using(crate::proofs::Kept::gives_back))]
     fn is_kept() {}
 }

@@ -23,5 +23,5 @@ mod laws;
 mod lock;
 
 pub use kinds::{AddNext, LoadNext, LoadServing, StoreServing};
-pub use laws::{TicketWords, rule_has_distances};
+pub use laws::TicketWords;
 pub use lock::Ticket;

@@ -1,0 +1,4 @@
+pub mod Distances
+pub mod Grants
+pub mod Links
+pub mod Nodes
