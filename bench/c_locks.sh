@@ -1,9 +1,10 @@
 #!/usr/bin/env bash
-# Times holds through libclof.a beside Concurrency Kit's locks (Debian's libck-dev), pthread's mutex and, where it is built, crates/lock_bench,
-# all in turn, five times each, and prints for each the least and the greatest of nanoseconds a hold. It needs c/build/libclof.a (make in c).
+# Times holds through libclof.a beside Concurrency Kit's locks (Debian's libck-dev), pthread's mutex and, where it is built,
+# crates/lock_bench, all in turn, five times each, and prints for each the least and the greatest of nanoseconds a hold. It needs
+# c/build/libclof.a (make in c).
 #
-#   bench/c_locks.sh [LOCK[:THREADS]..]     by default ticket mcs clh hemlock, each with 1, 2 and 4 threads, in some three minutes. Concurrency
-#                                           Kit has no Hemlock: there its MCS lock stands
+#   bench/c_locks.sh [LOCK[:THREADS]..]     by default ticket mcs clh hemlock, each with 1, 2 and 4 threads, in some three minutes.
+#                                           Concurrency Kit has no Hemlock: there its MCS lock stands
 set -eu
 cd "$(dirname "$0")/.."
 . bench/timing.sh

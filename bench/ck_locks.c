@@ -1,6 +1,6 @@
 /*
- * The work of crates/lock_bench over the locks of Concurrency Kit (Debian's libck-dev): each thread takes the lock as often as asked and adds one to a
- * number. It prints the lock, the number of threads and the number at the end.
+ * The work of crates/lock_bench over the locks of Concurrency Kit (Debian's libck-dev): each thread takes the lock as often as asked and
+ * adds one to a number. It prints the lock, the number of threads and the number at the end.
  *
  *   cc -O2 -pthread -o ck_locks ck_locks.c && ./ck_locks ticket 4 1000000
  */

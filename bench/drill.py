@@ -2,9 +2,9 @@
 """Times `clof drill`, 64 callers who share four threads, beside the same commands given otherwise.
 
 Run from anywhere, with a built program (./clof):   bench/drill.py [ROUNDS]
-Each row is a whole process whose text goes to /dev/null, the rows in turn, ROUNDS times (nine): the drill; `run` of its sections under its plan,
-on a thread a caller, on four shared threads and as a walk; and all its commands in one section, under its plan and under the default lock.
-`run` prints a line for each command, and the drill eight sums. It prints the least, the median and the greatest of each row, in
+Each row is a whole process whose text goes to /dev/null, the rows in turn, ROUNDS times (nine): the drill; `run` of its sections under its
+plan, on a thread a caller, on four shared threads and as a walk; and all its commands in one section, under its plan and under the default
+lock. `run` prints a line for each command, and the drill eight sums. It prints the least, the median and the greatest of each row, in
 milliseconds, and the processor time of its fastest run.
 """
 import os

@@ -53,7 +53,8 @@ def main():
         for locks in LOCKS:
             told = tried(locks, program, library)
             is_wrong |= isinstance(told, str)
-            print(f"{locks}: " + (told if isinstance(told, str) else "{} calls refused, {} runs without memory, {} roots back".format(*told)), flush=True)
+            told = told if isinstance(told, str) else "{} calls refused, {} runs without memory, {} roots back".format(*told)
+            print(f"{locks}: {told}", flush=True)
     sys.exit(1 if is_wrong else 0)
 
 

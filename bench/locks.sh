@@ -2,8 +2,9 @@
 # Times crates/lock_bench beside the same work over Concurrency Kit (Debian's libck-dev), both in turn, five times each, and prints a table:
 # lock, threads, nanoseconds a hold (the median) of each, and the ratio. It needs a built lock_bench (rt run in crates/lock_bench).
 #
-#   bench/locks.sh [LOCK[:THREADS]..]     by default ticket mcs clh hemlock, each with 1, 2 and 4 threads, in about a minute. mcs:4 is one line of
-#                                         the table, in a few seconds. Concurrency Kit has no Hemlock: there it stands beside the MCS lock
+#   bench/locks.sh [LOCK[:THREADS]..]     by default ticket mcs clh hemlock, each with 1, 2 and 4 threads, in about a minute. mcs:4 is one
+#                                         line of the table, in a few seconds. Concurrency Kit has no Hemlock: there it stands beside the
+#                                         MCS lock
 set -eu
 cd "$(dirname "$0")/.."
 . bench/timing.sh

@@ -1,7 +1,7 @@
 #!/usr/bin/env bash
 # Times clof calc, distrib and topo beside hwloc-calc, hwloc-distrib and lstopo (Debian's hwloc-nox), whole processes, in turn, and prints a
-# table: the query, milliseconds a process of each (the median of eleven, or of three where a process of hwloc takes over half a second), the
-# ratio, and whether both print the same. It needs a built program (./clof, or rt run in crates/clof).
+# table: the query, milliseconds a process of each (the median of eleven, or of three where a process of hwloc takes over half a second),
+# the ratio, and whether both print the same. It needs a built program (./clof, or rt run in crates/clof).
 #
 #   bench/queries.sh [PROGRAM [WORD]]
 #

@@ -3,13 +3,14 @@
 
     bench/refusals.py [--clof PROGRAM] [--levels N]
 
-PROGRAM is the built program (crates/clof/out/clof). A row is a run under a plan of at most --levels levels, as a walk, on a thread a caller,
-on two threads that the callers share, or with receipts; or a drill. Each row is run with the first call of the C library's malloc, calloc, realloc or aligned_alloc refused, then with the second, and so
-on, one number a run, until a run makes fewer calls. A run has to print `clof: out of memory` on standard error, nothing on standard output,
-and end with status 7; or print nothing on standard error, end with status 0, and print the row's text: that of the model for a walk, a run
-for threads, with a line of receipts for each caller where these are asked for, for a drill the text that it prints with all memory. It prints for each row how many calls were refused and how many of these
-runs ended without memory, and ends with status 1 where a run did neither. It needs gcc, and a program that takes its memory from the C
-library, as a built one does. Not part of the gate.
+PROGRAM is the built program (crates/clof/out/clof). A row is a run under a plan of at most --levels levels, as a walk, on a thread a
+caller, on two threads that the callers share, or with receipts; or one caller's run under the usual plan; or a drill. Each row is run with
+the first call of the C library's malloc, calloc, realloc or aligned_alloc refused, then with the second, and so on, one number a run, until
+a run makes fewer calls. A run has to print `clof: out of memory` on standard error, nothing on standard output, and end with status 7; or
+print nothing on standard error, end with status 0, and print the row's text: that of the model for a walk and for one caller, a run for
+threads, with a line of receipts for each caller where these are asked for, for a drill the text that it prints with all memory. It prints
+for each row how many calls were refused and how many of these runs ended without memory, and ends with status 1 where a run did neither. It
+needs gcc, and a program that takes its memory from the C library, as a built one does. Not part of the gate.
 """
 import argparse
 import os
@@ -68,10 +69,9 @@ class Row:
         """The status and the two texts of a run with this call refused, and whether it was made."""
         told, tell = os.pipe()
         with open(told, "rb") as told:
-            names = {"LD_PRELOAD": library, "REFUSED_CALL": str(number), "REFUSED_PIPE": str(tell)}
-            ran = subprocess.run(
-                [program, *self.words], input=self.given, capture_output=True, timeout=60, env={**os.environ, **names}, pass_fds=[tell]
-            )
+            names = {**os.environ, "LD_PRELOAD": library, "REFUSED_CALL": str(number), "REFUSED_PIPE": str(tell)}
+            words = [program, *self.words]
+            ran = subprocess.run(words, input=self.given, capture_output=True, timeout=60, env=names, pass_fds=[tell])
             os.close(tell)
             return (ran.returncode, ran.stdout, ran.stderr), told.read() != b""
 
@@ -85,7 +85,8 @@ def plan_words(case):
 def wider_cases():
     """Plans whose callers give several commands with blocks, so that the store, the journal and the text grow."""
     block = b"x" * 600
-    sections = [Section("*", [b"set k%d 0 0 %d\r\n%s\r\n" % (w, len(block), block), b"append k0 0 0 1\r\ny\r\n", b"get k0 k1\r\n"]) for w in range(4)]
+    sets = [b"set k%d 0 0 %d\r\n%s\r\n" % (w, len(block), block) for w in range(4)]
+    sections = [Section("*", [first, b"append k0 0 0 1\r\ny\r\n", b"get k0 k1\r\n"]) for first in sets]
     plans = [
         ("Package:2 Core:2 PU:1", ["package", "machine"], ["tkt", "hem"], [2]),
         ("Package:2 L3Cache:2 PU:2", ["l3", "package", "machine"], ["mcs", "clh", "hem"], [1, 16]),
@@ -100,19 +101,40 @@ def crowded_case():
     return Case("Package:2 Core:4 PU:1", ["package", "machine"], ["mcs", "tkt"], [2], sections, [None] * len(sections))
 
 
+def lone_case():
+    """One caller under the usual plan, who counts past the greatest number, compares uniques, and stores without a reply."""
+    commands = [
+        b"set n 0 0 20\r\n18446744073709551615\r\n",
+        b"incr n 1\r\n",
+        b"decr n 5\r\n",
+        b"cas n 0 0 1 1\r\n7\r\n",
+        b"cas n 0 0 1 3\r\n7\r\n",
+        b"gets n\r\n",
+        b"set n 0 0 1 noreply\r\n8\r\n",
+    ]
+    return Case("PU:1", ["machine"], ["mcs"], [], [Section("*", commands)], [None])
+
+
+def text_fault(said):
+    """A fault of all texts but this one."""
+    return lambda text: None if text == said else "not the row's text"
+
+
 def rows(program, levels):
-    """Each case as a walk, on a thread a caller, on shared threads and with receipts, and a drill."""
+    """Each case as a walk, on a thread a caller, on shared threads and with receipts; one caller's run without options; and a drill."""
     for case in [*(case for case, _ in worked_cases()), *wider_cases(), crowded_case()]:
         if len(case.levels) > levels:
             continue
-        words, given, walked = plan_words(case), case.given(), case.walked()
+        words, given = plan_words(case), case.given()
         name = f"{len(case.sections)} callers of {'-'.join(case.kinds)} keep {words[-2]}"
-        yield Row(f"{name}, a walk", [*words, "--walk"], given, lambda text, walked=walked: None if text == walked else "not the walk's text")
+        yield Row(f"{name}, a walk", [*words, "--walk"], given, text_fault(case.walked()))
         yield Row(f"{name}, on threads", words, given, case.fault)
         yield Row(f"{name}, on two threads", [*words, "--threads", "2"], given, case.fault)
         yield Row(f"{name}, with receipts", [*words, "--receipts"], given, case.marked_fault)
+    lone = lone_case()
+    yield Row("one caller under the usual plan, on a thread", ["run"], lone.given(), text_fault(lone.walked()))
     drilled = subprocess.run([program, "drill", "7"], capture_output=True, check=True).stdout
-    yield Row("a drill", ["drill", "7"], b"", lambda text: None if text == drilled else "not the drill's text")
+    yield Row("a drill", ["drill", "7"], b"", text_fault(drilled))
 
 
 def fault(row, ended):
@@ -154,7 +176,8 @@ def main():
         for row in rows(program, asked.levels):
             told = refused_calls(row, program, library)
             is_wrong |= isinstance(told, str)
-            print(f"{row.name}: " + (told if isinstance(told, str) else "{} calls refused, {} runs without memory".format(*told)), flush=True)
+            told = told if isinstance(told, str) else "{} calls refused, {} runs without memory".format(*told)
+            print(f"{row.name}: {told}", flush=True)
     sys.exit(1 if is_wrong else 0)
 
 

@@ -4,8 +4,8 @@
     bench/select_speed.py [SEED [RUNS [PROGRAM]]]
 
 It needs a built program (./clof, or rt run in crates/clof). The topology has sixteen levels below Machine and 4,096 PUs, so there are 2,517
-lists of levels, and the trace has 16,384 turns. Each next PU shares an object of a drawn depth with the one before. Printed are the least and
-the middle time of the runs, the processor time and from start to end, for a keep of 128 and of 2.
+lists of levels, and the trace has 16,384 turns. Each next PU shares an object of a drawn depth with the one before. Printed are the least
+and the middle time of the runs, the processor time and from start to end, for a keep of 128 and of 2.
 """
 import os
 import random

@@ -3,8 +3,8 @@
 
     bench/selections.py [SEED [COUNT [PROGRAM]]]
 
-It needs a built program (./clof, or rt run in crates/clof). For each drawn description, keep, weights and trace it tries every list of one to
-five levels, and goes back over the turns before each turn to tell where it is handed on. The cheapest list, among those the one with the
+It needs a built program (./clof, or rt run in crates/clof). For each drawn description, keep, weights and trace it tries every list of one
+to five levels, and goes back over the turns before each turn to tell where it is handed on. The cheapest list, among those the one with the
 fewest levels, and among those the least from the lowest level, is what clof select has to print.
 """
 import itertools

@@ -2,10 +2,10 @@
 """Times clof run with 256 callers of `incr` on one key who share threads, beside a thread a caller and beside memcached.
 
 Run from anywhere, with a built program (./clof):   bench/shared_threads.py [ROUNDS [COMMANDS]]
-Each caller has COMMANDS `incr` (1,000). clof is timed as a whole process whose text goes to /dev/null: with
-`--threads` 1, 2 and 4, each with `--quantum` 1 and 64, and without these words, which is a thread for each caller. memcached 1.6.18 (Debian's
-package) is timed with 1, 2 and 4 threads and 256 connections over loopback, from the first byte that is sent to the last reply, which two
-processes drop. The rows are taken in turn, ROUNDS times (five), and each prints the least and the greatest rate of its runs.
+Each caller has COMMANDS `incr` (1,000). clof is timed as a whole process whose text goes to /dev/null: with `--threads` 1, 2 and 4, each
+with `--quantum` 1 and 64, and without these words, which is a thread for each caller. memcached 1.6.18 (Debian's package) is timed with 1,
+2 and 4 threads and 256 connections over loopback, from the first byte that is sent to the last reply, which two processes drop. The rows
+are taken in turn, ROUNDS times (five), and each prints the least and the greatest rate of its runs.
 """
 import multiprocessing
 import os

@@ -2,7 +2,8 @@
 
 # the processor, how many there are, and what else runs
 machine() {
-  printf '%s, %s processors, load %s\n' "$(sed -n 's/^model name[^:]*: //p' /proc/cpuinfo | head -1)" "$(nproc)" "$(cut -d' ' -f1 /proc/loadavg)"
+  printf '%s, %s processors, load %s\n' "$(sed -n 's/^model name[^:]*: //p' /proc/cpuinfo | head -1)" "$(nproc)" \
+    "$(cut -d' ' -f1 /proc/loadavg)"
 }
 
 # CRATE: its program, which must be built

@@ -1,9 +1,9 @@
 """A plain model of the locks that `clof run` works under, and of their walk on one thread.
 
-The basic locks are stepped word by word: a ticket lock, that of Mellor-Crummey and Scott, that of Craig and of Magnusson, Landin and
-Hagersten, and Hemlock, each also with a count of its waiters in place of its own test. Each call answers whether it got what it is for: `begin` and `poll` the lock, `begin_release` and `poll_release` the
-end of the release. `Top` and `Level` compose them as CLoF does: the value of a low lock has a context of the lock above, which the holder
-takes, and which it may leave taken for the next one in its node.
+The basic locks are stepped word by word: a ticket lock, that of Mellor-Crummey and Scott, that of Craig and of Magnussen, Landin and
+Hagersten, and Hemlock, each also with a count of its waiters in place of its own test. Each call answers whether it got what it is for:
+`begin` and `poll` the lock, `begin_release` and `poll_release` the end of the release. `Top` and `Level` compose them as CLoF does: the
+value of a low lock has a context of the lock above, which the holder takes, and which it may leave taken for the next one in its node.
 """
 
 IDLE, KEPT, AWAY = "idle", "kept", "away"

@@ -4,7 +4,8 @@
  * Queued, Holding or Leaving; each call goes from one of these, and at any other it answers CLOF_ELSEWHERE and changes nothing.
  *
  * What the program promises: a caller begins as zero (CLOF_CALLER_INIT), may be moved and is not copied, and is in one call at a time; no
- * call is made in a signal handler or behind a fork; guarded data is touched only between clof_acquire and clof_release. docs/C.md says the rest.
+ * call is made in a signal handler or behind a fork; guarded data is touched only between clof_acquire and clof_release. docs/C.md says the
+ * rest.
  *
  * There is no try that gives up: a caller that has entered a queue lock's queue can't leave it before it held.
  */

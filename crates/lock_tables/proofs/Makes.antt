@@ -224,23 +224,29 @@ module _ {V : Type 0} (fit : V → Type 0) (tag_of : V → Tag) (parked : V → 
   allows_load k kept word slots id me form at_word asks live carries =
       allows k kept load word (λ x. x) slots id me form at_word (λ x. by_load (k.operand me.0) k.outcome me.0 x) asks live carries
 
-  pub allows_swap : (k : StepKind) (kept : IsKept d k) (word new slots id : ℕ) (me : N) → k.form ≡ swap → word ≡ k.word me.0 → new ≡ k.operand me.0
-      → k.asks me.0 → me.0.spent ≡ false → Carries fit tag_of parked (may_give k.outcome) me
+  pub allows_swap : (k : StepKind) (kept : IsKept d k) (word new slots id : ℕ) (me : N) → k.form ≡ swap
+      → word ≡ k.word me.0 → new ≡ k.operand me.0 → k.asks me.0 → me.0.spent ≡ false
+      → Carries fit tag_of parked (may_give k.outcome) me
       → Allows L slots id me word (λ _. new) (Tells k me)
   allows_swap k kept word new slots id me form at_word operand asks live carries =
-      allows k kept swap word (λ _. new) slots id me form at_word (λ x. by_swap (k.operand me.0) new k.outcome me.0 x operand) asks live carries
+      allows k kept swap word (λ _. new) slots id me form at_word (λ x. by_swap (k.operand me.0) new k.outcome me.0 x operand)
+      asks live carries
 
-  pub allows_add : (k : StepKind) (kept : IsKept d k) (word more slots id : ℕ) (me : N) → k.form ≡ add → word ≡ k.word me.0 → more ≡ k.operand me.0
-      → k.asks me.0 → me.0.spent ≡ false → Carries fit tag_of parked (may_give k.outcome) me
+  pub allows_add : (k : StepKind) (kept : IsKept d k) (word more slots id : ℕ) (me : N) → k.form ≡ add
+      → word ≡ k.word me.0 → more ≡ k.operand me.0 → k.asks me.0 → me.0.spent ≡ false
+      → Carries fit tag_of parked (may_give k.outcome) me
       → Allows L slots id me word (λ x. (x + more) % 2 ^ 64) (Tells k me)
   allows_add k kept word more slots id me form at_word operand asks live carries =
-      allows k kept add word (λ x. (x + more) % 2 ^ 64) slots id me form at_word (λ x. by_add (k.operand me.0) more k.outcome me.0 x operand) asks live carries
+      allows k kept add word (λ x. (x + more) % 2 ^ 64) slots id me form at_word
+      (λ x. by_add (k.operand me.0) more k.outcome me.0 x operand) asks live carries
 
-  pub allows_exchange : (k : StepKind) (kept : IsKept d k) (word expected new slots id : ℕ) (me : N) → k.form ≡ exchange → word ≡ k.word me.0 → new ≡ k.operand me.0 → Expects k.outcome me.0 expected
-      → k.asks me.0 → me.0.spent ≡ false → Carries fit tag_of parked (may_give k.outcome) me
+  pub allows_exchange : (k : StepKind) (kept : IsKept d k) (word expected new slots id : ℕ) (me : N) → k.form ≡ exchange
+      → word ≡ k.word me.0 → new ≡ k.operand me.0 → Expects k.outcome me.0 expected → k.asks me.0 → me.0.spent ≡ false
+      → Carries fit tag_of parked (may_give k.outcome) me
       → Allows L slots id me word (λ x. either (x == expected) new x) (Tells k me)
   allows_exchange k kept word expected new slots id me form at_word operand expects asks live carries =
-      allows k kept exchange word (λ x. either (x == expected) new x) slots id me form at_word (λ x. by_exchange (k.operand me.0) new expected k.outcome me.0 x operand expects) asks live carries
+      allows k kept exchange word (λ x. either (x == expected) new x) slots id me form at_word
+      (λ x. by_exchange (k.operand me.0) new expected k.outcome me.0 x operand expects) asks live carries
 
   -- a store doesn't tell what it found
   pub allows_store : (k : StepKind) (kept : IsKept d k) (word new slots id : ℕ) (me : N) → k.form ≡ store
@@ -248,6 +254,6 @@ module _ {V : Type 0} (fit : V → Type 0) (tag_of : V → Tag) (parked : V → 
       → Carries fit tag_of parked (may_give k.outcome) me
       → Allows L slots id me word (λ _. new) (λ _ me'. (found : ℕ) × k.tells me.0 found × Made d fit tag_of parked k me found me')
   allows_store k kept word new slots id me form at_word operand asks live carries s r count at low =
-      let y = allows k kept store word (λ _. new) slots id me form at_word (λ x. by_store (k.operand me.0) new k.outcome me.0 x operand) asks live carries
-      s r count at low in
+      let y = allows k kept store word (λ _. new) slots id me form at_word
+      (λ x. by_store (k.operand me.0) new k.outcome me.0 x operand) asks live carries s r count at low in
       (y.0, y.1, y.2, y.3, (slice_index s.words word, y.4.0, y.4.1))

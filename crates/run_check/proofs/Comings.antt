@@ -91,7 +91,8 @@ zip_many (first ∷ turns) (other ∷ entries) same = ap suc (zip_many turns ent
 abbrev pub text_so_far : List Placed → Course → List ℕ
 text_so_far sections course = turn_lines sections (map told_pair (zip course.turns course.log.entries))
 
-line_more : (sections : List Placed) (turns : List Turn) (entries : List Logged) (turn : Turn) (entry : Logged) → length turns ≡ length entries
+line_more : (sections : List Placed) (turns : List Turn) (entries : List Logged) (turn : Turn) (entry : Logged)
+    → length turns ≡ length entries
     → turn_lines sections (map told_pair (zip (turns ++ turn ∷ []) (entries ++ entry ∷ [])))
     ≡ turn_lines sections (map told_pair (zip turns entries)) ++ turn_line sections (length entries) (told_entry turn entry)
 line_more sections turns entries turn entry same =
@@ -258,7 +259,8 @@ module _ (sections : List Placed) (shape : Shape) (printed rest : List ℕ) (cou
       ∙ sym (text_is sections course.turns course.log (record { same = under.same; callers_are = have; own_first = own }) thread
       (sym under.called)) in
       subst (IsRun sections shape) (sym text)
-      (is_run sections shape course.turns course.log under.same have (sym under.called) under.lawful (last_left sections shape course under ended)
+      (is_run sections shape course.turns course.log under.same have (sym under.called) under.lawful
+      (last_left sections shape course under ended)
       (λ caller section place. turns_held caller course.turns ∙ ended.each_own caller section place))
     where
       turns_held : (caller : ℕ) (turns : List Turn)

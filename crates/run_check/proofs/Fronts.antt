@@ -72,7 +72,8 @@ five line behind is =
     let parts = begins line is in
     ap (λ (l : List ℕ). begins_turn (l ++ behind)) parts
 
-none_first : (all : List (List ℕ)) (text : List ℕ) → flat_map (λ (one : List ℕ). one) all ≡ text → begins_turn text ≡ false → turn_count all ≡ 0
+none_first : (all : List (List ℕ)) (text : List ℕ) → flat_map (λ (one : List ℕ). one) all ≡ text → begins_turn text ≡ false
+    → turn_count all ≡ 0
 none_first [] text is none = refl
 none_first (line ∷ all) text is none =
     elim (cases_Bool (begins_turn line)) [

@@ -44,7 +44,8 @@ first_line line rest is =
 pub joined : List (List ℕ) → List ℕ
 joined all = flat_map (λ line. line) all
 
-joined_front : (byte : ℕ) (all : List (List ℕ)) → flat_map (λ (line : List ℕ). line) (in_front byte all) ≡ byte ∷ flat_map (λ line. line) all
+joined_front : (byte : ℕ) (all : List (List ℕ))
+    → flat_map (λ (line : List ℕ). line) (in_front byte all) ≡ byte ∷ flat_map (λ line. line) all
 joined_front byte [] = refl
 joined_front byte (line ∷ all) = refl
 

@@ -75,7 +75,8 @@ kept_one false entry rest is = refl
 
 whole_by : (entries : List Logged) → AllByRecursion (λ entry. entry.void ≡ false) entries → applied entries ≡ entries
 whole_by [] whole = refl
-whole_by (entry ∷ entries) whole = kept_one entry.void entry (applied entries) whole.0 ∙ ap (λ rest. entry ∷ rest) (whole_by entries whole.1)
+whole_by (entry ∷ entries) whole =
+    kept_one entry.void entry (applied entries) whole.0 ∙ ap (λ rest. entry ∷ rest) (whole_by entries whole.1)
 
 pub whole_applied : (entries : List Logged) → NoneVoid entries → applied entries ≡ entries
 whole_applied entries whole = whole_by entries (recursion_from_All (λ (entry : Logged). entry.void ≡ false) entries whole)
@@ -105,8 +106,8 @@ module _ (sections : List Placed) (shape : Shape) (before : List Hold) where
       ∙ line_tells sections (length before) one rest (small_caller hold line made few) (small_tests hold line made low)
 
   -- a hold makes one line
-  pub line_once : (hold : Hold) (line other : List ℕ) → MakesLine sections shape before hold line → MakesLine sections shape before hold other
-      → line ≡ other
+  pub line_once : (hold : Hold) (line other : List ℕ) → MakesLine sections shape before hold line
+      → MakesLine sections shape before hold other → line ≡ other
   line_once hold line other made also =
       let a = made.given_are in
       let b = also.given_are in
@@ -166,7 +167,8 @@ module _ (sections : List Placed) (shape : Shape) (course : Course) (under : IsU
       let is : turn ≡ turn_after shape course.turns turn.caller turn.tests = turn_is_fixed_lem shape course.turns turn follows in
       let turn_is : turn ≡ next_turn shape holds (hold_of turn) =
       is ∙ ap (λ (ts : List Turn). turn_after shape ts turn.caller turn.tests) (sym turns_same) in
-      let store : store_now entries ≡ store_of (commands entries) = ap (λ (es : List Logged). store_of (commands es)) (whole_applied entries under.whole) in
+      let store : store_now entries ≡ store_of (commands entries) =
+      ap (λ (es : List Logged). store_of (commands es)) (whole_applied entries under.whole) in
       record {
         given = commands entries;
         given_are = ap (commands_behind sections []) callers_same ∙ commands_from sections course.log [] entries printed refl;

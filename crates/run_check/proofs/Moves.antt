@@ -41,8 +41,8 @@ pub gives_some : (log after : Log) (caller : ℕ) (given : Bool) → given ≡ t
 gives_some log after caller true is gives = gives
 gives_some log after caller false is gives = cc
 
-module _ (sections : List Placed) (shape : Shape) (course : Course) (under : IsUnderWay sections shape course) (few : length sections < 2 ^ 32)
-    (low : top_of shape ≤ 32) (text : List ℕ) where
+module _ (sections : List Placed) (shape : Shape) (course : Course) (under : IsUnderWay sections shape course)
+    (few : length sections < 2 ^ 32) (low : top_of shape ≤ 32) (text : List ℕ) where
   -- a hold that makes a line at the front of a text is told there
   told_there : (hold : Hold) (line rest : List ℕ) → MakesLine sections shape (holds_of course.turns) hold line → text ≡ line ++ rest
       → told_hold text ≡ Some hold
@@ -138,7 +138,8 @@ module _ (sections : List Placed) (shape : Shape) (course : Course) (under : IsU
       → HaveEnded sections shape (holds_of course.turns)
   have_ended all last = record {
     each_own = each_holds all;
-    last = subst (λ (ts : List Turn). IfSome (last_turn ts) (λ t. t.left ≡ top_of shape)) (sym (turns_same sections shape course under)) last;
+    last = subst (λ (ts : List Turn). IfSome (last_turn ts) (λ t. t.left ≡ top_of shape))
+        (sym (turns_same sections shape course under)) last;
   }
 
   pub last_left : HaveEnded sections shape (holds_of course.turns) → IfSome (last_turn course.turns) (λ t. t.left ≡ top_of shape)

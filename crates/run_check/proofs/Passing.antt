@@ -49,7 +49,8 @@ module _ {A : Type 0} where
 
 -- the line of a caller
 line_from : (n : ℕ) (sections : List Placed) (caller : ℕ) (section : Placed) → slice_get sections caller ≡ Some section
-    → slice_get (map (λ (at : ℕ × Placed). caller_line at.0 at.1) (enumerate_from n sections)) caller ≡ Some (caller_line (n + caller) section)
+    → slice_get (map (λ (at : ℕ × Placed). caller_line at.0 at.1) (enumerate_from n sections)) caller
+    ≡ Some (caller_line (n + caller) section)
 line_from n [] caller section is = cc
 line_from n (first ∷ sections) zero section is =
     let same : first ≡ section = cc in
@@ -124,12 +125,14 @@ module _ (sections : List Placed) (text rest : List ℕ) (caller : ℕ) (passed 
   pub other_line : (section : Placed) → slice_get sections caller ≡ Some section
       → ((behind : List ℕ) → rest ≡ caller_line caller section ++ behind → ⊥) → OtherLine sections text caller
   other_line section place other =
-      let few : caller ≤ length (callers_lines sections) = omega (arith, as_many_lines sections, some_within sections caller section place) in
+      let few : caller ≤ length (callers_lines sections) =
+      omega (arith, as_many_lines sections, some_within sections caller section place) in
       record {
         callers = ap (take caller) passed.lines_are ∙ taken_again (callers_lines sections) (lines rest) caller few;
         other = λ same.
             let first : slice_get (lines rest) 0 ≡ Some (caller_line caller section) =
-            sym (behind_taken (callers_lines sections) (lines rest) caller few) ∙ ap (λ (ls : List (List ℕ)). slice_get ls caller) (sym passed.lines_are)
+            sym (behind_taken (callers_lines sections) (lines rest) caller few)
+            ∙ ap (λ (ls : List (List ℕ)). slice_get ls caller) (sym passed.lines_are)
             ∙ same ∙ line_at sections caller section place in
             let front = front_line rest (caller_line caller section) first in
             other front.0 front.1;

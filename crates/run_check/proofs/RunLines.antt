@@ -151,7 +151,8 @@ run_lines sections shape printed few low run =
     record {
       made = all.made;
       make = all.make;
-      lines_are = ap lines text_is ∙ all.lines_are (caller_lines sections) ∙ ap (λ (ls : List (List ℕ)). all.made ++ ls) (lines_from 0 sections);
+      lines_are = ap lines text_is ∙ all.lines_are (caller_lines sections)
+          ∙ ap (λ (ls : List (List ℕ)). all.made ++ ls) (lines_from 0 sections);
     }
 
 -- ---- holds that make the same lines
@@ -228,8 +229,8 @@ module _ (sections : List Placed) (shape : Shape) (printed : List ℕ) (few : le
   its_front : (holds : List Hold) → MakeLines sections shape [] holds (take (length holds) (lines printed)) → length holds ≤ length its.made
       → Front sections shape [] run.holds holds (drop (length holds) its.made)
   its_front holds make within =
-      front sections shape few low [] run.holds holds its.made (take (length holds) (lines printed)) (drop (length holds) its.made) its.make make
-      (split (length holds) within)
+      front sections shape few low [] run.holds holds its.made (take (length holds) (lines printed)) (drop (length holds) its.made)
+      its.make make (split (length holds) within)
 
   -- where as many lines are made, the holds are those of the run
   all_holds : (holds : List Hold) → MakeLines sections shape [] holds (take (length holds) (lines printed)) → length holds ≡ length its.made

@@ -121,7 +121,8 @@ fits_settled tests left top =
       ])
     ]
 
-near_settled : (shape : Shape) (level : ℕ) (turn : Turn) (last : Option Turn) → Settled (IfSome last (λ l. AreUnderOneNode shape level turn l))
+near_settled : (shape : Shape) (level : ℕ) (turn : Turn) (last : Option Turn)
+    → Settled (IfSome last (λ l. AreUnderOneNode shape level turn l))
 near_settled shape level turn None = inl tt
 near_settled shape level turn (Some last) = equal (node_of shape turn.caller level) (node_of shape last.caller level)
 

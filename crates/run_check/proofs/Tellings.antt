@@ -23,7 +23,8 @@ number_there : (spaces n : ℕ) (text rest : List ℕ) → n < 2 ^ 32 → behind
 unfolding number_at
 number_there spaces n text rest small there =
     let numeral = decimal_is_IsNumeral n (omega arith) in
-    rw (there, cut_there 32 (decimal n) rest (number_lacks 32 n (omega arith))) (below_limit (2 ^ 32) n (decimal n) numeral.0 numeral.1 small)
+    rw (there, cut_there 32 (decimal n) rest (number_lacks 32 n (omega arith)))
+    (below_limit (2 ^ 32) n (decimal n) numeral.0 numeral.1 small)
 
 module _ (sections : List Placed) (n : ℕ) (one : Told) (more : List ℕ) where
   abbrev behind_caller : List ℕ

@@ -222,8 +222,8 @@ Steps step (Some flaw) next = step ≡ Err flaw
 abbrev HoldWith : List (List ℕ) → List ℕ → Attributes → Type 0
 HoldWith words word a = AreSaidBy a (words ++ word ∷ [])
 
-value_steps : (a : Attributes) (words : List (List ℕ)) (word value : List ℕ) (key : Key) → AreSaidBy a words → entry_in word ≡ Some (key, value)
-    → has a key ≡ false
+value_steps : (a : Attributes) (words : List (List ℕ)) (word value : List ℕ) (key : Key) → AreSaidBy a words
+    → entry_in word ≡ Some (key, value) → has a key ≡ false
     → Steps (with_value a key value) (flaw_in_value key value) (HoldWith words word)
 value_steps a words word value keys.Size h e new = by (size_of value) refl
   where

@@ -14,7 +14,18 @@ use Rattle.synth_text.specs.declared.fault.Unread.TheVariants as unread
 use Rattle.byte_text.specs.Classes.{is_white}
 use Rattle.byte_text.specs.Cuts.{first_piece, pieces}
 use Rattle.synth_text.specs.Flaws.{◌>>=◌, Fails}
-use Rattle.synth_text.specs.Attributes.{is_empty, words_behind, entry_in, said_by, flaw_in_word, first_flaw, unless_flawed, attributes_in, AreSaidBy, Adds}
+use Rattle.synth_text.specs.Attributes.{
+  is_empty,
+  words_behind,
+  entry_in,
+  said_by,
+  flaw_in_word,
+  first_flaw,
+  unless_flawed,
+  attributes_in,
+  AreSaidBy,
+  Adds,
+}
 use Rattle.byte_text.proofs.CutLaws.{slice_split-first_piece, pieces-next}
 
 -- a reading fails as its first step does
@@ -108,7 +119,8 @@ unfolding first_then
 at_word kind attributes rest text parts total is cuts word h =
     rw (pieces-next is_white rest text parts is cuts, more_pieces parts.1, word) at h.comes_to
 
-ok_is : (a b : Attributes) → (let r : Result Attributes (Unread Flaw) = Ok a in let s : Result Attributes (Unread Flaw) = Ok b in r ≡ s) → a ≡ b
+ok_is : (a b : Attributes)
+    → (let r : Result Attributes (Unread Flaw) = Ok a in let s : Result Attributes (Unread Flaw) = Ok b in r ≡ s) → a ≡ b
 ok_is a b e = cc
 
 err_is_no_ok : (failure : Unread Flaw) (a : Attributes)

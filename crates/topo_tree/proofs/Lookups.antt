@@ -1,5 +1,35 @@
 -- What the tables of a topology have at a place.
-use Rattle.std.proofs.Common.{◌≡◌, ℕ, ◌+◌, ◌-◌, ◌<◌, false, ◌==◌, cond, min, ◌^◌, List, length, map, take, get_or, slice_index, Option, Some, None, IfSome, unwrap_or, refl, sym, ap, ◌∙◌, subst, inl, inr, arith}
+use Rattle.std.proofs.Common.{
+  ◌≡◌,
+  ℕ,
+  ◌+◌,
+  ◌-◌,
+  ◌<◌,
+  false,
+  ◌==◌,
+  cond,
+  min,
+  ◌^◌,
+  List,
+  length,
+  map,
+  take,
+  get_or,
+  slice_index,
+  Option,
+  Some,
+  None,
+  IfSome,
+  unwrap_or,
+  refl,
+  sym,
+  ap,
+  ◌∙◌,
+  subst,
+  inl,
+  inr,
+  arith,
+}
 use Rattle.std.specs.Option.{option_map}
 use Rattle.std.proofs.lemmas.Bool.{cases_Bool, eqb-true}
 use Rattle.std.proofs.lemmas.List.{length-map, get_or-map}

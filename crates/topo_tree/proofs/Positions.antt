@@ -1,5 +1,33 @@
 -- Positions of physical numbers.
-use Rattle.std.proofs.Common.{◌≡◌, ℕ, zero, suc, ◌<◌, Bool, true, false, not, ◌||◌, ◌==◌, cond, nat_le, List, [], ◌∷◌, length, take, slice_index, Some, None, refl, sym, ap, subst, ◌∙◌, arith}
+use Rattle.std.proofs.Common.{
+  ◌≡◌,
+  ℕ,
+  zero,
+  suc,
+  ◌<◌,
+  Bool,
+  true,
+  false,
+  not,
+  ◌||◌,
+  ◌==◌,
+  cond,
+  nat_le,
+  List,
+  [],
+  ◌∷◌,
+  length,
+  take,
+  slice_index,
+  Some,
+  None,
+  refl,
+  sym,
+  ap,
+  subst,
+  ◌∙◌,
+  arith,
+}
 use Rattle.std.specs.List.{position, prefix_len}
 use Rattle.std.proofs.lemmas.Bool.{false≢true, eq-eqb, leb-false, lt-ltb}
 use Rattle.std.proofs.lemmas.List.Sums.{prefix_len_is}

@@ -49,7 +49,9 @@ returns c =
     let shape = c.args.shape.now in
     let come = c.loop-run.invariant in
     let ended = (c.has_ended.ensures sections come.under).0 c.if-not-has_ended.false in
-    on_ok (IsCallersVerdict sections c.loop-run.rest.now c.loop-run.line) (IsVerdict sections shape c.args.printed.now) c.check_callers.result
-    (to_verdict sections shape c.args.printed.now c.loop-run.rest.now c.loop-run.run c.loop-run.line come (sym c.loop-run-test.ensures.value)
-    ended c.facts.ensures.callers c.facts.ensures.own_first (c.facts.ensures.one_thread come.under.whole))
+    on_ok (IsCallersVerdict sections c.loop-run.rest.now c.loop-run.line) (IsVerdict sections shape c.args.printed.now)
+    c.check_callers.result
+    (to_verdict sections shape c.args.printed.now c.loop-run.rest.now c.loop-run.run c.loop-run.line come
+    (sym c.loop-run-test.ensures.value) ended c.facts.ensures.callers c.facts.ensures.own_first
+    (c.facts.ensures.one_thread come.under.whole))
     c.check_callers.ensures

@@ -39,8 +39,8 @@ overflow_add-line c =
     let caller = c.loop-caller.caller in
     let none : Section = record { pu = 0; bytes = record { ref_ptr = (0, 0); now = [] } } in
     let section = section_view (get_or sections caller none) in
-    let passed = passed_more (map section_view sections) c.args.text.now c.loop-caller.rest.now caller c.loop-caller.invariant.passed section
-    c.in-Some.behind.now (section_there sections caller none c.loop-caller-test.true)
+    let passed = passed_more (map section_view sections) c.args.text.now c.loop-caller.rest.now caller c.loop-caller.invariant.passed
+    section c.in-Some.behind.now (section_there sections caller none c.loop-caller-test.true)
     (subst (Stands c.loop-caller.rest.now (caller_line caller section)) c.in-Some.is c.in_ok-behind.ensures) in
     omega (arith, passed.within, c.loop-caller.invariant.number, c.requires.printed)
 
@@ -69,7 +69,8 @@ returns-then-is_empty c =
     let last : c.loop-caller.caller ≡ length (map section_view sections) =
     omega (arith, length-map sections section_view, c.loop-caller-test.false, c.loop-caller.auto.caller-end) in
     let none : length rest ≡ 0 = grind (arith, nat_tests) in
-    all_passed (map section_view sections) c.args.text.now rest c.loop-caller.caller c.loop-caller.invariant.passed last (no_elements rest none)
+    all_passed (map section_view sections) c.args.text.now rest c.loop-caller.caller c.loop-caller.invariant.passed last
+    (no_elements rest none)
 
 pub returns-else-is_empty : goal.returns-else-is_empty
 returns-else-is_empty c =

@@ -10,8 +10,9 @@ compare_exchange-requires g c =
     let words = ap (λ z. z.words) table ∙ own.row in (
       own.table ∙ sym table,
       subst (λ n. c.args.word < n) (sym words) c.requires.within,
-      allows_exchange g.V.Cargo.fit g.V.Cargo.tag g.V.Cargo.parked _ c.is_disciplined.ensures _ _ _ g.K.KindOf.kind c.is_kept.ensures _ _ _ _ _ _
-          c.requires.form c.requires.word c.requires.operand c.requires.expected c.requires.asks own.unspent c.requires.carries,
+      allows_exchange g.V.Cargo.fit g.V.Cargo.tag g.V.Cargo.parked _ c.is_disciplined.ensures _ _ _ g.K.KindOf.kind
+          c.is_kept.ensures _ _ _ _ _ _ c.requires.form c.requires.word c.requires.operand c.requires.expected c.requires.asks
+          own.unspent c.requires.carries,
     )
 
 pub returns-clause-own : goal.returns-clause-own

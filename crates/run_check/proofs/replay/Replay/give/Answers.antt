@@ -34,8 +34,8 @@ invariant_of-self-in_err-apply c =
     let left = c.self.inside.left.items in
     let commands = c.in-Some.commands.now in
     let place = slice_get-get_or left caller commands c.in-Some.ensures.item.3.0 ∙ ap Some (sym c.in-Some.ensures.value) in
-    one_given c.self.inside.journal c.apply.new.self left caller commands c.next.new.self (view c.in-Some-next.command) c.self.invariant place
-    c.in-Some-next.ensures.commands c.in_err-apply.ensures.sections c.in_err-apply.ensures.calls
+    one_given c.self.inside.journal c.apply.new.self left caller commands c.next.new.self (view c.in-Some-next.command) c.self.invariant
+    place c.in-Some-next.ensures.commands c.in_err-apply.ensures.sections c.in_err-apply.ensures.calls
 
 pub invariant_of-self-2 : goal.invariant_of-self-2
 invariant_of-self-2 c =
@@ -43,8 +43,8 @@ invariant_of-self-2 c =
     let left = c.self.inside.left.items in
     let commands = c.in-Some.commands.now in
     let place = slice_get-get_or left caller commands c.in-Some.ensures.item.3.0 ∙ ap Some (sym c.in-Some.ensures.value) in
-    one_given c.self.inside.journal c.apply.new.self left caller commands c.next.new.self (view c.in-Some-next.command) c.self.invariant place
-    c.in-Some-next.ensures.commands c.in_ok-apply.ensures.sections c.in_ok-apply.ensures.calls
+    one_given c.self.inside.journal c.apply.new.self left caller commands c.next.new.self (view c.in-Some-next.command) c.self.invariant
+    place c.in-Some-next.ensures.commands c.in_ok-apply.ensures.sections c.in_ok-apply.ensures.calls
 
 pub returns : goal.returns
 returns c =

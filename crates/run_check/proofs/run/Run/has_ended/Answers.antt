@@ -15,9 +15,11 @@ returns-then-has_ended c = λ sections under.
     let log = ap (λ (s : Course). s.log) c.self.view_is in
     let turns = ap (λ (s : Course). s.turns) c.self.view_is in (
       λ ended. have_ended sections shape now under (subst AllGiven log (c.has_ended.ensures.0 c.if-has_ended.true))
-          (subst (λ (ts : List Turn). IfSome (last_turn ts) (λ t. t.left ≡ top_of shape)) turns (c.has_ended-then-has_ended.ensures.0 ended)),
+          (subst (λ (ts : List Turn). IfSome (last_turn ts) (λ t. t.left ≡ top_of shape)) turns
+          (c.has_ended-then-has_ended.ensures.0 ended)),
       λ ended. c.has_ended-then-has_ended.ensures.1
-          (subst (λ (ts : List Turn). IfSome (last_turn ts) (λ t. t.left ≡ top_of shape)) (sym turns) (last_left sections shape now under ended)),
+          (subst (λ (ts : List Turn). IfSome (last_turn ts) (λ t. t.left ≡ top_of shape)) (sym turns)
+          (last_left sections shape now under ended)),
     )
 
 pub returns-else-has_ended : goal.returns-else-has_ended
