@@ -15,7 +15,7 @@ with_third-requires-clause-kinds g c κs within =
     c.kind_at.result c.kind_at.ensures _ made.made _ c.args.high made.over c.requires.kinds
 
 pub work-requires-clause-kinds : goal.work-requires-clause-kinds
-work-requires-clause-kinds g c κs within =
+work-requires-clause-kinds g c =
     let made = c.in-Ok.ensures in
     kinds_from (λ b. b.lock) g.H.HasKinds.has_kinds c.args.plan.now.kinds c.args.level 0 c.if-level-eq0.true c.kind_at.result
     c.kind_at.ensures _ made.made _ c.args.high made.over c.requires.kinds
