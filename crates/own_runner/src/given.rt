@@ -1,5 +1,8 @@
 //! What a run is given, and the run under a lock that is ready.
 ghost use Rattle.std.specs.Prelude.{◌≡◌, ℕ, IfSome};
+ghost use Rattle.lock_rules.specs.Tag.{leaf};
+ghost use Rattle.clof_compose.specs.Roots.{IsFit, root_tag};
+ghost use Rattle.lock_levels.specs.Raised.{IsRaised};
 ghost use Rattle.own_runner.specs.Runs.{IsLeft, MayRun};
 
 use clof_compose::{Composed, Resting, Root};
@@ -54,6 +57,12 @@ where
         C::Queue: Send,
         C::Held: Send,
         C::Leave: Send,
+        requires raised { IsRaised Q.rest (C.has lock) (C.sound lock) (C.level lock) (C.count lock) (C.tag lock) _shape.now 0 (C.tag lock)
+            passes.items }
+        requires kinds { C.has_kinds lock _plan.now.kinds 0 }
+        requires may { MayRun (C.tag lock) _shape.now _plan.now.kinds self.shares.items
+            × ((caller : ℕ) → S.may self.server.now caller) }
+        ensures { IfSome result (IsLeft (S.stops self.entry.server.now) (C.tag lock)) }
     {
         let Given {
             rt,
@@ -65,7 +74,10 @@ where
         serve(rt, alloc, lock, Lists { passes, shares }, server)
     }
 
-    fn refused(self, _root: Root<Noted<T>>) -> Option<Root<Noted<T>>> {
+    fn refused(self, _root: Root<Noted<T>>) -> Option<Root<Noted<T>>>
+        requires fit { IsFit (λ n. n.calls.callers) _root }
+        ensures { IfSome result (IsLeft (S.stops self.entry.server.now) (root_tag (λ _. leaf 0) _root)) }
+    {
         None
     }
 }

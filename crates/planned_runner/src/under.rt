@@ -1,6 +1,8 @@
 //! A run under a lock that is ready, of any depth.
 ghost use Rattle.std.specs.Prelude.{◌≡◌, ℕ, IfOk};
 ghost use Rattle.clof_compose.specs.Courses.{course_of};
+ghost use Rattle.clof_compose.specs.Roots.{IsFit, root_tag};
+ghost use Rattle.lock_levels.specs.Raised.{IsRaised};
 ghost use Rattle.planned_runner.specs.Runs.{IsSet, MayRun};
 
 use crate::commanded::{Commanded, Dealt, Served};
@@ -112,6 +114,11 @@ impl<
         C::Queue: Send,
         C::Held: Send,
         C::Leave: Send,
+        requires raised { IsRaised Q.rest (C.has lock) (C.sound lock) (C.level lock) (C.count lock) (C.tag lock) _shape.now 0 (C.tag lock)
+            passes.items }
+        requires kinds { C.has_kinds lock _plan.now.kinds 0 }
+        requires may { MayRun (C.tag lock) _shape.now _plan.now.kinds P.dealt self.given.brought }
+        ensures { IfOk result (P.left (course_of (C.tag lock))) }
     {
         let Given {
             rt,
@@ -126,7 +133,10 @@ impl<
         P::close::<C>(lock, crew)
     }
 
-    fn refused(self, _root: Root<P>) -> Result<F, OutOfMemory> {
+    fn refused(self, _root: Root<P>) -> Result<F, OutOfMemory>
+        requires fit { IsFit P.calls _root }
+        ensures { IfOk result (P.left (course_of (root_tag P.tag _root))) }
+    {
         Err(OutOfMemory)
     }
 }

@@ -1,6 +1,7 @@
 //! A trial of a lock that is ready, of any number of levels.
 ghost use Rattle.std.specs.Prelude.{◌≡◌, IfSome};
 ghost use Rattle.clof_compose.specs.Roots.{IsFit, root_tag};
+ghost use Rattle.lock_levels.specs.Raised.{IsRaised};
 ghost use Rattle.tree_harness.specs.Ready.{IsLeft, IsReady, MayTry};
 ghost use Rattle.tree_harness.specs.Shifts.{HasWorked, MayWork};
 
@@ -88,6 +89,11 @@ impl<'r, Q: Resting + Send, P: Tried<Q> + Send + Sync, R: Threads + Wait + Sync>
         C::Queue: Send,
         C::Held: Send,
         C::Leave: Send,
+        requires raised { IsRaised Q.rest (C.has lock) (C.sound lock) (C.level lock) (C.count lock) (C.tag lock) _shape.now 0 (C.tag lock)
+            passes.items }
+        requires kinds { C.has_kinds lock _plan.now.kinds 0 }
+        requires may { MayTry (C.tag lock) _shape.now _plan.now.kinds self.shares.items }
+        ensures { IfSome result (λ o. IsLeft P.calls P.tag (C.tag lock) o.root) }
     {
         let Given {
             rt,
@@ -108,7 +114,10 @@ impl<'r, Q: Resting + Send, P: Tried<Q> + Send + Sync, R: Threads + Wait + Sync>
         }
     }
 
-    fn refused(self, root: Root<P>) -> Option<Outcome<P>> {
+    fn refused(self, root: Root<P>) -> Option<Outcome<P>>
+        requires fit { IsFit P.calls root }
+        ensures { IfSome result (λ o. IsLeft P.calls P.tag (root_tag P.tag root) o.root) }
+    {
         Some(Outcome {
             root,
             end: End::Refused,
