@@ -3,6 +3,8 @@ ghost use Rattle.std.specs.Prelude.{◌≡◌, ℕ, IfSome};
 ghost use Rattle.lock_rules.specs.Tag.{leaf};
 ghost use Rattle.clof_compose.specs.Roots.{IsFit, root_tag};
 ghost use Rattle.lock_levels.specs.Raised.{IsRaised};
+ghost use Rattle.own_payload.specs.Jobs.{EachEnded};
+ghost use Rattle.own_payload.specs.Ready.{IsReady};
 ghost use Rattle.own_runner.specs.Runs.{IsLeft, MayRun};
 
 use clof_compose::{Composed, Resting, Root};
@@ -71,7 +73,7 @@ where
             server,
             ..
         } = self;
-        serve(rt, alloc, lock, Lists { passes, shares }, server)
+        run_under::<Q, T, C, S, R>(rt, alloc, lock, Lists { passes, shares }, server)
     }
 
     fn refused(self, _root: Root<Noted<T>>) -> Option<Root<Noted<T>>>
@@ -80,4 +82,28 @@ where
     {
         None
     }
+}
+
+// A run under a lock that is ready, which is then taken apart.
+fn run_under<
+    Q: Resting + Send,
+    T: Send + Sync + Drop,
+    C: Composed<Noted<T>, Pass = Q> + Sync + Drop,
+    S: Serves<T> + Sync,
+    R: Threads + Wait + Sync,
+>(rt: &R, alloc: Global, lock: C, lists: Lists<Q>, server: &S) -> Option<Root<Noted<T>>>
+where
+    C::Queue: Send,
+    C::Held: Send,
+    C::Leave: Send,
+    S::Task: Send,
+    S::Answer: Send,
+    requires ready { IsReady Q.rest (C.has lock) (C.sound lock) (C.level lock) (C.count lock) (C.tag lock) lists.passes.items
+        lists.shares.items }
+    requires asked { (caller : ℕ) → S.may server.now caller }
+    ensures fit { IfSome result (IsFit (λ n. n.calls.callers)) }
+    ensures tagged { IfSome result (λ r. root_tag (λ _. leaf 0) r ≡ C.tag lock) }
+    ensures ended { IfSome result (λ r. EachEnded (S.stops server.now) r.trail) }
+{
+    serve(rt, alloc, lock, lists, server)
 }
