@@ -116,9 +116,9 @@ T = any.the_type
 pub sent : IsSend any.the_row
 sent =
     let all : EachSend (shape T).variants = (
-      (search (caller_sent, noted_top), tt),
+      (search (caller_sent, noted_top), (search sendable, tt)),
       (
-        (search (caller_sent, noted_top, below, noted_sent) depth 12, tt),
-        ((search (caller_sent, noted_top, below, noted_sent) depth 12, tt), tt),
+        (search (caller_sent, noted_top, below, noted_sent) depth 12, (search sendable, tt)),
+        ((search (caller_sent, noted_top, below, noted_sent) depth 12, (search sendable, tt)), tt),
       ),
     ) in recorded_send (Enum (shape T)) T.D T.to T.to_one (enum_send (shape T) all)
