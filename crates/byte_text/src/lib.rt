@@ -14,6 +14,3 @@ pub use decimals::{number_capped, number_in, number_up_to, number32};
 pub use numerals::{Numeral, read_numeral};
 pub use words::Words;
 pub use written::{hex_digit, push_decimal};
-
-#[cfg(test)]
-mod tests;

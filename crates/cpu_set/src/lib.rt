@@ -18,6 +18,3 @@ pub use laws::{
     runs_are_maximal, sets_are_fixed_by_members, sets_combine_by_membership, sets_have_what_passes,
 };
 pub use set::{CpuSet, LIMIT};
-
-#[cfg(test)]
-mod tests;

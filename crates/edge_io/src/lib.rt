@@ -22,6 +22,3 @@ pub use sink::Sink;
 pub use source::Source;
 pub use standard::{StdSink, StdSource};
 pub use writing::write_all;
-
-#[cfg(test)]
-mod tests;

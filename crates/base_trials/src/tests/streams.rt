@@ -1,7 +1,7 @@
 //! Scripts of reads and writes over sources and sinks in memory, and the adapters over std's.
 ghost use Rattle.std.specs.Prelude.{◌<◌, ◌≤◌};
 
-use crate::{
+use edge_io::{
     Failed, MemSink, MemSource, ReadAllFault, Sink, Source, StdSink, StdSource, Stopped, SureSink,
     SureSource, read_all, write_all,
 };

@@ -1,7 +1,7 @@
 //! Sets and texts from outside the definitions.
 
-use crate::SetFault::{Form, Infinite, TooLarge};
-use crate::{CpuSet, SetFault};
+use cpu_set::SetFault::{Form, Infinite, TooLarge};
+use cpu_set::{CpuSet, SetFault};
 use std::alloc::{AllocError, Global};
 use std::process::Abort;
 use std::test::Fail;

@@ -1,5 +1,5 @@
-//! Examples from outside the definitions.
-use crate::{
+//! Texts of bytes, by examples from outside the definitions.
+use byte_text::{
     Class, Numeral, are_all, cut, cut_at, first_part, first_piece, hex_digit, number_capped,
     number_in, number_up_to, number32, push_decimal, read_numeral, split_front,
 };

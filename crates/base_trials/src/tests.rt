@@ -1,0 +1,4 @@
+//! The tests, crate by crate.
+mod sets;
+mod streams;
+mod texts;
