@@ -12,8 +12,6 @@ mod laws;
 mod plays;
 mod seen;
 mod sent;
-#[cfg(test)]
-mod tests;
 mod view;
 
 pub use fresh::{Fresh, Mark};

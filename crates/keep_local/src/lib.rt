@@ -15,8 +15,6 @@ mod receipt_view;
 mod receipts;
 mod shape;
 mod share;
-#[cfg(test)]
-mod tests;
 mod tie;
 mod trail;
 mod tree;

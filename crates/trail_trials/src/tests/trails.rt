@@ -3,7 +3,7 @@ ghost use Rattle.std.specs.Prelude.{◌≡◌, ◌≢◌, ◌^◌, ◌<◌, [], 
 ghost use Rattle.std.specs.Bool.{OnTrue};
 ghost use Rattle.keep_local.specs.Turns.{Begins};
 
-use crate::{Receipt, Shape, Share, Trail, Turn, begins, is_lawful, level_to_leave, run_of};
+use keep_local::{Receipt, Shape, Share, Trail, Turn, begins, is_lawful, run_of};
 use out_of_memory::OutOfMemory;
 use sequence::Sequence;
 use std::alloc::Global;

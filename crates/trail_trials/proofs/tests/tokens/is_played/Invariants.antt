@@ -1,6 +1,6 @@
 use Rattle.std.specs.Prelude.{IsSome}
 use Rattle.fresh_root.specs.States.{AreAll}
-use Rattle.fresh_root.proofs.tests.is_played.Given as goal
+use Rattle.trail_trials.proofs.tests.tokens.is_played.Given as goal
 
 -- the payload is in, and the tokens are those of the Fresh
 abbrev pub invariant-loop-caller : goal.invariant-loop-caller

@@ -1,6 +1,6 @@
 use Rattle.std.proofs.Common.{◌≡◌}
 use Rattle.keep_local.proofs.Noting.{IsReleasing}
-use Rattle.keep_local.proofs.tests.release.Given as goal
+use Rattle.trail_trials.proofs.tests.trails.release.Given as goal
 
 abbrev pub invariant-loop-level : goal.invariant-loop-level
 invariant-loop-level l = record {

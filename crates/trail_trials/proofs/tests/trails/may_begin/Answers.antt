@@ -1,7 +1,7 @@
 use Rattle.std.proofs.Common.{◌≡◌, ◌∷◌, [], sym, ◌∙◌, subst}
 use Rattle.keep_local.specs.Turns.{last_turn, Begins}
 use Rattle.keep_local.proofs.Checked.{begins_alike}
-use Rattle.keep_local.proofs.tests.may_begin.Goals as goal
+use Rattle.trail_trials.proofs.tests.trails.may_begin.Goals as goal
 
 pub returns-in-Some : goal.returns-in-Some
 returns-in-Some c = λ yes.

@@ -3,7 +3,7 @@ ghost use Rattle.std.specs.Prelude.{◌≡◌, ◌≤◌, ◌∷◌, ◌++◌, [
 ghost use Rattle.lock_rules.specs.Tag.{leaf};
 ghost use Rattle.fresh_root.specs.States.{AreAll, IsOf};
 
-use crate::{Fresh, Seen, freshes_may_be_sent};
+use fresh_root::{Fresh, Seen, freshes_may_be_sent};
 use lock_rules::Payload;
 use std::alloc::Global;
 

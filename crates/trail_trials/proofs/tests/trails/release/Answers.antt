@@ -3,8 +3,8 @@ use Rattle.std.specs.Prelude.{slice_index}
 use Rattle.keep_local.specs.Shapes.{top_of}
 use Rattle.keep_local.specs.Turns.{run}
 use Rattle.keep_local.proofs.Noting.{releasing_next, may_leave_here}
-use Rattle.keep_local.proofs.tests.release.Goals as goal
-use Rattle.keep_local.proofs.tests.release.Goals.{else-queued-via-then-queued+else-run-as_slice, else-queued-via-else-queued}
+use Rattle.trail_trials.proofs.tests.trails.release.Goals as goal
+use Rattle.trail_trials.proofs.tests.trails.release.Goals.{else-queued-via-then-queued+else-run-as_slice, else-queued-via-else-queued}
 
 pub leave-requires-clause-may : goal.leave-requires-clause-may
 leave-requires-clause-may c =

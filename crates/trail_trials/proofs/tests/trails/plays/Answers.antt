@@ -1,7 +1,7 @@
 use Rattle.std.proofs.Common.{◌≡◌, ap, sym, subst}
 use Rattle.std.specs.Prelude.{All}
 use Rattle.keep_local.proofs.Splits.{shares_named}
-use Rattle.keep_local.proofs.tests.plays.Goals as goal
+use Rattle.trail_trials.proofs.tests.trails.plays.Goals as goal
 
 pub loop-turn-init : goal.loop-turn-init
 loop-turn-init c = record {

@@ -1,0 +1,3 @@
+//! The tests, by what tells of a lock's holds.
+mod tokens;
+mod trails;
