@@ -16,6 +16,3 @@ pub use fault::CheckFault;
 pub use laws::one_verdict;
 pub use pair::read_pair;
 pub use verdict::Verdict;
-
-#[cfg(test)]
-mod tests;

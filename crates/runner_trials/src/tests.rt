@@ -13,6 +13,8 @@ use std::test::Fail;
 use synth_text::read;
 use topo_tree::{Topology, Tree};
 
+mod checks;
+
 fn topology(alloc: Global, description: &[u8]) -> Result<Topology, Fail> {
     Ok(Topology::build(alloc, read(alloc, description)?)?)
 }

@@ -1,6 +1,6 @@
 use Rattle.std.proofs.Common.{◌≡◌, ◌^◌, ◌<◌, length, take}
 use Rattle.std.specs.List.{sum_by}
-use Rattle.run_check.proofs.tests.fit.Given as goal
+use Rattle.runner_trials.proofs.tests.checks.fit.Given as goal
 
 -- the bytes of the sections so far
 abbrev pub invariant-loop-section : goal.invariant-loop-section

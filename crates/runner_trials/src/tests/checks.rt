@@ -3,10 +3,10 @@ ghost use Rattle.std.specs.Prelude.{◌<◌, ◌≤◌, ◌^◌, length, sum_by}
 ghost use Rattle.std.specs.Bool.{OnTrue};
 ghost use Rattle.keep_local.specs.Shapes.{top_of};
 
-use crate::{CheckFault, Verdict, check, read_pair};
 use keep_local::Shape;
 use out_of_memory::OutOfMemory;
 use placed_runner::Section;
+use run_check::{CheckFault, Verdict, check, read_pair};
 use sequence::Sequence;
 use std::alloc::Global;
 use std::test::Fail;
