@@ -1,5 +1,5 @@
 #!/usr/bin/env python3
-"""Asks memcached what it answers to the vectors of crates/mc_text/src/tests/lines.rt, over loopback.
+"""Asks memcached what it answers to the vectors of crates/history_trials/src/tests/lines.rt, over loopback.
 
 Run from anywhere: bench/memcached_lines.py   (Debian's package memcached 1.6.18; it is no part of the gate)
 It prints each vector whose answer has another kind than the table says, and how many there are.
@@ -9,7 +9,7 @@ import re
 
 from memcached_server import LITERAL, ask, bytes_of, compare, server
 
-VECTORS = pathlib.Path(__file__).parent.parent / "crates/mc_text/src/tests/lines.rt"
+VECTORS = pathlib.Path(__file__).parent.parent / "crates/history_trials/src/tests/lines.rt"
 KINDS = {
     b"ERROR\r\n": "Unknown",
     b"CLIENT_ERROR bad command line format\r\n": "Format",

@@ -8,6 +8,3 @@ mod text;
 pub use commands::sections;
 pub use setup::{CALLERS, KEEPS, LEVELS, LOCKS, MACHINE};
 pub use text::summary;
-
-#[cfg(test)]
-mod tests;

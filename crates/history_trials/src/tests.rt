@@ -11,7 +11,10 @@ use std::alloc::Global;
 use std::test::Fail;
 use std::thread::join;
 
+mod drills;
+mod lines;
 mod moments;
+mod protocol;
 
 // A journal of one caller that has applied all commands of its section.
 fn applied<'a>(alloc: Global, section: &'a [u8]) -> Result<Journal<'a>, OutOfMemory>

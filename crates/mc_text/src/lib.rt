@@ -17,6 +17,3 @@ pub use commands::Commands;
 pub use keys::Keys;
 pub use laws::{at_most_one_command, one_reading};
 pub use section::{Tally, count};
-
-#[cfg(test)]
-mod tests;

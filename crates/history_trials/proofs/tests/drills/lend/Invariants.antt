@@ -1,5 +1,5 @@
 use Rattle.std.proofs.Common.{◌≡◌, map, take}
-use Rattle.drill_text.proofs.tests.lend.Given as goal
+use Rattle.history_trials.proofs.tests.drills.lend.Given as goal
 
 -- the texts so far are lent
 abbrev pub invariant-loop-text : goal.invariant-loop-text

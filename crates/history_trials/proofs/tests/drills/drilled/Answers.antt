@@ -3,7 +3,7 @@ use Rattle.std.specs.Borrow.{Bor}
 use Rattle.std.specs.declared.alloc.Global.{Global}
 use Rattle.std.specs.Prelude.{sum_by}
 use Rattle.drill_text.proofs.Numbers.{sum_by-map}
-use Rattle.drill_text.proofs.tests.drilled.Goals as goal
+use Rattle.history_trials.proofs.tests.drills.drilled.Goals as goal
 
 same_size : (made : List (Vec ℕ Global)) (lent : List (Bor (List ℕ)))
     → map (λ (one : Bor (List ℕ)). one.now) lent ≡ map (λ (text : Vec ℕ Global). text.items) made

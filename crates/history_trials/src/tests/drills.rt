@@ -4,7 +4,7 @@ ghost use Rattle.mc_text.specs.Reading.{commands_of};
 ghost use Rattle.kv_history.specs.Log.{NoneVoid, calls};
 ghost use Rattle.drill_text.specs.Drill.{drill_text, HaveGivenAll};
 
-use crate::{CALLERS, sections, summary};
+use drill_text::{CALLERS, sections, summary};
 use kv_history::{Journal, Store};
 use mc_text::Commands;
 use out_of_memory::OutOfMemory;

@@ -6,7 +6,7 @@ use Rattle.std.proofs.lemmas.List.{length-map}
 use Rattle.std.proofs.lemmas.Option.{slice_get-get_or, slice_get-map, slice_get_within}
 use Rattle.mc_text.specs.Reading.{commands_of}
 use Rattle.kv_history.specs.Log.{calls}
-use Rattle.drill_text.proofs.tests.worked_off.Goals as goal
+use Rattle.history_trials.proofs.tests.drills.worked_off.Goals as goal
 
 same_section : (all : List (List ℕ)) (sections : List (Bor (List ℕ))) (k w : ℕ) (section : List ℕ) (none : Bor (List ℕ))
     → all ≡ map (λ (one : Bor (List ℕ)). one.now) sections → k < length sections → w ≡ k → slice_get all w ≡ Some section

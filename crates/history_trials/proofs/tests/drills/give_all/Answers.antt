@@ -7,7 +7,7 @@ use Rattle.std.proofs.lemmas.List.Sums.{sum_by_push}
 use Rattle.mc_text.specs.Request.{WholeCommand, view}
 use Rattle.mc_text.specs.Commands.{commands_left}
 use Rattle.kv_history.specs.Log.{Logged, NoneVoid, applied_entry, calls}
-use Rattle.drill_text.proofs.tests.give_all.Goals as goal
+use Rattle.history_trials.proofs.tests.drills.give_all.Goals as goal
 
 -- one call more is counted for its caller alone
 own_call : (before : List ℕ) (caller : ℕ) → count_by (λ other. other == caller) (before ++ caller ∷ [])

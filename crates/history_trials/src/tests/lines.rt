@@ -1,8 +1,8 @@
 //! Lines and blocks with what memcached's protocol.txt and this project's profile make of them. `bench/memcached_lines.py` asks
 //! memcached itself about each, and docs/MEMCACHED.md names those that it answers otherwise.
-use crate::LineFault::{Chunk, Delta, Format, Unknown};
-use crate::tests::First::{Bad, Good};
-use crate::tests::{First, agree};
+use crate::tests::protocol::First::{Bad, Good};
+use crate::tests::protocol::{First, agree};
+use mc_text::LineFault::{Chunk, Delta, Format, Unknown};
 
 // Storage lines: `noreply` in its place and another word there, each number of words, each wrong word.
 const STORAGE: [(&[u8], First); 65] = [

@@ -2,7 +2,7 @@ use Rattle.std.proofs.Common.{◌≡◌, ◌<◌, ◌≤◌, ℕ, List, length, 
 use Rattle.std.specs.Prelude.{◌==◌, count_by, slice_get}
 use Rattle.mc_text.specs.Reading.{commands_of}
 use Rattle.kv_history.specs.Log.{NoneVoid, calls}
-use Rattle.drill_text.proofs.tests.worked_off.Given as goal
+use Rattle.history_trials.proofs.tests.drills.worked_off.Given as goal
 
 -- the callers so far have given all commands of their sections, and the others none
 abbrev pub invariant-loop-caller : goal.invariant-loop-caller

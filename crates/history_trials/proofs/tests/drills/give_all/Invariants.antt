@@ -4,7 +4,7 @@ use Rattle.mc_text.specs.Request.{WholeCommand}
 use Rattle.mc_text.specs.Commands.{commands_left}
 use Rattle.mc_text.specs.Reading.{commands_of}
 use Rattle.kv_history.specs.Log.{NoneVoid, calls}
-use Rattle.drill_text.proofs.tests.give_all.Given as goal
+use Rattle.history_trials.proofs.tests.drills.give_all.Given as goal
 
 -- the caller has given the first commands of its section, and no other has given more
 abbrev pub invariant-loop-command : goal.invariant-loop-command

@@ -1,9 +1,7 @@
 //! Examples from outside the definitions, by memcached's protocol.txt and this project's profile.
-use crate::{Command, Commands, LineFault, Tally, count};
+use mc_text::{Command, Commands, LineFault, Tally, count};
 use std::process::Abort;
 use std::test::Fail;
-
-mod lines;
 
 /// What a text begins with.
 #[derive(Clone, Copy, Debug, PartialEq, Eq)]
