@@ -9,6 +9,3 @@ mod reading;
 
 pub use answer::{Answer, Style, answer_text, set_text};
 pub use reading::{read_layers, read_terms};
-
-#[cfg(test)]
-mod tests;

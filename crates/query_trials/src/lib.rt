@@ -1,5 +1,5 @@
-//! Tests of locations and of answers about them, with those of hwloc-calc. They stand in a crate of their own, so that `calc_query` is
-//! proved once.
+//! Tests of locations and of answers about them, as values and as texts, with those of hwloc-calc. They stand in a crate of their own, so
+//! that `calc_query` and `calc_text` are proved once.
 #![tactic(auto)]
 
 #[cfg(test)]

@@ -16,6 +16,7 @@ use topo_tree::{Layer, Object, Topology};
 mod answers;
 mod faults;
 mod sets;
+mod texts;
 mod trees;
 
 fn built(rt: &impl Abort, alloc: Global, text: &[u8]) -> Topology {

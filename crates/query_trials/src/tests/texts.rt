@@ -1,6 +1,6 @@
-//! Words read, and answers printed. Those of the tests of `clof_tool` are compared with hwloc-calc's.
-use crate::{Answer, Style, answer_text, read_layers, read_terms, set_text};
+//! Words read, and answers printed. Those of `command_trials` are compared with those of hwloc-calc.
 use calc_query::{CalcFault, Numbering, select};
+use calc_text::{Answer, Style, answer_text, read_layers, read_terms, set_text};
 use std::alloc::Global;
 use std::test::Fail;
 use synth_text::read;
