@@ -3,6 +3,7 @@ mod calc;
 mod distrib;
 mod options;
 mod plan;
+mod reading;
 mod set;
 mod topo;
 

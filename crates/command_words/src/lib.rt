@@ -19,6 +19,3 @@ pub use asked::{
 };
 pub use fault::WordsFault;
 pub use words::read_words;
-
-#[cfg(test)]
-mod tests;

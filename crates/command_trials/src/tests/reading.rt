@@ -1,5 +1,5 @@
 //! Words, read.
-use crate::{Asked, Checking, Depths, Question, Running, WordsFault, read_words};
+use command_words::{Asked, Checking, Depths, Question, Running, WordsFault, read_words};
 use std::alloc::Global;
 use std::process::Abort;
 use std::test::Fail;
