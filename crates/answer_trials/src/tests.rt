@@ -3,6 +3,7 @@ mod examples;
 mod limits;
 mod refusals;
 mod sizes;
+mod streams;
 
 use clof_tool::top;
 use edge_io::{SureSink, SureSource};

@@ -17,9 +17,6 @@ use std::sync::Wait;
 use std::thread::Threads;
 use topo_tree::Tree;
 
-#[cfg(test)]
-mod tests;
-
 /// How many threads the callers of a drill share, and how many commands of a caller one gives at a time. With a thread for each of the 64
 /// callers nine tenths of a drill went to waiting for callers that had the lock and weren't running.
 const DRILL_THREADS: u32 = 4;

@@ -19,9 +19,6 @@ use std::sync::Wait;
 use std::thread::Threads;
 use std::{env, io};
 
-#[cfg(test)]
-mod tests;
-
 /// The process that the program runs in: the words behind its name, where its input comes from, and where its output and
 /// what it tells of errors go.
 #[derive(Drop)]

@@ -11,6 +11,3 @@ mod sharing;
 pub use fault::DistribFault;
 pub use laws::{masks_are_as_many, masks_cover_the_start, order_makes_no_difference};
 pub use sharing::distrib;
-
-#[cfg(test)]
-mod tests;

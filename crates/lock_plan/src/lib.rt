@@ -16,6 +16,3 @@ pub use fault::PlanFault;
 pub use kind::LockKind;
 pub use laws::{one_answer, one_level_is_one_node, plans_are_for_their_topology, shapes_are_trees};
 pub use plan::Plan;
-
-#[cfg(test)]
-mod tests;

@@ -23,6 +23,3 @@ pub use keep::read_keep;
 pub use laws::{ideal_turns_are_lawful, levels_make_a_shape, one_answer};
 pub use trace::read_trace;
 pub use weights::read_weights;
-
-#[cfg(test)]
-mod tests;

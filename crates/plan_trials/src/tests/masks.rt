@@ -1,7 +1,7 @@
 //! Distributions over whole topologies. The masks of the tables are those of hwloc-distrib 2.9.
-use super::*;
 use byte_text::{Words, number32};
 use cpu_set::CpuSet;
+use distrib_rules::{DistribFault, distrib};
 use std::alloc::Global;
 use std::process::Abort;
 use std::test::Fail;

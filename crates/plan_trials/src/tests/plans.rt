@@ -3,8 +3,8 @@ ghost use Rattle.std.specs.Prelude.{◌≡◌, ◌<◌, All, IfOk, IsTrue};
 ghost use Rattle.synth_text.specs.Rules.{pu_count};
 ghost use Rattle.lock_plan.specs.Plans.{IsPlanFor};
 
-use super::*;
 use keep_local::Shape;
+use lock_plan::{LockKind, Plan, PlanFault};
 use std::alloc::Global;
 use std::process::Abort;
 use std::test::Fail;

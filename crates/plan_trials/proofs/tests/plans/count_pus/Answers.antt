@@ -2,7 +2,7 @@ use Rattle.std.proofs.Common.{◌≡◌, ◌-◌, length, arith, ap, ◌∙◌}
 use Rattle.synth_text.specs.Rules.{pu_count}
 use Rattle.topo_tree.specs.Objects.{count_at}
 use Rattle.topo_tree.proofs.CountLaws.{last_count}
-use Rattle.lock_plan.proofs.tests.count_pus.Goals as goal
+use Rattle.plan_trials.proofs.tests.plans.count_pus.Goals as goal
 
 pub returns : goal.returns
 returns g c =

@@ -1,5 +1,5 @@
 //! Choices for small traces, whose costs a plain program outside counted (bench/selections.py), and all refusals.
-use super::*;
+use lock_select::{SelectFault, choose, read_keep, read_trace, read_weights};
 use std::alloc::Global;
 use std::process::Abort;
 use std::test::Fail;
@@ -31,7 +31,7 @@ fn check_choice(
     assert_eq!(rt; choice.depths.as_slice(), depths);
     assert_eq!(rt; choice.cost, cost);
     assert_eq!(rt;
-        crate::cost(&tree, &weights, choice.depths.as_slice(), keep, &trace),
+        lock_select::cost(&tree, &weights, choice.depths.as_slice(), keep, &trace),
         cost
     );
     Ok(())

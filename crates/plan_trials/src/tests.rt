@@ -1,0 +1,5 @@
+//! The tests, by what they ask of a topology.
+mod choices;
+mod drills;
+mod masks;
+mod plans;
