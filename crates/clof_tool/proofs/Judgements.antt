@@ -8,7 +8,7 @@ use Rattle.placed_runner.specs.declared.sections.Section.{Section}
 use Rattle.placed_runner.specs.Sections.{Placed, Sections}
 use Rattle.placed_runner.specs.Views.{section_view}
 use Rattle.placed_runner.proofs.Uniqueness.{refusal_once}
-use Rattle.run_check.specs.declared.fault.CheckFault.{CheckFault}
+use Rattle.run_faults.specs.declared.fault.CheckFault.{CheckFault}
 use Rattle.run_check.specs.declared.verdict.Verdict.{Verdict}
 use Rattle.run_check.specs.declared.verdict.Verdict.TheVariants.{Yes, No}
 use Rattle.run_check.specs.Broken.{IsVerdict}

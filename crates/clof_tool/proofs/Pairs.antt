@@ -6,8 +6,8 @@ use Rattle.std.proofs.lemmas.Bool.{ltb-true}
 use Rattle.std.proofs.lemmas.List.{take_at, drop_at}
 use Rattle.std.specs.Str.Parse.{digits_value}
 use Rattle.byte_text.specs.Numerals.{is_decimal, number_below}
-use Rattle.run_check.specs.declared.fault.CheckFault.{CheckFault}
-use Rattle.run_check.specs.declared.fault.CheckFault.TheVariants.{BadHead, Short}
+use Rattle.run_faults.specs.declared.fault.CheckFault.{CheckFault}
+use Rattle.run_faults.specs.declared.fault.CheckFault.TheVariants.{BadHead, Short}
 use Rattle.run_check.specs.Pairs.{ArePair, IsRefused, length_of, size_of}
 use Rattle.run_check.proofs.Heads.{pair_behind}
 use Rattle.clof_tool.specs.Run.{input_limit}

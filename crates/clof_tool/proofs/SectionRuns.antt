@@ -15,8 +15,8 @@ use Rattle.keep_local.specs.Shapes.{top_of}
 use Rattle.lock_plan.specs.declared.plan.Plan.{Plan}
 use Rattle.lock_plan.specs.Plans.{IsPlanFor}
 use Rattle.lock_plan.proofs.Plans.{plan_is_for}
-use Rattle.placed_runner.specs.declared.fault.SectionFault.{SectionFault}
-use Rattle.placed_runner.specs.declared.fault.SectionFault.TheVariants as section
+use Rattle.run_faults.specs.declared.fault.SectionFault.{SectionFault}
+use Rattle.run_faults.specs.declared.fault.SectionFault.TheVariants as section
 use Rattle.placed_runner.specs.Sections.{caller_limit, IsRefused, Placed, Sections, placed, placed_at}
 use Rattle.placed_runner.specs.Printed.{IsRun}
 use Rattle.placed_runner.proofs.Printed.{one_history_lem}

@@ -4,8 +4,8 @@ use Rattle.synth_text.specs.declared.description.Description.{Description}
 use Rattle.keep_local.specs.declared.shape.Shape.{Shape}
 use Rattle.lock_plan.specs.declared.plan.Plan.{Plan}
 use Rattle.lock_plan.specs.Shapes.{IsShapeOf}
-use Rattle.placed_runner.specs.declared.fault.SectionFault.{SectionFault}
-use Rattle.placed_runner.specs.declared.fault.SectionFault.TheVariants as section
+use Rattle.run_faults.specs.declared.fault.SectionFault.{SectionFault}
+use Rattle.run_faults.specs.declared.fault.SectionFault.TheVariants as section
 use Rattle.placed_runner.specs.Sections.{Placed, Sections, IsRefused}
 use Rattle.placed_runner.specs.Printed.{IsRun}
 use Rattle.placed_runner.specs.Text.{Hold}

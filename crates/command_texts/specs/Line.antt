@@ -10,10 +10,10 @@ use Rattle.lock_plan.specs.declared.fault.PlanFault.{PlanFault}
 use Rattle.lock_plan.specs.declared.fault.PlanFault.TheVariants as plan
 use Rattle.lock_select.specs.declared.fault.SelectFault.{SelectFault}
 use Rattle.lock_select.specs.declared.fault.SelectFault.TheVariants as select
-use Rattle.placed_runner.specs.declared.fault.SectionFault.{SectionFault}
-use Rattle.placed_runner.specs.declared.fault.SectionFault.TheVariants as section
-use Rattle.run_check.specs.declared.fault.CheckFault.{CheckFault}
-use Rattle.run_check.specs.declared.fault.CheckFault.TheVariants as check
+use Rattle.run_faults.specs.declared.fault.SectionFault.{SectionFault}
+use Rattle.run_faults.specs.declared.fault.SectionFault.TheVariants as section
+use Rattle.run_faults.specs.declared.fault.CheckFault.{CheckFault}
+use Rattle.run_faults.specs.declared.fault.CheckFault.TheVariants as check
 use Rattle.synth_text.specs.declared.fault.SynthFault.{SynthFault}
 use Rattle.synth_text.specs.declared.fault.SynthFault.TheVariants as synth
 use Rattle.topo_tree.specs.declared.fault.BuildFault.{BuildFault}

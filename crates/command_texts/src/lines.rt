@@ -14,8 +14,7 @@ use distrib_rules::DistribFault;
 use itoa::Buffer;
 use lock_plan::PlanFault;
 use lock_select::SelectFault;
-use placed_runner::SectionFault;
-use run_check::CheckFault;
+use run_faults::{CheckFault, SectionFault};
 use synth_text::SynthFault;
 use topo_tree::BuildFault;
 

@@ -17,8 +17,7 @@ use distrib_rules::DistribFault;
 use lock_plan::PlanFault;
 use lock_select::SelectFault;
 use out_of_memory::OutOfMemory;
-use placed_runner::SectionFault;
-use run_check::CheckFault;
+use run_faults::{CheckFault, SectionFault};
 use std::alloc::Global;
 use std::process::Abort;
 use std::test::Fail;
@@ -110,6 +109,10 @@ fn tells_each_fault(rt: HostRuntime) -> Result<(), Fail> {
         (
             Fault::Check(CheckFault::BadHead),
             "the check: the head of the input",
+        ),
+        (
+            Fault::Check(CheckFault::Short),
+            "the check: the bytes behind the head of the input",
         ),
     ];
     for (fault, wanted) in rows {

@@ -8,8 +8,8 @@ use Rattle.byte_text.specs.Cuts.{IsCutAt, cut}
 use Rattle.byte_text.proofs.CutLaws.{CutsAt, cuts_of}
 use Rattle.synth_text.specs.declared.description.Description.{Description}
 use Rattle.placed_runner.specs.declared.place.Place.{Place}
-use Rattle.placed_runner.specs.declared.fault.SectionFault.{SectionFault}
-use Rattle.placed_runner.specs.declared.fault.SectionFault.TheVariants.{BadHead, BadPlace, Short, TooManyCallers}
+use Rattle.run_faults.specs.declared.fault.SectionFault.{SectionFault}
+use Rattle.run_faults.specs.declared.fault.SectionFault.TheVariants.{BadHead, BadPlace, Short, TooManyCallers}
 use Rattle.placed_runner.specs.Heads.{Head, head_of}
 use Rattle.placed_runner.specs.Places.{place_of}
 use Rattle.placed_runner.specs.Sections.{AreSections, BeginsWith, FrontBreaks, IsRefused, ReadsTo, Sections, Written, Placed}

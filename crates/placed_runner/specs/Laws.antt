@@ -1,7 +1,7 @@
 -- What holds of every input, and of every printed text.
 use Rattle.std.specs.Prelude.{◌≡◌, ◌⊎◌, ◌≤◌, ◌^◌, ℕ, List, length}
 use Rattle.synth_text.specs.declared.description.Description.{Description}
-use Rattle.placed_runner.specs.declared.fault.SectionFault.{SectionFault}
+use Rattle.run_faults.specs.declared.fault.SectionFault.{SectionFault}
 use Rattle.keep_local.specs.declared.shape.Shape.{Shape}
 use Rattle.keep_local.specs.Shapes.{top_of}
 use Rattle.placed_runner.specs.Sections.{Placed, Sections, IsRefused}

@@ -5,8 +5,8 @@ use Rattle.byte_text.specs.Cuts.{IsCutAt}
 use Rattle.synth_text.specs.declared.description.Description.{Description}
 use Rattle.placed_runner.specs.declared.place.Place.{Place}
 use Rattle.placed_runner.specs.declared.place.Place.TheVariants.{Anywhere}
-use Rattle.placed_runner.specs.declared.fault.SectionFault.{SectionFault}
-use Rattle.placed_runner.specs.declared.fault.SectionFault.TheVariants.{BadHead, BadPlace, Short, TooManyCallers, OutOfMemory}
+use Rattle.run_faults.specs.declared.fault.SectionFault.{SectionFault}
+use Rattle.run_faults.specs.declared.fault.SectionFault.TheVariants.{BadHead, BadPlace, Short, TooManyCallers, OutOfMemory}
 use Rattle.placed_runner.specs.Heads.{Head, head_of}
 use Rattle.placed_runner.specs.Places.{place_of, pu_on}
 

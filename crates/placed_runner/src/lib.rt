@@ -2,7 +2,6 @@
 #![tactic(auto)]
 
 mod escape;
-mod fault;
 mod gate;
 mod heads;
 mod laws;
@@ -13,10 +12,10 @@ mod sections;
 mod size;
 mod spreading;
 
-pub use fault::SectionFault;
 pub use gate::{Gate, OpenGate};
 pub use laws::{one_answer, one_history};
 pub use lines::{Line, push_caller, push_turn};
 pub use printing::text;
+pub use run_faults::SectionFault;
 pub use sections::{Section, read_sections};
 pub use spreading::spread;

@@ -5,14 +5,14 @@ ghost use Rattle.calc_query.specs.declared.query.Numbering.TheVariants as number
 ghost use Rattle.calc_query.specs.Selection.{selected, HasLayers};
 ghost use Rattle.distrib_rules.specs.Faults.{mask_limit};
 ghost use Rattle.out_of_memory.specs.Memory.{UnlessMemory};
-ghost use Rattle.placed_runner.specs.declared.fault.SectionFault.TheVariants as faults;
+ghost use Rattle.run_faults.specs.declared.fault.SectionFault.TheVariants as faults;
 ghost use Rattle.placed_runner.specs.Places.{lone_pu, place_of, masks_of, first_pu, mask_pu, pu_on};
 
-use crate::fault::SectionFault;
 use calc_query::{CalcFault, Location, Numbering, Op, Term, read_location, select};
 use cpu_set::CpuSet;
 use distrib_rules::distrib;
 use out_of_memory::OutOfMemory;
+use run_faults::SectionFault;
 use std::alloc::Global;
 use topo_tree::Tree;
 

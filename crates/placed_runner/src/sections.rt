@@ -2,7 +2,7 @@
 ghost use Rattle.std.specs.Prelude.{◌≡◌, ◌≤◌, ◌<◌, ◌++◌, ◌∷◌, [], List, ℕ, MatchOption, IfOk, IfErr, length, map, vec_len, sum_by};
 ghost use Rattle.std.specs.List.{enumerate_from};
 ghost use Rattle.out_of_memory.specs.Memory.{UnlessMemory};
-ghost use Rattle.placed_runner.specs.declared.fault.SectionFault.TheVariants as faults;
+ghost use Rattle.run_faults.specs.declared.fault.SectionFault.TheVariants as faults;
 ghost use Rattle.placed_runner.specs.Sections.{
   caller_limit,
   BeginsWith,
@@ -15,11 +15,11 @@ ghost use Rattle.placed_runner.specs.Sections.{
 };
 ghost use Rattle.placed_runner.specs.Views.{written_view, section_view};
 
-use crate::fault::SectionFault;
 use crate::heads::read_head;
 use crate::place::{Place, masks, pu_on, read_place};
 use byte_text::cut_at;
 use out_of_memory::OutOfMemory;
+use run_faults::SectionFault;
 use std::alloc::Global;
 use topo_tree::{AsTree, Tree};
 

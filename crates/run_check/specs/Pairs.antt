@@ -3,8 +3,8 @@ use Rattle.std.specs.Prelude.{◌≡◌, ℕ, ◌+◌, List, ◌∷◌, ◌++◌
 use Rattle.std.specs.List.{starts_with}
 use Rattle.byte_text.specs.Cuts.{IsCutAt}
 use Rattle.byte_text.specs.Numerals.{number_below}
-use Rattle.run_check.specs.declared.fault.CheckFault.{CheckFault}
-use Rattle.run_check.specs.declared.fault.CheckFault.TheVariants.{BadHead, Short}
+use Rattle.run_faults.specs.declared.fault.CheckFault.{CheckFault}
+use Rattle.run_faults.specs.declared.fault.CheckFault.TheVariants.{BadHead, Short}
 
 -- how many bytes an input may have
 abbrev pub input_limit : ℕ

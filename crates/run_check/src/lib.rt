@@ -2,7 +2,6 @@
 #![tactic(auto)]
 
 mod checking;
-mod fault;
 mod laws;
 mod pair;
 mod reading;
@@ -12,7 +11,8 @@ mod turns;
 mod verdict;
 
 pub use checking::check;
-pub use fault::CheckFault;
+
 pub use laws::one_verdict;
 pub use pair::read_pair;
+pub use run_faults::CheckFault;
 pub use verdict::Verdict;

@@ -3,8 +3,8 @@
 ghost use Rattle.std.specs.Prelude.{◌≡◌, ◌++◌, ◌∷◌, List, ℕ, length, MatchOption, IfOk, IfErr};
 ghost use Rattle.run_check.specs.Pairs.{ArePair, IsRefused, length_of, size_of};
 
-use crate::fault::CheckFault;
 use byte_text::{cut_at, number_up_to};
+use run_faults::CheckFault;
 
 // How many bytes an input may have.
 const INPUT_LIMIT: u64 = 16_777_216;

@@ -1,10 +1,10 @@
 use Rattle.std.proofs.Common.{◌≡◌, ℕ, List, None, inl, inr, refl, sym, subst}
 use Rattle.synth_text.specs.declared.description.Description.{Description}
-use Rattle.placed_runner.specs.declared.fault.SectionFault.{SectionFault}
+use Rattle.run_faults.specs.declared.fault.SectionFault.{SectionFault}
 use Rattle.placed_runner.specs.Heads.{Head}
 use Rattle.placed_runner.specs.Places.{place_of}
 use Rattle.out_of_memory.specs.Memory.{UnlessMemory}
-use Rattle.placed_runner.specs.declared.fault.SectionFault.TheVariants as faults
+use Rattle.run_faults.specs.declared.fault.SectionFault.TheVariants as faults
 use Rattle.placed_runner.specs.Sections.{HasHead, FrontBreaks}
 use Rattle.placed_runner.specs.Views.{head_view}
 use Rattle.placed_runner.proofs.Walks.{no_line, no_head, section_behind}

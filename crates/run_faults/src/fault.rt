@@ -1,6 +1,6 @@
-//! Why an input is refused.
+//! Why sections of an input, or an input with a printed text behind it, are refused.
 ghost use Rattle.std.specs.Prelude.{◌≡◌};
-ghost use Rattle.placed_runner.specs.declared.fault.SectionFault.TheVariants as faults;
+ghost use Rattle.run_faults.specs.declared.fault.SectionFault.TheVariants as faults;
 
 use std::alloc::{AllocError, AllocFailed};
 use thiserror::Error;
@@ -49,4 +49,15 @@ impl<T: Drop> From<AllocFailed<T>> for SectionFault {
     fn from(_refused: AllocFailed<T>) -> SectionFault {
         SectionFault::OutOfMemory
     }
+}
+
+/// Why bytes are no input with a printed text behind it. A fault's number is its place in this list, from 1.
+#[derive(Clone, Copy, Debug, PartialEq, Eq, Error)]
+pub enum CheckFault {
+    /// The first line isn't `input` and a length of at most 16,777,216.
+    #[error("the head of the input")]
+    BadHead,
+    /// Fewer bytes than the length stand behind the head, or no line end stands behind them.
+    #[error("the bytes behind the head of the input")]
+    Short,
 }
