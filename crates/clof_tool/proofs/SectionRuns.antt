@@ -1,5 +1,5 @@
 -- A run of sections: what is printed, or the first rule that the input breaks.
-use Rattle.std.proofs.Common.{◌≡◌, ◌≤◌, ◌⊎◌, ℕ, Bool, true, false, List, length, map, Ok, inl, inr, refl, sym, ap, subst, ◌∙◌, arith}
+use Rattle.std.proofs.Common.{◌≡◌, ◌≤◌, ℕ, Bool, true, false, List, length, map, Ok, inl, inr, refl, sym, ap, subst, ◌∙◌, arith}
 use Rattle.std.proofs.lemmas.Bool.{cases_lt}
 use Rattle.std.proofs.lemmas.List.{length-map}
 use Rattle.std.proofs.lemmas.List.FromFn.{length-enumerate_from}
@@ -35,14 +35,14 @@ use Rattle.clof_tool.specs.Laws.{NotBoth, OneApplies, OneHistory, OneRefusal}
 -- the status of a refusal is its own
 pub status_found : (described : Description) (input : List ℕ) (fault : SectionFault)
     → UnlessMemory section.OutOfMemory fault (IsRefused described input fault)
-    → (section_status fault ≡ statuses.OutOfMemory) ⊎ RefusesSections described input (section_status fault)
-status_found described input fault (inl refused) = inr (record { fault = fault; refused = refused; status_is = refl })
-status_found described input fault (inr memory) = inl (ap section_status memory)
+    → UnlessMemory statuses.OutOfMemory (section_status fault) (RefusesSections described input (section_status fault))
+status_found described input fault (inl refused) = inl (record { fault = fault; refused = refused; status_is = refl })
+status_found described input fault (inr memory) = inr (ap section_status memory)
 
 -- and no other's
 pub status_only : (described : Description) (input : List ℕ) (fault : SectionFault) (status : Status)
     → UnlessMemory section.OutOfMemory fault (IsRefused described input fault) → RefusesSections described input status
-    → (section_status fault ≡ status) ⊎ (section_status fault ≡ statuses.OutOfMemory)
+    → UnlessMemory statuses.OutOfMemory (section_status fault) (section_status fault ≡ status)
 status_only described input fault status (inl refused) refuses =
     inl (ap section_status (refusal_once described input fault refuses.fault refused refuses.refused) ∙ sym refuses.status_is)
 status_only described input fault status (inr memory) refuses = inr (ap section_status memory)
@@ -59,8 +59,8 @@ pub only_memory : (described : Description) (input : List ℕ) (fault : SectionF
     → ((status : Status) → RefusesSections described input status → ⊥) → section_status fault ≡ statuses.OutOfMemory
 only_memory described input fault found none =
     elim (status_found described input fault found) [
-      | inl memory ↦ memory
-      | inr refuses ↦ absurd (none (section_status fault) refuses)
+      | inl refuses ↦ absurd (none (section_status fault) refuses)
+      | inr memory ↦ memory
     ]
 
 -- ---- one history, or one refusal

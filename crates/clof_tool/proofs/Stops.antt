@@ -1,6 +1,7 @@
 -- What was made before the first write.
 use Rattle.std.proofs.Common.{◌≡◌, ◌⊎◌, ℕ, Ok, Err, refl, sym, ap, subst, inl, inr}
 use Rattle.std.specs.Prelude.{IsOk, IfOk, IfErr, Result}
+use Rattle.out_of_memory.specs.Memory.{UnlessMemory}
 use Rattle.command_texts.specs.declared.status.Status.{Status}
 use Rattle.command_texts.specs.declared.status.Status.TheVariants as statuses
 use Rattle.command_texts.specs.Ends.{HasWritten}
@@ -21,11 +22,11 @@ from_text (Err status) P is holds = cc
 
 -- where no status refuses, there is a text, or memory is wanting
 pub complete_of : {T : Type 0} (made : Result T Status) (Refuses : Status → Type 0)
-    → IfErr made (λ status. (status ≡ statuses.OutOfMemory) ⊎ Refuses status) → ((status : Status) → Refuses status → ⊥)
-    → IsOk made ⊎ (made ≡ Err statuses.OutOfMemory)
+    → IfErr made (λ status. UnlessMemory statuses.OutOfMemory status (Refuses status)) → ((status : Status) → Refuses status → ⊥)
+    → UnlessMemory (Err statuses.OutOfMemory) made (IsOk made)
 complete_of (Ok text) Refuses cause none = inl refl
-complete_of (Err status) Refuses (inl memory) none = inr (ap Err memory)
-complete_of (Err status) Refuses (inr refuses) none = absurd (none status refuses)
+complete_of (Err status) Refuses (inl refuses) none = absurd (none status refuses)
+complete_of (Err status) Refuses (inr memory) none = inr (ap Err memory)
 
 module _ {T U : Type 0} where
   -- where nothing is built though something could be, memory is wanting

@@ -3,6 +3,7 @@ use Rattle.std.specs.Prelude.{◌≡◌, ◌≢◌, ◌<◌, ◌⊎◌, ℕ, Lis
 use Rattle.std.specs.declared.option.Option.{Option}
 use Rattle.std.specs.declared.string.String.{String}
 use Rattle.std.specs.declared.alloc.Global.{Global}
+use Rattle.out_of_memory.specs.Memory.{UnlessMemory}
 use Rattle.edge_io.specs.Counts.{Rose}
 use Rattle.edge_io.specs.Contents.{Gains, IsDrained}
 use Rattle.edge_io.specs.Reading.{HasGiven}
@@ -34,14 +35,14 @@ pub record ByWords (words : List (String Global)) (source source_now : Reads) (s
   pub unread : IsUsage words → source_now ≡ source
   pub unread_else : (asked : Asked) → Says words asked → (ReadsInput asked → ⊥) → source_now ≡ source
   pub refused : (asked : Asked) (wanted : Status) → Says words asked → WordsRefused asked wanted
-      → (status ≡ wanted) ⊎ (status ≡ statuses.OutOfMemory)
+      → UnlessMemory statuses.OutOfMemory status (status ≡ wanted)
   pub unread_refused : (asked : Asked) (wanted : Status) → Says words asked → WordsRefused asked wanted → source_now ≡ source
 
 -- what was read decides, and each refusal has its cause
 pub record ByInput (words : List (String Global)) (source source_now : Reads) (status : Status) : Type 0 where
   pub refused : (asked : Asked) (input : List ℕ) (wanted : Status) → Says words asked → source.left ≡ Some input
       → InputRefused asked input wanted → (Rose source.faults source_now.faults → ⊥)
-      → (status ≡ wanted) ⊎ (status ≡ statuses.OutOfMemory)
+      → UnlessMemory statuses.OutOfMemory status (status ≡ wanted)
   pub cause : (asked : Asked) → Says words asked → IsRefusal status → HasCause asked source.left source.given source_now.given status
   pub at_end : (asked : Asked) → Says words asked → ReadsInput asked → status ≡ statuses.Ok → IsDrained source.left source_now.left
   pub read_fault : status ≡ statuses.ReadFault → Rose source.faults source_now.faults
@@ -78,7 +79,7 @@ abbrev pub IsComplete : List (String Global) → Reads → Reads → Writes → 
 IsComplete words source source_now out out_now status =
     (asked : Asked) → Says words asked → ((wanted : Status) → WordsRefused asked wanted → ⊥)
     → (ReadsInput asked → IsAccepted asked source.left) → (ReadsInput asked → Rose source.faults source_now.faults → ⊥)
-    → (Rose out.faults out_now.faults → ⊥) → (Rose out.stalls out_now.stalls → ⊥) → (status ≡ statuses.Ok) ⊎ (status ≡ statuses.OutOfMemory)
+    → (Rose out.faults out_now.faults → ⊥) → (Rose out.stalls out_now.stalls → ⊥) → UnlessMemory statuses.OutOfMemory status (status ≡ statuses.Ok)
 
 -- how a call on words ends
 pub record Ended (words : List (String Global)) (source source_now : Reads) (out out_now err err_now : Writes) (status : Status)

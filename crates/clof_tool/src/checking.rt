@@ -1,5 +1,6 @@
 //! What `check` prints of all that the source has left.
 ghost use Rattle.std.specs.Prelude.{◌≡◌, ◌≢◌, ◌≤◌, ◌⊎◌, ℕ, List, Some, length, IfErr, IfOk, IsOk, OnOk};
+ghost use Rattle.out_of_memory.specs.Memory.{UnlessMemory};
 ghost use Rattle.edge_io.specs.Counts.{Rose};
 ghost use Rattle.edge_io.specs.Contents.{IsDrained};
 ghost use Rattle.edge_io.specs.Reading.{HasGiven};
@@ -65,16 +66,16 @@ fn check_in<S: Source>(
         HasGiven pair_limit (S.left source.old) (S.left source.new) (S.given source.old) (S.given source.new) }
     ensures read_calm { result ≢ Err Status.ReadFault → S.faults source.new ≡ S.faults source.old }
     ensures plan_refused { (status : AnyStatus) → RefusesPlan tree.now (as_run (plain_checking asked.entry)) status →
-        (result ≡ Err status) ⊎ (result ≡ Err Status.OutOfMemory) }
+        UnlessMemory (Err Status.OutOfMemory) result (result ≡ Err status) }
     ensures plan_unread { (status : AnyStatus) → RefusesPlan tree.now (as_run (plain_checking asked.entry)) status →
         source.new ≡ source.old }
     ensures input_refused { (bytes : List ℕ) (status : AnyStatus) →
         S.left source.old ≡ Some bytes → RefusesChecked (plain_checking asked.entry) bytes status tree.now →
-        (Rose (S.faults source.old) (S.faults source.new) → ⊥) → (result ≡ Err status) ⊎ (result ≡ Err Status.OutOfMemory) }
+        (Rose (S.faults source.old) (S.faults source.new) → ⊥) → UnlessMemory (Err Status.OutOfMemory) result (result ≡ Err status) }
     ensures complete { (bytes : List ℕ) → S.left source.old ≡ Some bytes →
         ((status : AnyStatus) → RefusesPlan tree.now (as_run (plain_checking asked.entry)) status → ⊥) →
         ((status : AnyStatus) → RefusesChecked (plain_checking asked.entry) bytes status tree.now → ⊥) →
-        (Rose (S.faults source.old) (S.faults source.new) → ⊥) → IsOk result ⊎ (result ≡ Err Status.OutOfMemory) }
+        (Rose (S.faults source.old) (S.faults source.new) → ⊥) → UnlessMemory (Err Status.OutOfMemory) result (IsOk result) }
 {
     match plan_of(alloc, tree, asked) {
         Ok(plan) => checked(alloc, tree, &plan, source),
@@ -86,11 +87,11 @@ fn check_in<S: Source>(
 fn plan_of(alloc: Global, tree: &Tree, asked: Checking<'_>) -> Result<Plan, Status>
     ensures ok { IfOk result (PlanOf tree.now (as_run (plain_checking asked.entry))) }
     ensures usable { IfOk result (IsPlanFor tree.now) }
-    ensures err { IfErr result (λ status. (status ≡ Status.OutOfMemory)
-        ⊎ RefusesPlan tree.now (as_run (plain_checking asked.entry)) status) }
+    ensures err { IfErr result (λ status. UnlessMemory Status.OutOfMemory status
+        (RefusesPlan tree.now (as_run (plain_checking asked.entry)) status)) }
     ensures refused { (status : AnyStatus) → RefusesPlan tree.now (as_run (plain_checking asked.entry)) status →
-        (result ≡ Err status) ⊎ (result ≡ Err Status.OutOfMemory) }
-    ensures complete { HasPlan tree.now (as_run (plain_checking asked.entry)) → IsOk result ⊎ (result ≡ Err Status.OutOfMemory) }
+        UnlessMemory (Err Status.OutOfMemory) result (result ≡ Err status) }
+    ensures complete { HasPlan tree.now (as_run (plain_checking asked.entry)) → UnlessMemory (Err Status.OutOfMemory) result (IsOk result) }
     ensures early { IfErr result EndsEarly }
 {
     read_plan(alloc, tree, asked.as_run())
@@ -118,10 +119,10 @@ fn checked<S: Source>(
     ensures read_calm { result ≢ Err Status.ReadFault → S.faults source.new ≡ S.faults source.old }
     ensures input_refused { (bytes : List ℕ) (status : AnyStatus) →
         S.left source.old ≡ Some bytes → RefusesWhole tree.now bytes status →
-        (Rose (S.faults source.old) (S.faults source.new) → ⊥) → (result ≡ Err status) ⊎ (result ≡ Err Status.OutOfMemory) }
+        (Rose (S.faults source.old) (S.faults source.new) → ⊥) → UnlessMemory (Err Status.OutOfMemory) result (result ≡ Err status) }
     ensures complete { (bytes : List ℕ) →
         S.left source.old ≡ Some bytes → ((status : AnyStatus) → RefusesWhole tree.now bytes status → ⊥) →
-        (Rose (S.faults source.old) (S.faults source.new) → ⊥) → IsOk result ⊎ (result ≡ Err Status.OutOfMemory) }
+        (Rose (S.faults source.old) (S.faults source.new) → ⊥) → UnlessMemory (Err Status.OutOfMemory) result (IsOk result) }
 {
     match read_up_to(alloc, source, PAIR_LIMIT) {
         Ok(bytes) => check_text(alloc, tree, plan, &bytes),

@@ -1,5 +1,6 @@
 //! What `check` prints of an input and a printed text.
-ghost use Rattle.std.specs.Prelude.{◌≡◌, ◌⊎◌, ◌<◌, ◌≤◌, ◌^◌, All, length, map, sum_by, IfOk, IfErr};
+ghost use Rattle.std.specs.Prelude.{◌≡◌, ◌<◌, ◌≤◌, ◌^◌, All, length, map, sum_by, IfOk, IfErr};
+ghost use Rattle.out_of_memory.specs.Memory.{UnlessMemory};
 ghost use Rattle.synth_text.specs.Rules.{pu_count};
 ghost use Rattle.lock_plan.specs.Plans.{IsPlanFor};
 ghost use Rattle.placed_runner.specs.Sections.{caller_limit};
@@ -30,10 +31,10 @@ pub(crate) fn check_text(
     requires plan { IsPlanFor tree.now plan.now }
     requires bytes { length bytes.now ≤ pair_limit }
     ensures ok { IfOk result (λ text. TellsVerdict tree.now plan.now bytes.now text.items) }
-    ensures err { IfErr result (λ status. (status ≡ Status.OutOfMemory) ⊎ RefusesPair tree.now bytes.now status) }
+    ensures err { IfErr result (λ status. UnlessMemory Status.OutOfMemory status (RefusesPair tree.now bytes.now status)) }
     ensures early { IfErr result EndsEarly }
     ensures refused { (status : AnyStatus) → RefusesPair tree.now bytes.now status →
-        (result ≡ Err status) ⊎ (result ≡ Err Status.OutOfMemory) }
+        UnlessMemory (Err Status.OutOfMemory) result (result ≡ Err status) }
 {
     let (input, printed) = match read_pair(bytes) {
         Ok(pair) => pair,
@@ -61,10 +62,10 @@ fn judged(
     requires input { length input.now < 2 ^ 32 }
     requires printed { length printed.now < 2 ^ 32 }
     ensures ok { IfOk result (Judges tree.now plan.now input.now printed.now) }
-    ensures err { IfErr result (λ status. (status ≡ Status.OutOfMemory) ⊎ RefusesSections tree.now input.now status) }
+    ensures err { IfErr result (λ status. UnlessMemory Status.OutOfMemory status (RefusesSections tree.now input.now status)) }
     ensures early { IfErr result EndsEarly }
     ensures refused { (status : AnyStatus) → RefusesSections tree.now input.now status →
-        (result ≡ Err status) ⊎ (result ≡ Err Status.OutOfMemory) }
+        UnlessMemory (Err Status.OutOfMemory) result (result ≡ Err status) }
 {
     // Tells what every tree keeps.
     let _depths = tree.depths();

@@ -1,5 +1,6 @@
 //! What `run` prints of an input.
-ghost use Rattle.std.specs.Prelude.{◌≡◌, ◌⊎◌, ◌<◌, ◌≤◌, ◌^◌, All, length, map, sum_by, IfOk, IfErr, IsOk};
+ghost use Rattle.std.specs.Prelude.{◌≡◌, ◌<◌, ◌≤◌, ◌^◌, All, length, map, sum_by, IfOk, IfErr, IsOk};
+ghost use Rattle.out_of_memory.specs.Memory.{UnlessMemory};
 ghost use Rattle.synth_text.specs.Rules.{pu_count};
 ghost use Rattle.lock_plan.specs.Laws.{IsTree};
 ghost use Rattle.lock_plan.specs.Plans.{IsPlanFor};
@@ -37,12 +38,12 @@ pub(crate) fn run_text<R: Threads + Wait + Sync, G: Gate + Sync>(
     requires plan { IsPlanFor tree.now plan.now }
     requires input { length input.now ≤ input_limit }
     ensures ok { IfOk result (λ printed. PrintsUnder asked.entry.receipts tree.now plan.now input.now printed.items) }
-    ensures err { IfErr result (λ status. (status ≡ Status.OutOfMemory) ⊎ RefusesSections tree.now input.now status) }
+    ensures err { IfErr result (λ status. UnlessMemory Status.OutOfMemory status (RefusesSections tree.now input.now status)) }
     ensures early { IfErr result EndsEarly }
     ensures refused { (status : AnyStatus) → RefusesSections tree.now input.now status →
-        (result ≡ Err status) ⊎ (result ≡ Err Status.OutOfMemory) }
+        UnlessMemory (Err Status.OutOfMemory) result (result ≡ Err status) }
     ensures complete { ((status : AnyStatus) → RefusesSections tree.now input.now status → ⊥) →
-        IsOk result ⊎ (result ≡ Err Status.OutOfMemory) }
+        UnlessMemory (Err Status.OutOfMemory) result (IsOk result) }
 {
     // Tells what every tree keeps.
     let _depths = tree.depths();

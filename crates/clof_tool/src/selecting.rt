@@ -1,5 +1,6 @@
 //! What `select` prints.
 ghost use Rattle.std.specs.Prelude.{◌≡◌, ◌≢◌, ◌≤◌, ◌⊎◌, ℕ, List, Some, length, IfErr, IfOk, IsOk, OnOk};
+ghost use Rattle.out_of_memory.specs.Memory.{UnlessMemory};
 ghost use Rattle.edge_io.specs.Counts.{Rose};
 ghost use Rattle.edge_io.specs.Contents.{IsDrained};
 ghost use Rattle.edge_io.specs.Reading.{HasGiven};
@@ -61,16 +62,16 @@ fn select_in<S: Source>(
         HasGiven input_limit (S.left source.old) (S.left source.new) (S.given source.old) (S.given source.new) }
     ensures read_calm { result ≢ Err Status.ReadFault → S.faults source.new ≡ S.faults source.old }
     ensures terms_refused { (status : AnyStatus) → RefusesTerms tree.now (plain_selection asked.now) status →
-        (result ≡ Err status) ⊎ (result ≡ Err Status.OutOfMemory) }
+        UnlessMemory (Err Status.OutOfMemory) result (result ≡ Err status) }
     ensures terms_unread { (status : AnyStatus) → RefusesTerms tree.now (plain_selection asked.now) status →
         source.new ≡ source.old }
     ensures input_refused { (input : List ℕ) (status : AnyStatus) →
         S.left source.old ≡ Some input → RefusesInput (plain_selection asked.now) input status tree.now →
-        (Rose (S.faults source.old) (S.faults source.new) → ⊥) → (result ≡ Err status) ⊎ (result ≡ Err Status.OutOfMemory) }
+        (Rose (S.faults source.old) (S.faults source.new) → ⊥) → UnlessMemory (Err Status.OutOfMemory) result (result ≡ Err status) }
     ensures complete { (input : List ℕ) → S.left source.old ≡ Some input →
         ((status : AnyStatus) → RefusesTerms tree.now (plain_selection asked.now) status → ⊥) →
         ((status : AnyStatus) → RefusesInput (plain_selection asked.now) input status tree.now → ⊥) →
-        (Rose (S.faults source.old) (S.faults source.new) → ⊥) → IsOk result ⊎ (result ≡ Err Status.OutOfMemory) }
+        (Rose (S.faults source.old) (S.faults source.new) → ⊥) → UnlessMemory (Err Status.OutOfMemory) result (IsOk result) }
 {
     match read_terms(alloc, tree, asked) {
         Ok(terms) => selected(alloc, tree, &terms, source),
@@ -101,10 +102,10 @@ fn selected<S: Source>(
     ensures read_calm { result ≢ Err Status.ReadFault → S.faults source.new ≡ S.faults source.old }
     ensures input_refused { (input : List ℕ) (status : AnyStatus) →
         S.left source.old ≡ Some input → RefusesBytes tree.now input status →
-        (Rose (S.faults source.old) (S.faults source.new) → ⊥) → (result ≡ Err status) ⊎ (result ≡ Err Status.OutOfMemory) }
+        (Rose (S.faults source.old) (S.faults source.new) → ⊥) → UnlessMemory (Err Status.OutOfMemory) result (result ≡ Err status) }
     ensures complete { (input : List ℕ) →
         S.left source.old ≡ Some input → ((status : AnyStatus) → RefusesBytes tree.now input status → ⊥) →
-        (Rose (S.faults source.old) (S.faults source.new) → ⊥) → IsOk result ⊎ (result ≡ Err Status.OutOfMemory) }
+        (Rose (S.faults source.old) (S.faults source.new) → ⊥) → UnlessMemory (Err Status.OutOfMemory) result (IsOk result) }
 {
     match read_input(alloc, source) {
         Ok(input) => selection_text(alloc, tree, terms, &input),

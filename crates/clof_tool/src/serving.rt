@@ -1,5 +1,6 @@
 //! What `run` prints of all that the source has left.
 ghost use Rattle.std.specs.Prelude.{◌≡◌, ◌≢◌, ◌≤◌, ◌⊎◌, ℕ, List, Some, length, IfErr, IfOk, IsOk, OnOk};
+ghost use Rattle.out_of_memory.specs.Memory.{UnlessMemory};
 ghost use Rattle.edge_io.specs.Counts.{Rose};
 ghost use Rattle.edge_io.specs.Contents.{IsDrained};
 ghost use Rattle.edge_io.specs.Reading.{HasGiven};
@@ -69,16 +70,16 @@ fn run_in<R: Threads + Wait + Sync, S: Source, G: Gate + Sync>(
         HasGiven input_limit (S.left source.old) (S.left source.new) (S.given source.old) (S.given source.new) }
     ensures read_calm { result ≢ Err Status.ReadFault → S.faults source.new ≡ S.faults source.old }
     ensures plan_refused { (status : AnyStatus) → RefusesPlan tree.now (plain_running asked.entry) status →
-        (result ≡ Err status) ⊎ (result ≡ Err Status.OutOfMemory) }
+        UnlessMemory (Err Status.OutOfMemory) result (result ≡ Err status) }
     ensures plan_unread { (status : AnyStatus) → RefusesPlan tree.now (plain_running asked.entry) status →
         source.new ≡ source.old }
     ensures input_refused { (input : List ℕ) (status : AnyStatus) →
         S.left source.old ≡ Some input → RefusesPlanned (plain_running asked.entry) input status tree.now →
-        (Rose (S.faults source.old) (S.faults source.new) → ⊥) → (result ≡ Err status) ⊎ (result ≡ Err Status.OutOfMemory) }
+        (Rose (S.faults source.old) (S.faults source.new) → ⊥) → UnlessMemory (Err Status.OutOfMemory) result (result ≡ Err status) }
     ensures complete { (input : List ℕ) → S.left source.old ≡ Some input →
         ((status : AnyStatus) → RefusesPlan tree.now (plain_running asked.entry) status → ⊥) →
         ((status : AnyStatus) → RefusesPlanned (plain_running asked.entry) input status tree.now → ⊥) →
-        (Rose (S.faults source.old) (S.faults source.new) → ⊥) → IsOk result ⊎ (result ≡ Err Status.OutOfMemory) }
+        (Rose (S.faults source.old) (S.faults source.new) → ⊥) → UnlessMemory (Err Status.OutOfMemory) result (IsOk result) }
 {
     match read_plan(alloc, tree, asked) {
         Ok(plan) => served(rt, alloc, tree, &plan, asked, source, gate),
@@ -111,10 +112,10 @@ fn served<R: Threads + Wait + Sync, S: Source, G: Gate + Sync>(
     ensures read_calm { result ≢ Err Status.ReadFault → S.faults source.new ≡ S.faults source.old }
     ensures input_refused { (input : List ℕ) (status : AnyStatus) →
         S.left source.old ≡ Some input → Refuses tree.now input status →
-        (Rose (S.faults source.old) (S.faults source.new) → ⊥) → (result ≡ Err status) ⊎ (result ≡ Err Status.OutOfMemory) }
+        (Rose (S.faults source.old) (S.faults source.new) → ⊥) → UnlessMemory (Err Status.OutOfMemory) result (result ≡ Err status) }
     ensures complete { (input : List ℕ) →
         S.left source.old ≡ Some input → ((status : AnyStatus) → Refuses tree.now input status → ⊥) →
-        (Rose (S.faults source.old) (S.faults source.new) → ⊥) → IsOk result ⊎ (result ≡ Err Status.OutOfMemory) }
+        (Rose (S.faults source.old) (S.faults source.new) → ⊥) → UnlessMemory (Err Status.OutOfMemory) result (IsOk result) }
 {
     match read_input(alloc, source) {
         Ok(input) => run_text(rt, alloc, tree, plan, &input, asked, gate),

@@ -1,5 +1,6 @@
 //! The top call.
 ghost use Rattle.std.specs.Prelude.{◌≡◌, ◌≢◌, ◌<◌, ◌⊎◌, ◌↔◌, ℕ, List, Some, length, take, IfErr, IfOk, IfSome};
+ghost use Rattle.out_of_memory.specs.Memory.{UnlessMemory};
 ghost use Rattle.edge_io.specs.Counts.{Rose};
 ghost use Rattle.edge_io.specs.Contents.{Gains, IsDrained};
 ghost use Rattle.edge_io.specs.Reading.{HasGiven};
@@ -47,14 +48,14 @@ pub fn top<R: Threads + Wait + Sync, S: Source, K: Sink, E: Sink>(
 
     // What is refused by the words alone, whatever the input is.
     ensures words_refused { (asked : PlainAsked) (status : AnyStatus) → Says words.now asked → WordsRefused asked status →
-        (result ≡ status) ⊎ (result ≡ Status.OutOfMemory) }
+        UnlessMemory Status.OutOfMemory result (result ≡ status) }
     ensures unread_refused { (asked : PlainAsked) (status : AnyStatus) → Says words.now asked → WordsRefused asked status →
         source.new ≡ source.old }
 
     // What is refused by what was read, and the cause of each refusal.
     ensures input_refused { (asked : PlainAsked) (input : List ℕ) (status : AnyStatus) → Says words.now asked →
         S.left source.old ≡ Some input → InputRefused asked input status → (Rose (S.faults source.old) (S.faults source.new) → ⊥) →
-        (result ≡ status) ⊎ (result ≡ Status.OutOfMemory) }
+        UnlessMemory Status.OutOfMemory result (result ≡ status) }
     ensures cause { (asked : PlainAsked) → Says words.now asked → IsRefusal result →
         HasCause asked (S.left source.old) (S.given source.old) (S.given source.new) result }
 
@@ -68,7 +69,7 @@ pub fn top<R: Threads + Wait + Sync, S: Source, K: Sink, E: Sink>(
         (ReadsInput asked → IsAccepted asked (S.left source.old)) →
         (ReadsInput asked → Rose (S.faults source.old) (S.faults source.new) → ⊥) →
         (Rose (K.faults out.old) (K.faults out.new) → ⊥) → (Rose (K.stalls out.old) (K.stalls out.new) → ⊥) →
-        (result ≡ Status.Ok) ⊎ (result ≡ Status.OutOfMemory) }
+        UnlessMemory Status.OutOfMemory result (result ≡ Status.Ok) }
 
     // Faults of the source.
     ensures read_fault { result ≡ Status.ReadFault → Rose (S.faults source.old) (S.faults source.new) }
@@ -118,14 +119,14 @@ pub fn top_with<R: Threads + Wait + Sync, S: Source, K: Sink, E: Sink, G: Gate +
 
     // What is refused by the words alone, whatever the input is.
     ensures words_refused { (asked : PlainAsked) (status : AnyStatus) → Says words.now asked → WordsRefused asked status →
-        (result ≡ status) ⊎ (result ≡ Status.OutOfMemory) }
+        UnlessMemory Status.OutOfMemory result (result ≡ status) }
     ensures unread_refused { (asked : PlainAsked) (status : AnyStatus) → Says words.now asked → WordsRefused asked status →
         source.new ≡ source.old }
 
     // What is refused by what was read, and the cause of each refusal.
     ensures input_refused { (asked : PlainAsked) (input : List ℕ) (status : AnyStatus) → Says words.now asked →
         S.left source.old ≡ Some input → InputRefused asked input status → (Rose (S.faults source.old) (S.faults source.new) → ⊥) →
-        (result ≡ status) ⊎ (result ≡ Status.OutOfMemory) }
+        UnlessMemory Status.OutOfMemory result (result ≡ status) }
     ensures cause { (asked : PlainAsked) → Says words.now asked → IsRefusal result →
         HasCause asked (S.left source.old) (S.given source.old) (S.given source.new) result }
 
@@ -139,7 +140,7 @@ pub fn top_with<R: Threads + Wait + Sync, S: Source, K: Sink, E: Sink, G: Gate +
         (ReadsInput asked → IsAccepted asked (S.left source.old)) →
         (ReadsInput asked → Rose (S.faults source.old) (S.faults source.new) → ⊥) →
         (Rose (K.faults out.old) (K.faults out.new) → ⊥) → (Rose (K.stalls out.old) (K.stalls out.new) → ⊥) →
-        (result ≡ Status.Ok) ⊎ (result ≡ Status.OutOfMemory) }
+        UnlessMemory Status.OutOfMemory result (result ≡ Status.Ok) }
 
     // Faults of the source.
     ensures read_fault { result ≡ Status.ReadFault → Rose (S.faults source.old) (S.faults source.new) }

@@ -1,5 +1,5 @@
 -- The plan of the lock of a run where its texts have one, and the first rule that they break where they have none.
-use Rattle.std.proofs.Common.{◌≡◌, ◌⊎◌, ℕ, List, Option, Some, None, inl, inr, refl, sym, ap, subst, ◌∙◌}
+use Rattle.std.proofs.Common.{◌≡◌, ℕ, List, Option, Some, None, inl, inr, refl, sym, ap, subst, ◌∙◌}
 use Rattle.std.specs.Borrow.{Bor}
 use Rattle.byte_text.specs.Views.{text_at}
 use Rattle.out_of_memory.specs.Memory.{UnlessMemory}
@@ -33,13 +33,14 @@ module _ (described : Description) (asked : Running) (fault : PlanFault) where
   IsFound = UnlessMemory faults.OutOfMemory fault (PlanRefused described asked.levels asked.locks asked.keep fault)
 
   -- the status of the fault is a refusal's, or memory was refused
-  pub refusal : (status : Status) → status ≡ plan_status fault → IsFound → (status ≡ OutOfMemory) ⊎ RefusesPlan described asked status
-  refusal status is (inl refused) = inr (record { fault = fault; refused = refused; status_is = is })
-  refusal status is (inr memory) = inl (is ∙ ap plan_status memory)
+  pub refusal : (status : Status) → status ≡ plan_status fault → IsFound
+      → UnlessMemory OutOfMemory status (RefusesPlan described asked status)
+  refusal status is (inl refused) = inl (record { fault = fault; refused = refused; status_is = is })
+  refusal status is (inr memory) = inr (is ∙ ap plan_status memory)
 
   -- the texts are refused with one status alone
   pub refused_once : (status other : Status) → status ≡ plan_status fault → IsFound → RefusesPlan described asked other
-      → (status ≡ other) ⊎ (status ≡ OutOfMemory)
+      → UnlessMemory OutOfMemory status (status ≡ other)
   refused_once status other is (inl refused) refuses =
       let also = refuses.refused in
       let same : fault ≡ refuses.fault = cc in

@@ -1,5 +1,5 @@
 -- How a description is read and built: by what its text describes, or by the first rule that the text or its numbers break.
-use Rattle.std.proofs.Common.{◌≡◌, ◌⊎◌, ℕ, List, Option, Some, None, Ok, Err, inl, inr, sym, ap, subst, ◌∙◌}
+use Rattle.std.proofs.Common.{◌≡◌, ℕ, List, Option, Some, None, Ok, Err, inl, inr, sym, ap, subst, ◌∙◌}
 use Rattle.std.specs.Prelude.{Result}
 use Rattle.out_of_memory.specs.Memory.{UnlessMemory}
 use Rattle.synth_text.specs.declared.description.Description.{Description}
@@ -40,7 +40,7 @@ no_fault found fault (inr memory) = cc
 pub read_refused : (text : List ℕ) (fault : SynthFault)
     → ((described : Description) → Describes text described → Reads (failed fault) (read_as described))
     → ((other : SynthFault) → SynthRefused text other → Reads (failed fault) (failed other))
-    → (status : Status) → TopoRefuses text status → (synth_status fault ≡ status) ⊎ (synth_status fault ≡ OutOfMemory)
+    → (status : Status) → TopoRefuses text status → UnlessMemory OutOfMemory (synth_status fault) (synth_status fault ≡ status)
 read_refused text fault each every status (inl refuses) =
     elim (every refuses.fault refuses.refused) [
       | inl same ↦ let one : refuses.fault ≡ fault = cc in inl (ap synth_status (sym one) ∙ sym refuses.status_is)
@@ -60,7 +60,7 @@ pub build_refused : (text : List ℕ) (found : Description) (fault : BuildFault)
     → ((described : Description) → Describes text described → Reads (read_as found) (read_as described))
     → ((other : SynthFault) → SynthRefused text other → Reads (read_as found) (failed other))
     → UnlessMemory build.OutOfMemory fault (build_fault found ≡ Some fault) → (status : Status) → TopoRefuses text status
-    → (build_status fault ≡ status) ⊎ (build_status fault ≡ OutOfMemory)
+    → UnlessMemory OutOfMemory (build_status fault) (build_status fault ≡ status)
 build_refused text found fault each every first status (inl refuses) =
     absurd (no_fault found refuses.fault (every refuses.fault refuses.refused))
 build_refused text found fault each every first status (inr refuses) =

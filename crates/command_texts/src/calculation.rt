@@ -1,5 +1,6 @@
 //! What `calc` prints.
-ghost use Rattle.std.specs.Prelude.{◌≡◌, ◌⊎◌, ◌++◌, ◌∷◌, [], ℕ, List, option_map, IfOk, IfErr, IsOk};
+ghost use Rattle.std.specs.Prelude.{◌≡◌, ◌++◌, ◌∷◌, [], ℕ, List, option_map, IfOk, IfErr, IsOk};
+ghost use Rattle.out_of_memory.specs.Memory.{UnlessMemory};
 ghost use Rattle.calc_text.specs.Layers.{HasLayers};
 ghost use Rattle.calc_text.specs.Texts.{answer_text};
 ghost use Rattle.command_words.specs.Plain.{plain_question, plain_calculation};
@@ -22,11 +23,11 @@ use topo_tree::Tree;
 /// The answer on the set that locations select, or the status with which it is refused.
 pub fn calc_text(alloc: Global, asked: &Calculation<'_>) -> Result<Vec<u8>, Status>
     ensures ok { IfOk result (λ printed. PrintsCalc (plain_calculation asked.now) printed.items) }
-    ensures err { IfErr result (λ status. (status ≡ Status.OutOfMemory) ⊎ CalcRefuses (plain_calculation asked.now) status) }
+    ensures err { IfErr result (λ status. UnlessMemory Status.OutOfMemory status (CalcRefuses (plain_calculation asked.now) status)) }
     ensures refused { (status : AnyStatus) → CalcRefuses (plain_calculation asked.now) status →
-        (result ≡ Err status) ⊎ (result ≡ Err Status.OutOfMemory) }
+        UnlessMemory (Err Status.OutOfMemory) result (result ≡ Err status) }
     ensures complete { (printed : List ℕ) → PrintsCalc (plain_calculation asked.now) printed →
-        IsOk result ⊎ (result ≡ Err Status.OutOfMemory) }
+        UnlessMemory (Err Status.OutOfMemory) result (IsOk result) }
     ensures early { IfErr result EndsEarly }
 {
     match tree(alloc, asked.description) {
@@ -42,8 +43,8 @@ pub fn calc_text(alloc: Global, asked: &Calculation<'_>) -> Result<Vec<u8>, Stat
 #[tactic(auto, unfolding(crate::specs::CalcText::calc_on))]
 fn answer_on(alloc: Global, tree: &Tree, asked: &Calculation<'_>) -> Result<Vec<u8>, Status>
     ensures ok { IfOk result (λ printed. calc_on tree.now (plain_calculation asked.now) ≡ Ok printed.items) }
-    ensures err { IfErr result (λ status. (status ≡ Status.OutOfMemory)
-        ⊎ (calc_on tree.now (plain_calculation asked.now) ≡ Err status)) }
+    ensures err { IfErr result (λ status. UnlessMemory Status.OutOfMemory status
+        (calc_on tree.now (plain_calculation asked.now) ≡ Err status)) }
     ensures early { IfErr result EndsEarly }
 {
     let answer = match answer_for(alloc, tree, asked.question) {
@@ -70,8 +71,8 @@ fn answer_on(alloc: Global, tree: &Tree, asked: &Calculation<'_>) -> Result<Vec<
 // What is asked of a set, on a topology.
 fn answer_for(alloc: Global, tree: &Tree, question: Question<'_>) -> Result<Answer, Status>
     ensures ok { IfOk result (λ answer. answer_for tree.now (plain_question question.entry) ≡ Ok answer) }
-    ensures err { IfErr result (λ status. (status ≡ Status.OutOfMemory)
-        ⊎ (answer_for tree.now (plain_question question.entry) ≡ Err status)) }
+    ensures err { IfErr result (λ status. UnlessMemory Status.OutOfMemory status
+        (answer_for tree.now (plain_question question.entry) ≡ Err status)) }
     ensures fit { IfOk result (HasLayers tree.now) }
     ensures early { IfErr result EndsEarly }
 {

@@ -1,6 +1,7 @@
 //! What `distrib` prints.
-ghost use Rattle.std.specs.Prelude.{◌≡◌, ◌⊎◌, ◌<◌, ◌-◌, ◌++◌, ◌∷◌, [], ℕ, List, IfOk, IfErr, IfSome, IsOk, OnOk, MatchResult};
+ghost use Rattle.std.specs.Prelude.{◌≡◌, ◌<◌, ◌-◌, ◌++◌, ◌∷◌, [], ℕ, List, IfOk, IfErr, IfSome, IsOk, OnOk, MatchResult};
 ghost use Rattle.std.specs.Prelude.{Result as PlainResult};
+ghost use Rattle.out_of_memory.specs.Memory.{UnlessMemory};
 ghost use Rattle.topo_tree.specs.Objects.{depth_count};
 ghost use Rattle.command_texts.specs.declared.status.OptionName.{OptionName as AnyOption};
 ghost use Rattle.command_texts.specs.declared.status.Status.{Status as AnyStatus};
@@ -23,11 +24,11 @@ use topo_tree::Tree;
 /// The masks that are asked for, one a line, or the status with which they are refused.
 pub fn distrib_text(alloc: Global, asked: &Distribution<'_>) -> Result<Vec<u8>, Status>
     ensures ok { IfOk result (λ printed. PrintsDistrib (plain_distribution asked.now) printed.items) }
-    ensures err { IfErr result (λ status. (status ≡ Status.OutOfMemory) ⊎ DistribRefuses (plain_distribution asked.now) status) }
+    ensures err { IfErr result (λ status. UnlessMemory Status.OutOfMemory status (DistribRefuses (plain_distribution asked.now) status)) }
     ensures refused { (status : AnyStatus) → DistribRefuses (plain_distribution asked.now) status →
-        (result ≡ Err status) ⊎ (result ≡ Err Status.OutOfMemory) }
+        UnlessMemory (Err Status.OutOfMemory) result (result ≡ Err status) }
     ensures complete { (printed : List ℕ) → PrintsDistrib (plain_distribution asked.now) printed →
-        IsOk result ⊎ (result ≡ Err Status.OutOfMemory) }
+        UnlessMemory (Err Status.OutOfMemory) result (IsOk result) }
     ensures early { IfErr result EndsEarly }
 {
     match tree(alloc, asked.description) {
@@ -43,8 +44,8 @@ pub fn distrib_text(alloc: Global, asked: &Distribution<'_>) -> Result<Vec<u8>, 
 #[tactic(auto, unfolding(crate::specs::DistribText::answer_on))]
 fn answer_on(alloc: Global, tree: &Tree, asked: &Distribution<'_>) -> Result<Vec<u8>, Status>
     ensures ok { IfOk result (λ printed. answer_on tree.now (plain_distribution asked.now) ≡ Ok printed.items) }
-    ensures err { IfErr result (λ status. (status ≡ Status.OutOfMemory)
-        ⊎ (answer_on tree.now (plain_distribution asked.now) ≡ Err status)) }
+    ensures err { IfErr result (λ status. UnlessMemory Status.OutOfMemory status
+        (answer_on tree.now (plain_distribution asked.now) ≡ Err status)) }
     ensures early { IfErr result EndsEarly }
 {
     let (from, to) = span(tree, asked.depths)?;

@@ -1,5 +1,6 @@
 //! The plan of the lock of a run.
-ghost use Rattle.std.specs.Prelude.{◌≡◌, ◌⊎◌, IfOk, IfErr, IsOk};
+ghost use Rattle.std.specs.Prelude.{◌≡◌, IfOk, IfErr, IsOk};
+ghost use Rattle.out_of_memory.specs.Memory.{UnlessMemory};
 ghost use Rattle.lock_plan.specs.Plans.{IsPlanFor};
 ghost use Rattle.command_words.specs.Plain.{plain_running};
 ghost use Rattle.command_texts.specs.declared.status.Status.{Status as AnyStatus};
@@ -16,10 +17,11 @@ use topo_tree::Tree;
 pub fn read_plan(alloc: Global, tree: &Tree, asked: Running<'_>) -> Result<Plan, Status>
     ensures ok { IfOk result (PlanOf tree.now (plain_running asked.entry)) }
     ensures usable { IfOk result (IsPlanFor tree.now) }
-    ensures err { IfErr result (λ status. (status ≡ Status.OutOfMemory) ⊎ RefusesPlan tree.now (plain_running asked.entry) status) }
+    ensures err { IfErr result (λ status. UnlessMemory Status.OutOfMemory status
+        (RefusesPlan tree.now (plain_running asked.entry) status)) }
     ensures refused { (status : AnyStatus) → RefusesPlan tree.now (plain_running asked.entry) status →
-        (result ≡ Err status) ⊎ (result ≡ Err Status.OutOfMemory) }
-    ensures complete { HasPlan tree.now (plain_running asked.entry) → IsOk result ⊎ (result ≡ Err Status.OutOfMemory) }
+        UnlessMemory (Err Status.OutOfMemory) result (result ≡ Err status) }
+    ensures complete { HasPlan tree.now (plain_running asked.entry) → UnlessMemory (Err Status.OutOfMemory) result (IsOk result) }
     ensures early { IfErr result EndsEarly }
 {
     match Plan::read(alloc, tree, asked.levels, asked.locks, asked.keep) {

@@ -1,6 +1,7 @@
 //! What `select` prints.
-ghost use Rattle.std.specs.Prelude.{◌≡◌, ◌≤◌, ◌<◌, ◌++◌, ◌∷◌, [], ◌⊎◌, ℕ, List, All, IfOk, IfErr, IsOk, OnOk};
+ghost use Rattle.std.specs.Prelude.{◌≡◌, ◌≤◌, ◌<◌, ◌++◌, ◌∷◌, [], ℕ, List, All, IfOk, IfErr, IsOk, OnOk};
 ghost use Rattle.std.specs.List.{join_by};
+ghost use Rattle.out_of_memory.specs.Memory.{UnlessMemory};
 ghost use Rattle.topo_tree.specs.declared.layer.Layer.TheVariants as layers;
 ghost use Rattle.topo_tree.specs.Objects.{depth_count};
 ghost use Rattle.calc_text.specs.Texts.{gap, layer_name, long_name};
@@ -35,10 +36,11 @@ pub fn read_terms(alloc: Global, tree: &Tree, asked: &Selection<'_>) -> Result<T
     ensures ok { IfOk result (λ terms. AreTerms tree.now (plain_selection asked.now) terms.weights.items terms.keep) }
     ensures weights { IfOk result (λ terms. Weighs tree.now terms.weights.items) }
     ensures keep { IfOk result (λ terms. terms.keep ≤ keep_limit) }
-    ensures err { IfErr result (λ status. (status ≡ Status.OutOfMemory) ⊎ RefusesTerms tree.now (plain_selection asked.now) status) }
+    ensures err { IfErr result (λ status. UnlessMemory Status.OutOfMemory status
+        (RefusesTerms tree.now (plain_selection asked.now) status)) }
     ensures refused { (status : AnyStatus) → RefusesTerms tree.now (plain_selection asked.now) status →
-        (result ≡ Err status) ⊎ (result ≡ Err Status.OutOfMemory) }
-    ensures complete { HasTerms tree.now (plain_selection asked.now) → IsOk result ⊎ (result ≡ Err Status.OutOfMemory) }
+        UnlessMemory (Err Status.OutOfMemory) result (result ≡ Err status) }
+    ensures complete { HasTerms tree.now (plain_selection asked.now) → UnlessMemory (Err Status.OutOfMemory) result (IsOk result) }
     ensures early { IfErr result EndsEarly }
 {
     let weights = match read_weights(alloc, tree, asked.weights) {
@@ -61,10 +63,10 @@ pub fn selection_text(
     requires weights { Weighs tree.now terms.now.weights.items }
     requires keep { terms.now.keep ≤ keep_limit }
     ensures ok { IfOk result (λ printed. PrintsChoice tree.now terms.now.weights.items terms.now.keep bytes.now printed.items) }
-    ensures err { IfErr result (λ status. (status ≡ Status.OutOfMemory) ⊎ RefusesTrace tree.now bytes.now status) }
+    ensures err { IfErr result (λ status. UnlessMemory Status.OutOfMemory status (RefusesTrace tree.now bytes.now status)) }
     ensures refused { (status : AnyStatus) → RefusesTrace tree.now bytes.now status →
-        (result ≡ Err status) ⊎ (result ≡ Err Status.OutOfMemory) }
-    ensures complete { (trace : List ℕ) → IsTrace tree.now bytes.now trace → IsOk result ⊎ (result ≡ Err Status.OutOfMemory) }
+        UnlessMemory (Err Status.OutOfMemory) result (result ≡ Err status) }
+    ensures complete { (trace : List ℕ) → IsTrace tree.now bytes.now trace → UnlessMemory (Err Status.OutOfMemory) result (IsOk result) }
     ensures early { IfErr result EndsEarly }
 {
     let trace = match read_trace(alloc, tree, bytes) {

@@ -1,5 +1,6 @@
 //! What `set` prints.
-ghost use Rattle.std.specs.Prelude.{◌≡◌, ◌⊎◌, ◌++◌, ◌∷◌, [], IfErr, IfOk, IsOk, OnOk};
+ghost use Rattle.std.specs.Prelude.{◌≡◌, ◌++◌, ◌∷◌, [], IfErr, IfOk, IsOk, OnOk};
+ghost use Rattle.out_of_memory.specs.Memory.{UnlessMemory};
 ghost use Rattle.cpu_set.specs.declared.fault.SetFault.{SetFault as AnySetFault};
 ghost use Rattle.command_texts.specs.declared.status.Fault.TheVariants.{Set as SetOf};
 ghost use Rattle.command_texts.specs.SetText.{set_lines, Reads, IsRefused, PrintsSet};
@@ -12,8 +13,8 @@ use std::alloc::Global;
 /// The three lines of the set that a text tells, in hexadecimal or as a list, or the status with which it is refused.
 pub fn set_text(alloc: Global, list: bool, text: &[u8]) -> Result<Vec<u8>, Status>
     ensures ok { IfOk result (λ printed. PrintsSet list text.now printed.items) }
-    ensures err { IfErr result (λ status. (status ≡ Status.OutOfMemory)
-        ⊎ ((fault : AnySetFault) × (status ≡ Status.Malformed (SetOf fault)) × IsRefused list text.now fault)) }
+    ensures err { IfErr result (λ status. UnlessMemory Status.OutOfMemory status
+        ((fault : AnySetFault) × (status ≡ Status.Malformed (SetOf fault)) × IsRefused list text.now fault)) }
 {
     let set = read_set(list, text).map_err(|fault| Status::Malformed(Fault::Set(fault)))?;
     lines(alloc, &set).map_err(|_| Status::OutOfMemory)

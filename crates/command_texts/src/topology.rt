@@ -1,5 +1,6 @@
 //! The tree of the topology that a description stands for.
-ghost use Rattle.std.specs.Prelude.{◌≡◌, ◌⊎◌, None, IfOk, IfErr, IsOk, OnOk};
+ghost use Rattle.std.specs.Prelude.{◌≡◌, None, IfOk, IfErr, IsOk, OnOk};
+ghost use Rattle.out_of_memory.specs.Memory.{UnlessMemory};
 ghost use Rattle.synth_text.specs.declared.description.Description.{Description as Described};
 ghost use Rattle.synth_text.specs.Descriptions.{Describes};
 ghost use Rattle.topo_tree.specs.Building.{build_fault};
@@ -16,9 +17,10 @@ use topo_tree::{BuildFault, Tree};
 pub fn tree(alloc: Global, text: &[u8]) -> Result<Tree, Status>
     ensures ok { IfOk result (IsBuilt text.now) }
     ensures only { IfOk result (λ tree. (described : Described) → Describes text.now described → described ≡ tree) }
-    ensures err { IfErr result (λ status. (status ≡ Status.OutOfMemory) ⊎ TopoRefuses text.now status) }
-    ensures refused { (status : AnyStatus) → TopoRefuses text.now status → (result ≡ Err status) ⊎ (result ≡ Err Status.OutOfMemory) }
-    ensures complete { (described : Described) → IsBuilt text.now described → IsOk result ⊎ (result ≡ Err Status.OutOfMemory) }
+    ensures err { IfErr result (λ status. UnlessMemory Status.OutOfMemory status (TopoRefuses text.now status)) }
+    ensures refused { (status : AnyStatus) → TopoRefuses text.now status →
+        UnlessMemory (Err Status.OutOfMemory) result (result ≡ Err status) }
+    ensures complete { (described : Described) → IsBuilt text.now described → UnlessMemory (Err Status.OutOfMemory) result (IsOk result) }
     ensures early { IfErr result EndsEarly }
 {
     let description = match read(alloc, text) {

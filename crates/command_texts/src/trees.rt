@@ -1,5 +1,6 @@
 //! What `topo` prints.
-ghost use Rattle.std.specs.Prelude.{◌≡◌, ◌⊎◌, List, ℕ, IfErr, IfOk, IsOk};
+ghost use Rattle.std.specs.Prelude.{◌≡◌, List, ℕ, IfErr, IfOk, IsOk};
+ghost use Rattle.out_of_memory.specs.Memory.{UnlessMemory};
 ghost use Rattle.command_texts.specs.declared.status.Status.{Status as AnyStatus};
 ghost use Rattle.command_texts.specs.TopoText.{text_of, PrintsTopo, TopoRefuses};
 
@@ -12,9 +13,11 @@ use topo_tree::Tree;
 /// The tree of the description that a text tells, or its canonical text, or the status with which it is refused.
 pub fn topo_text(alloc: Global, export: bool, text: &[u8]) -> Result<Vec<u8>, Status>
     ensures ok { IfOk result (λ printed. PrintsTopo export text.now printed.items) }
-    ensures err { IfErr result (λ status. (status ≡ Status.OutOfMemory) ⊎ TopoRefuses text.now status) }
-    ensures refused { (status : AnyStatus) → TopoRefuses text.now status → (result ≡ Err status) ⊎ (result ≡ Err Status.OutOfMemory) }
-    ensures complete { (printed : List ℕ) → PrintsTopo export text.now printed → IsOk result ⊎ (result ≡ Err Status.OutOfMemory) }
+    ensures err { IfErr result (λ status. UnlessMemory Status.OutOfMemory status (TopoRefuses text.now status)) }
+    ensures refused { (status : AnyStatus) → TopoRefuses text.now status →
+        UnlessMemory (Err Status.OutOfMemory) result (result ≡ Err status) }
+    ensures complete { (printed : List ℕ) → PrintsTopo export text.now printed →
+        UnlessMemory (Err Status.OutOfMemory) result (IsOk result) }
 {
     match tree(alloc, text) {
         Ok(tree) => match text_of(alloc, export, &tree) {

@@ -1,9 +1,10 @@
 -- What words ask for, by the matches of a command.
-use Rattle.std.proofs.Common.{◌≡◌, ◌⊎◌, List, [], ◌∷◌, Option, Some, None, inl, inr, refl, sym, ap, ◌∙◌}
+use Rattle.std.proofs.Common.{◌≡◌, List, [], ◌∷◌, Option, Some, None, inl, inr, refl, sym, ap, ◌∙◌}
 use Rattle.std.specs.Option.{option_and_then}
 use Rattle.clap.specs.declared.error.kind.ErrorKind.{ErrorKind}
 use Rattle.clap.specs.Kinds.{IsAmong, Kinds}
 use Rattle.clap.specs.Words.{App, Row, Text, fault_of, matches_of}
+use Rattle.out_of_memory.specs.Memory.{UnlessMemory}
 use Rattle.command_words.specs.declared.fault.WordsFault.{WordsFault}
 use Rattle.command_words.specs.declared.fault.WordsFault.TheVariants.{OutOfMemory, Usage}
 use Rattle.command_words.specs.Commands.{if_taken, matched}
@@ -39,8 +40,8 @@ module _ {A : Type 0} (asks : List Row → Option A) (made command : App) (words
   asked-none rows found told = reads rows found ∙ sym told
 
   -- the command refuses the words, or memory is wanting
-  pub asked-refused : (fault : WordsFault) → (fault ≡ OutOfMemory) ⊎ ((fault ≡ Usage) × (matched made words ≡ None))
-      → (fault ≡ OutOfMemory) ⊎ ((fault ≡ Usage) × (option_and_then asks (matched command words) ≡ None))
-  asked-refused fault (inl memory) = inl memory
-  asked-refused fault (inr usage) =
-      inr (usage.0, ap (λ (a : App). option_and_then asks (matched a words)) (sym is) ∙ ap (option_and_then asks) usage.1)
+  pub asked-refused : (fault : WordsFault) → UnlessMemory OutOfMemory fault ((fault ≡ Usage) × (matched made words ≡ None))
+      → UnlessMemory OutOfMemory fault ((fault ≡ Usage) × (option_and_then asks (matched command words) ≡ None))
+  asked-refused fault (inl usage) =
+      inl (usage.0, ap (λ (a : App). option_and_then asks (matched a words)) (sym is) ∙ ap (option_and_then asks) usage.1)
+  asked-refused fault (inr memory) = inr memory

@@ -1,5 +1,6 @@
 //! The words of `calc`.
-ghost use Rattle.std.specs.Prelude.{◌≡◌, ◌⊎◌, Some, None, map, string_bytes, IfOk, IfErr, option_map};
+ghost use Rattle.std.specs.Prelude.{◌≡◌, Some, None, map, string_bytes, IfOk, IfErr, option_map};
+ghost use Rattle.out_of_memory.specs.Memory.{UnlessMemory};
 ghost use Rattle.clap.specs.Words.{found_of, rows_of};
 ghost use Rattle.command_words.specs.Commands.{rule_of, taken_by};
 ghost use Rattle.command_words.specs.Plain.{plain, plain_text, plain_question, plain_calculation};
@@ -14,8 +15,8 @@ use std::alloc::Global;
 /// What the words of `calc` ask for.
 pub(crate) fn read_calc<'a>(alloc: Global, words: &'a [String]) -> Result<Asked<'a>, WordsFault>
     ensures asked { IfOk result (λ asked. calc_asked (map string_bytes words.entry.now) ≡ Some (plain asked)) }
-    ensures refused { IfErr result (λ fault. (fault ≡ WordsFault.OutOfMemory)
-        ⊎ ((fault ≡ WordsFault.Usage) × (calc_asked (map string_bytes words.entry.now) ≡ None))) }
+    ensures refused { IfErr result (λ fault. UnlessMemory WordsFault.OutOfMemory fault
+        ((fault ≡ WordsFault.Usage) × (calc_asked (map string_bytes words.entry.now) ≡ None))) }
 {
     match matches(alloc, "calc", arguments(), words) {
         Ok(matches) => match calculation_of(alloc, &matches) {
@@ -52,8 +53,8 @@ fn calculation_of<'a>(
     matches: &ArgMatches<'a>,
 ) -> Result<Calculation<'a>, WordsFault>
     ensures asked { IfOk result (λ asked. calculation_of (rows_of (found_of matches.now)) ≡ Some (plain_calculation asked)) }
-    ensures refused { IfErr result (λ fault. (fault ≡ WordsFault.OutOfMemory)
-        ⊎ ((fault ≡ WordsFault.Usage) × (calculation_of (rows_of (found_of matches.now)) ≡ None))) }
+    ensures refused { IfErr result (λ fault. UnlessMemory WordsFault.OutOfMemory fault
+        ((fault ≡ WordsFault.Usage) × (calculation_of (rows_of (found_of matches.now)) ≡ None))) }
 {
     let question = question(matches).ok_or(WordsFault::Usage)?;
     let physical = is_physical(is_given(matches, "physical"), is_given(matches, "logical")).ok_or(

@@ -1,6 +1,7 @@
 //! A command's words, read by clap.
 ghost use Rattle.std.specs.Prelude.{◌≡◌, ◌≢◌, ◌⊎◌, ◌^◌, [], false, true, nat_lt, length, map, string_bytes, None, Some, IfOk, IfErr};
 ghost use Rattle.std.specs.Prelude.{option_map, unwrap_or};
+ghost use Rattle.out_of_memory.specs.Memory.{UnlessMemory};
 ghost use Rattle.clap.specs.Words.{app_of, first_of, found_of, is_simple_and_free, rows_of, rule_of as clap_rule};
 ghost use Rattle.command_words.specs.Commands.{command_of, rule_of, with_short, matched, is_given, taken_by};
 
@@ -36,7 +37,7 @@ pub(crate) fn matches<'a>(
     ensures read { IfOk result (λ matches.
         matched (command_of name.entry.now (map rule_of arguments.now)) (map string_bytes words.entry.now)
         ≡ Some (rows_of (found_of matches))) }
-    ensures refused { IfErr result (λ fault. (fault ≡ WordsFault.OutOfMemory) ⊎ ((fault ≡ WordsFault.Usage)
+    ensures refused { IfErr result (λ fault. UnlessMemory WordsFault.OutOfMemory fault ((fault ≡ WordsFault.Usage)
         × (matched (command_of name.entry.now (map rule_of arguments.now)) (map string_bytes words.entry.now) ≡ None))) }
 {
     let command = match command(alloc, name, arguments) {

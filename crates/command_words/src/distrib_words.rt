@@ -1,5 +1,6 @@
 //! The words of `distrib`.
-ghost use Rattle.std.specs.Prelude.{◌≡◌, ◌⊎◌, Some, None, map, string_bytes, IfOk, IfErr, option_map};
+ghost use Rattle.std.specs.Prelude.{◌≡◌, Some, None, map, string_bytes, IfOk, IfErr, option_map};
+ghost use Rattle.out_of_memory.specs.Memory.{UnlessMemory};
 ghost use Rattle.clap.specs.Words.{found_of, rows_of};
 ghost use Rattle.command_words.specs.Commands.{rule_of};
 ghost use Rattle.command_words.specs.Plain.{plain, plain_text, plain_depths, plain_distribution};
@@ -15,8 +16,8 @@ use std::alloc::Global;
 /// What the words of `distrib` ask for.
 pub(crate) fn read_distrib<'a>(alloc: Global, words: &'a [String]) -> Result<Asked<'a>, WordsFault>
     ensures asked { IfOk result (λ asked. distrib_asked (map string_bytes words.entry.now) ≡ Some (plain asked)) }
-    ensures refused { IfErr result (λ fault. (fault ≡ WordsFault.OutOfMemory)
-        ⊎ ((fault ≡ WordsFault.Usage) × (distrib_asked (map string_bytes words.entry.now) ≡ None))) }
+    ensures refused { IfErr result (λ fault. UnlessMemory WordsFault.OutOfMemory fault
+        ((fault ≡ WordsFault.Usage) × (distrib_asked (map string_bytes words.entry.now) ≡ None))) }
 {
     match matches(alloc, "distrib", arguments(), words) {
         Ok(matches) => match distribution_of(&matches) {

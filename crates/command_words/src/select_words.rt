@@ -1,5 +1,6 @@
 //! The words of `select`.
-ghost use Rattle.std.specs.Prelude.{◌≡◌, ◌⊎◌, None, Some, map, string_bytes, IfOk, IfErr, option_map};
+ghost use Rattle.std.specs.Prelude.{◌≡◌, None, Some, map, string_bytes, IfOk, IfErr, option_map};
+ghost use Rattle.out_of_memory.specs.Memory.{UnlessMemory};
 ghost use Rattle.clap.specs.Words.{found_of, rows_of};
 ghost use Rattle.command_words.specs.Commands.{rule_of};
 ghost use Rattle.command_words.specs.Plain.{plain};
@@ -14,8 +15,8 @@ use std::alloc::Global;
 /// What the words of `select` ask for.
 pub(crate) fn read_select<'a>(alloc: Global, words: &'a [String]) -> Result<Asked<'a>, WordsFault>
     ensures asked { IfOk result (λ asked. select_asked (map string_bytes words.entry.now) ≡ Some (plain asked)) }
-    ensures refused { IfErr result (λ fault. (fault ≡ WordsFault.OutOfMemory)
-        ⊎ ((fault ≡ WordsFault.Usage) × (select_asked (map string_bytes words.entry.now) ≡ None))) }
+    ensures refused { IfErr result (λ fault. UnlessMemory WordsFault.OutOfMemory fault
+        ((fault ≡ WordsFault.Usage) × (select_asked (map string_bytes words.entry.now) ≡ None))) }
 {
     match matches(alloc, "select", arguments(), words) {
         Ok(matches) => match asked_of(&matches) {

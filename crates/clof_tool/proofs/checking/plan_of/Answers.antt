@@ -1,5 +1,6 @@
-use Rattle.std.proofs.Common.{◌≡◌, ◌⊎◌, subst, sym}
+use Rattle.std.proofs.Common.{subst, sym}
 use Rattle.std.specs.Prelude.{IfErr, IfOk}
+use Rattle.out_of_memory.specs.Memory.{UnlessMemory}
 use Rattle.command_words.specs.Asked.{Running}
 use Rattle.command_texts.specs.declared.status.Status.TheVariants.{OutOfMemory}
 use Rattle.command_texts.specs.RunPlan.{HasPlan, PlanOf, RefusesPlan}
@@ -11,7 +12,7 @@ returns-clause-ok c =
 
 pub returns-clause-err : goal.returns-clause-err
 returns-clause-err c =
-    subst (λ (r : Running). IfErr c.read_plan.result (λ status. (status ≡ OutOfMemory) ⊎ RefusesPlan c.args.tree.now r status))
+    subst (λ (r : Running). IfErr c.read_plan.result (λ status. UnlessMemory OutOfMemory status (RefusesPlan c.args.tree.now r status)))
     c.as_run.ensures c.read_plan.ensures.err
 
 pub returns-clause-refused : goal.returns-clause-refused

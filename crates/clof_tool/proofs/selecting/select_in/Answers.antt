@@ -37,8 +37,8 @@ returns-in-Ok-clause-complete g c input left words none calm =
 
 pub returns-in-Err-clause-cause : goal.returns-in-Err-clause-cause
 returns-in-Err-clause-cause g c refusal = elim c.in-Err.ensures.err [
-  | inl memory ↦ absurd (subst IsRefusal memory refusal)
-  | inr refuses ↦ inl refuses
+  | inl refuses ↦ inl refuses
+  | inr memory ↦ absurd (subst IsRefusal memory refusal)
 ]
 
 pub returns-in-Err-clause-terms_refused : goal.returns-in-Err-clause-terms_refused
@@ -51,6 +51,6 @@ returns-in-Err-clause-input_refused g c input status left refuses calm =
 
 pub returns-in-Err-clause-complete : goal.returns-in-Err-clause-complete
 returns-in-Err-clause-complete g c input left words none calm = elim c.in-Err.ensures.err [
-  | inl memory ↦ inr (ap Err memory)
-  | inr refuses ↦ absurd (words c.in-Err.status refuses)
+  | inl refuses ↦ absurd (words c.in-Err.status refuses)
+  | inr memory ↦ inr (ap Err memory)
 ]

@@ -65,8 +65,8 @@ returns-in-Err-clause-answered g c =
       answer = tt;
       at_end = tt;
       cause = λ refusal. elim c.in-Err.ensures.err [
-        | inl memory ↦ absurd (subst IsRefusal memory refusal)
-        | inr refuses ↦ inl (inl refuses)
+        | inl refuses ↦ inl (inl refuses)
+        | inr memory ↦ absurd (subst IsRefusal memory refusal)
       ];
       silent = λ written. early_silent status early written;
       not_usage = λ is. let same : status ≡ statuses.Usage = cc in subst EndsEarly same early;
@@ -92,6 +92,6 @@ returns-in-Ok-clause-complete g c words accepted calm =
 
 pub returns-in-Err-clause-complete : goal.returns-in-Err-clause-complete
 returns-in-Err-clause-complete g c words accepted calm = elim c.in-Err.ensures.err [
-  | inl memory ↦ inr (ap Err memory)
-  | inr refuses ↦ absurd (words c.in-Err.status (inl refuses))
+  | inl refuses ↦ absurd (words c.in-Err.status (inl refuses))
+  | inr memory ↦ inr (ap Err memory)
 ]

@@ -21,6 +21,6 @@ returns-in-Ok-clause-refused c status refuses =
     let on = refused_on _ c.args.asked.now.description.now (λ described. answer_on described (plain_distribution c.args.asked.now)) _ status
     c.in-Ok.ensures.only c.in-Ok.ensures.refused refuses in
     elim c.in-Err-answer_on.ensures.err [
-      | inl memory ↦ inr (ap Err memory)
-      | inr is ↦ let same : c.in-Err-answer_on.status ≡ status = cc in inl (ap Err same)
+      | inl is ↦ let same : c.in-Err-answer_on.status ≡ status = cc in inl (ap Err same)
+      | inr memory ↦ inr (ap Err memory)
     ]

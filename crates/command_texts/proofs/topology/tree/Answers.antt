@@ -6,21 +6,21 @@ use Rattle.command_texts.proofs.topology.tree.Goals as goal
 pub returns-in-Err-clause-err : goal.returns-in-Err-clause-err
 returns-in-Err-clause-err c =
     elim c.in-Err.ensures.refused [
-      | inl refused ↦ inr (inl (record { fault = c.in-Err.fault; refused = refused; status_is = c.synth_status.ensures.status }))
-      | inr memory ↦ inl (c.synth_status.ensures.status ∙ ap synth_status memory)
+      | inl refused ↦ inl (inl (record { fault = c.in-Err.fault; refused = refused; status_is = c.synth_status.ensures.status }))
+      | inr memory ↦ inr (c.synth_status.ensures.status ∙ ap synth_status memory)
     ]
 
 pub returns-in-Err-build-clause-err : goal.returns-in-Err-build-clause-err
 returns-in-Err-build-clause-err c =
     elim c.in-Err-build.ensures.refused [
-      | inl refused ↦ inr (inr (record {
+      | inl refused ↦ inl (inr (record {
         described = c.in-Ok.description;
         describes = c.in-Ok.ensures.described;
         fault = c.in-Err-build.fault;
         refused = refused;
         status_is = c.build_status.ensures.status;
       }))
-      | inr memory ↦ inl (c.build_status.ensures.status ∙ ap build_status memory)
+      | inr memory ↦ inr (c.build_status.ensures.status ∙ ap build_status memory)
     ]
 
 pub returns-in-Err-clause-refused : goal.returns-in-Err-clause-refused

@@ -18,13 +18,13 @@ returns-in-Ok-calculation_of-clause-asked c =
 pub returns-in-Ok-clause-refused : goal.returns-in-Ok-clause-refused
 returns-in-Ok-clause-refused c =
     elim c.in-Err-calculation_of.ensures.refused [
-      | inl memory ↦ inl memory
-      | inr usage ↦ inr (
+      | inl usage ↦ inl (
         usage.0,
         asked-none calc_of _ _ (map string_bytes c.args.words.now)
             (calc_made (map rule_of c.arguments.result.now) c.arguments.ensures) _ c.in-Ok.ensures.read
             (sym (ap (option_map Calc) usage.1)),
       )
+      | inr memory ↦ inr memory
     ]
 
 pub returns-clause-refused : goal.returns-clause-refused

@@ -22,9 +22,9 @@ returns-in-Err-try_get_matches_from-clause-refused c =
     let free : is_simple_and_free made ≡ true = ap is_simple_and_free c.in-Ok.ensures ∙ c.requires in
     let words = map string_bytes c.args.words.now in
     elim c.refusal.ensures [
-      | inl memory ↦ inl memory.1
+      | inl memory ↦ inr memory.1
       | inr usage ↦ elim (c.in-Err-try_get_matches_from.ensures.kinds free) [
         | inl memory ↦ absurd (usage.0 (c.kind.ensures ∙ memory))
-        | inr among ↦ inr (usage.1, ap (λ (a : App). matched a words) (sym c.in-Ok.ensures) ∙ matched-refused made words _ among)
+        | inr among ↦ inl (usage.1, ap (λ (a : App). matched a words) (sym c.in-Ok.ensures) ∙ matched-refused made words _ among)
       ]
     ]

@@ -1,4 +1,4 @@
-use Rattle.std.proofs.Common.{◌≡◌, ◌∙◌, ap, sym, map, codes, true, string_bytes, inr, refl, option_map}
+use Rattle.std.proofs.Common.{◌≡◌, ◌∙◌, ap, sym, map, codes, true, string_bytes, inl, refl, option_map}
 use Rattle.clap.specs.Words.{App, is_simple_and_free}
 use Rattle.command_words.specs.Commands.{rule_of}
 use Rattle.command_words.specs.Asked.{Distrib}
@@ -17,7 +17,7 @@ returns-in-Some-clause-asked c =
 
 pub returns-in-Ok-clause-refused : goal.returns-in-Ok-clause-refused
 returns-in-Ok-clause-refused c =
-    inr (
+    inl (
       refl,
       asked-none distrib_of _ _ (map string_bytes c.args.words.now)
           (distrib_made (map rule_of c.arguments.result.now) c.arguments.ensures) _ c.in-Ok.ensures.read

@@ -1,4 +1,4 @@
-use Rattle.std.proofs.Common.{◌∙◌, ap, map, string_bytes, inr, refl}
+use Rattle.std.proofs.Common.{◌∙◌, ap, map, string_bytes, inl, refl}
 use Rattle.clap.specs.Words.{is_simple_and_free}
 use Rattle.command_words.specs.Commands.{rule_of}
 use Rattle.command_words.specs.RunWords.{run_of}
@@ -16,7 +16,7 @@ returns-in-Some-clause-asked c =
 
 pub returns-in-Ok-clause-refused : goal.returns-in-Ok-clause-refused
 returns-in-Ok-clause-refused c =
-    inr (
+    inl (
       refl,
       asked-none run_of _ _ (map string_bytes c.args.words.now)
           (run_made (map rule_of c.arguments.result.now) c.arguments.ensures) _ c.in-Ok.ensures.read c.in-None.ensures,
