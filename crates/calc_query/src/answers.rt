@@ -5,7 +5,7 @@ ghost use Rattle.topo_tree.specs.Objects.{count_of, IsLayer, IsObject};
 ghost use Rattle.calc_query.specs.Answers.{intersecting, end_of, with_step, extended, chains, is_largest, largest};
 ghost use Rattle.calc_query.specs.Found.{IsFound};
 
-use crate::candidates::inside;
+use crate::candidates::row_inside;
 use crate::found::{Found, found_at_first, is_inside};
 use crate::query::{Path, Step2};
 use cpu_set::CpuSet;
@@ -94,7 +94,7 @@ fn push_extended(
     ensures paths { OnOk result (out.new.items ≡ out.old.items ++ extended tree.now set.now layer path.now) }
     ensures ends { OnOk result (All (λ path. IsObject tree.now (end_of path)) out.new.items) }
 {
-    let row = inside(tree, end_of(path), layer);
+    let row = row_inside(tree, end_of(path), layer);
     for position in 0..row.count {
         let object = Object {
             layer,

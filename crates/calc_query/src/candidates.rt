@@ -10,7 +10,7 @@ ghost use Rattle.calc_query.specs.Candidates.{candidates};
 use topo_tree::{Layer, Object, Row, Tree};
 
 /// The objects of a layer whose sets lie inside that of an object.
-pub fn inside(tree: &Tree, outer: Object, layer: Layer) -> Row
+pub fn row_inside(tree: &Tree, outer: Object, layer: Layer) -> Row
     requires outer { IsObject tree.now outer }
     requires layer { IsLayer tree.now layer }
     ensures run { candidates tree.now layer (set_of tree.now outer.layer outer.index) ≡ range_with_len result.first result.count }

@@ -9,7 +9,7 @@ ghost use Rattle.calc_query.specs.Candidates.{number_of};
 ghost use Rattle.calc_query.specs.Selection.{is_picked_among, selected_inside, union_of, selected_from, located, operated, selected};
 ghost use Rattle.calc_query.specs.Selection.{HasLayers, HaveLayers};
 
-use crate::candidates::inside;
+use crate::candidates::row_inside;
 use crate::query::{Location, Numbering, Op, Part, Term};
 use cpu_set::CpuSet;
 use topo_tree::{AsTree, Layer, MACHINE, Object, Row, Tree};
@@ -83,7 +83,7 @@ fn selected_inside(
     let mut chosen = CpuSet::empty();
     let mut index = next_index(before, 0, count);
     while index < count {
-        let row = inside(tree, Object { layer, index }, part.layer);
+        let row = row_inside(tree, Object { layer, index }, part.layer);
         chosen = chosen.union(&picked(tree, row, part, numbering));
         index = next_index(before, index + 1, count);
     }

@@ -15,7 +15,7 @@ use crate::drilling::drill_text;
 use crate::selecting::select_on;
 use crate::serving::run_on;
 use crate::{Fault, Status};
-use command_texts::{calc_text, distrib_text, set_text, topo_text};
+use command_texts::{calc_output, distrib_output, set_output, topo_output};
 use command_words::Asked;
 use edge_io::{ReadAllFault, Source, read_all};
 use placed_runner::Gate;
@@ -42,10 +42,10 @@ pub(crate) fn answer<R: Threads + Wait + Sync, S: Source, G: Gate + Sync>(
 {
     match asked {
         Asked::Run(asked) => run_on(rt, alloc, asked, source, gate),
-        Asked::Set { list, text } => set_text(alloc, list, text),
-        Asked::Topo { export, text } => topo_text(alloc, export, text),
-        Asked::Calc(asked) => calc_text(alloc, &asked),
-        Asked::Distrib(asked) => distrib_text(alloc, &asked),
+        Asked::Set { list, text } => set_output(alloc, list, text),
+        Asked::Topo { export, text } => topo_output(alloc, export, text),
+        Asked::Calc(asked) => calc_output(alloc, &asked),
+        Asked::Distrib(asked) => distrib_output(alloc, &asked),
         Asked::Select(asked) => select_on(alloc, &asked, source),
         Asked::Drill(number) => drill_text(rt, alloc, number, gate),
         Asked::Check(asked) => check_on(alloc, asked, source),

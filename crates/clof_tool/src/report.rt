@@ -5,7 +5,7 @@ ghost use Rattle.edge_io.specs.Contents.{Gains};
 ghost use Rattle.command_texts.specs.Line.{line_of};
 
 use crate::Status;
-use command_texts::line;
+use command_texts::line_of;
 use edge_io::{Sink, write_all};
 
 /// Writes the line that tells of a status, all of it at once, and nothing where the status is Ok. A failure to write it
@@ -21,7 +21,7 @@ pub(crate) fn report<E: Sink>(err: &mut E, status: &Status)
     match status {
         Status::Ok => {}
         _ => {
-            let _ = write_all(err, line(status).as_str().as_bytes());
+            let _ = write_all(err, line_of(status).as_str().as_bytes());
         }
     }
 }

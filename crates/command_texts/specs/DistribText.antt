@@ -7,7 +7,7 @@ use Rattle.topo_tree.specs.Naming.{depth_named}
 use Rattle.topo_tree.specs.Objects.{depth_count}
 use Rattle.distrib_rules.specs.declared.fault.DistribFault.{DistribFault}
 use Rattle.distrib_rules.specs.declared.fault.DistribFault.TheVariants as faults
-use Rattle.distrib_rules.specs.Faults.{fault_of}
+use Rattle.distrib_rules.specs.Faults.{distrib_fault}
 use Rattle.distrib_rules.specs.Masks.{distribution}
 use Rattle.command_texts.specs.declared.status.Fault.TheVariants.{Distrib, TypeOf}
 use Rattle.command_texts.specs.declared.status.OptionName.{OptionName}
@@ -62,7 +62,7 @@ between described asked span None = Ok (mask_lines asked.single asked.taskset
 
 abbrev pub in_span : Description → Distribution → Result (ℕ × ℕ) Status → Result (List ℕ) Status
 in_span described asked (Err status) = Err status
-in_span described asked (Ok span) = between described asked span (fault_of asked.masks span.0 span.1)
+in_span described asked (Ok span) = between described asked span (distrib_fault asked.masks span.0 span.1)
 
 -- what is printed of a topology, or the status with which it is refused: types of options come before the numbers of masks
 unfoldable pub answer_on : Description → Distribution → Result (List ℕ) Status

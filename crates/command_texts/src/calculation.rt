@@ -21,7 +21,7 @@ use std::alloc::Global;
 use topo_tree::Tree;
 
 /// The answer on the set that locations select, or the status with which it is refused.
-pub fn calc_text(alloc: Global, asked: &Calculation<'_>) -> Result<Vec<u8>, Status>
+pub fn calc_output(alloc: Global, asked: &Calculation<'_>) -> Result<Vec<u8>, Status>
     ensures ok { IfOk result (λ printed. PrintsCalc (plain_calculation asked.now) printed.items) }
     ensures err { IfErr result (λ status. UnlessMemory Status.OutOfMemory status (CalcRefuses (plain_calculation asked.now) status)) }
     ensures refused { (status : AnyStatus) → CalcRefuses (plain_calculation asked.now) status →
@@ -62,7 +62,7 @@ fn answer_on(alloc: Global, tree: &Tree, asked: &Calculation<'_>) -> Result<Vec<
         separator: asked.separator,
     };
     let set = chosen(asked.single, &select(tree, &terms, numbering));
-    match line(alloc, tree, &set, &answer, style) {
+    match answer_line(alloc, tree, &set, &answer, style) {
         Ok(text) => Ok(text),
         Err(OutOfMemory) => Err(Status::OutOfMemory),
     }
@@ -125,7 +125,7 @@ fn calc_status(fault: CalcFault) -> Status
 }
 
 // The text of an answer, and a line end.
-fn line(
+fn answer_line(
     alloc: Global,
     tree: &Tree,
     set: &CpuSet,

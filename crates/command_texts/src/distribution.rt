@@ -22,7 +22,7 @@ use std::alloc::{AllocError, Global};
 use topo_tree::Tree;
 
 /// The masks that are asked for, one a line, or the status with which they are refused.
-pub fn distrib_text(alloc: Global, asked: &Distribution<'_>) -> Result<Vec<u8>, Status>
+pub fn distrib_output(alloc: Global, asked: &Distribution<'_>) -> Result<Vec<u8>, Status>
     ensures ok { IfOk result (λ printed. PrintsDistrib (plain_distribution asked.now) printed.items) }
     ensures err { IfErr result (λ status. UnlessMemory Status.OutOfMemory status (DistribRefuses (plain_distribution asked.now) status)) }
     ensures refused { (status : AnyStatus) → DistribRefuses (plain_distribution asked.now) status →

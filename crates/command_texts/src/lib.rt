@@ -12,11 +12,11 @@ mod status;
 pub mod topology;
 mod trees;
 
-pub use calculation::calc_text;
-pub use distribution::distrib_text;
-pub use lines::{Line, line};
+pub use calculation::calc_output;
+pub use distribution::distrib_output;
+pub use lines::{Line, line_of};
 pub use planning::read_plan;
 pub use selection::{Terms, read_terms, selection_text};
-pub use sets::set_text;
+pub use sets::set_output;
 pub use status::{Fault, OptionName, Status};
-pub use trees::topo_text;
+pub use trees::topo_output;

@@ -26,7 +26,7 @@ pub type Line = ArrayString<ROOM>;
 
 /// The line that tells of a status that isn't Ok.
 #[tactic(auto, unfolding(crate::specs::Line::line_of))]
-pub fn line(status: &Status) -> Line
+pub fn line_of(status: &Status) -> Line
     ensures { result.bytes ≡ line_of status.now }
 {
     match status {

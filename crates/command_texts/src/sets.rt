@@ -11,7 +11,7 @@ use out_of_memory::OutOfMemory;
 use std::alloc::Global;
 
 /// The three lines of the set that a text tells, in hexadecimal or as a list, or the status with which it is refused.
-pub fn set_text(alloc: Global, list: bool, text: &[u8]) -> Result<Vec<u8>, Status>
+pub fn set_output(alloc: Global, list: bool, text: &[u8]) -> Result<Vec<u8>, Status>
     ensures ok { IfOk result (λ printed. PrintsSet list text.now printed.items) }
     ensures err { IfErr result (λ status. UnlessMemory Status.OutOfMemory status
         ((fault : AnySetFault) × (status ≡ Status.Malformed (SetOf fault)) × IsRefused list text.now fault)) }

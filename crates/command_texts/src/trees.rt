@@ -11,7 +11,7 @@ use std::alloc::Global;
 use topo_tree::Tree;
 
 /// The tree of the description that a text tells, or its canonical text, or the status with which it is refused.
-pub fn topo_text(alloc: Global, export: bool, text: &[u8]) -> Result<Vec<u8>, Status>
+pub fn topo_output(alloc: Global, export: bool, text: &[u8]) -> Result<Vec<u8>, Status>
     ensures ok { IfOk result (λ printed. PrintsTopo export text.now printed.items) }
     ensures err { IfErr result (λ status. UnlessMemory Status.OutOfMemory status (TopoRefuses text.now status)) }
     ensures refused { (status : AnyStatus) → TopoRefuses text.now status →

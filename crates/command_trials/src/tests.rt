@@ -9,7 +9,7 @@ mod topo;
 
 use calc_query::CalcFault;
 use command_texts::{
-    Fault, OptionName, Status, calc_text, distrib_text, line, set_text, topo_text,
+    Fault, OptionName, Status, calc_output, distrib_output, line_of, set_output, topo_output,
 };
 use command_words::{Asked, WordsFault, read_words};
 use cpu_set::SetFault;
@@ -35,10 +35,10 @@ fn answered(alloc: Global, words: &[&str]) -> Result<Result<Vec<u8>, Status>, Fa
         Ok(Asked::Select(_)) => Err(Status::Usage),
         Ok(Asked::Drill(_)) => Err(Status::Usage),
         Ok(Asked::Check(asked)) => plan::of(alloc, asked.as_run()).map(|_| Vec::new(alloc)),
-        Ok(Asked::Set { list, text }) => set_text(alloc, list, text),
-        Ok(Asked::Topo { export, text }) => topo_text(alloc, export, text),
-        Ok(Asked::Calc(asked)) => calc_text(alloc, &asked),
-        Ok(Asked::Distrib(asked)) => distrib_text(alloc, &asked),
+        Ok(Asked::Set { list, text }) => set_output(alloc, list, text),
+        Ok(Asked::Topo { export, text }) => topo_output(alloc, export, text),
+        Ok(Asked::Calc(asked)) => calc_output(alloc, &asked),
+        Ok(Asked::Distrib(asked)) => distrib_output(alloc, &asked),
         Err(WordsFault::Usage) => Err(Status::Usage),
         Err(WordsFault::OutOfMemory) => Err(Status::OutOfMemory),
     })
@@ -60,7 +60,7 @@ fn prints<R: Abort>(
         }
         Err(found) => {
             assert_eq!(rt; found, status);
-            assert_eq!(rt; line(&found).as_str(), err);
+            assert_eq!(rt; line_of(&found).as_str(), err);
         }
     }
     Ok(())
@@ -127,7 +127,7 @@ fn tells_each_fault(rt: HostRuntime) -> Result<(), Fail> {
 // Want of memory has a line too, which no words call forth.
 #[test]
 fn tells_of_wanted_memory(rt: HostRuntime) -> Result<(), Fail> {
-    let told = line(&Status::OutOfMemory);
+    let told = line_of(&Status::OutOfMemory);
     assert_eq!(rt; Status::OutOfMemory.code(), 7);
     assert_eq!(rt; told.as_str(), "clof: out of memory\n");
     Ok(())

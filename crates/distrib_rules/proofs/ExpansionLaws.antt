@@ -11,7 +11,7 @@ use Rattle.topo_tree.specs.declared.layer.Layer.TheVariants as layers
 use Rattle.topo_tree.specs.Objects.{children_of}
 use Rattle.topo_tree.specs.Coverage.{set_at}
 use Rattle.distrib_rules.specs.Shares.{share_of, Pair, weight_of, shared_behind, shared, in_order}
-use Rattle.distrib_rules.specs.Expansion.{Way, is_final, children_sharing, expanded, expansion, ComesTo}
+use Rattle.distrib_rules.specs.Expansion.{Way, is_final, children_sharing, expanded, expansion, ExpandTo}
 use Rattle.distrib_rules.specs.Masks.{with_share, with_pair, with_pairs}
 
 -- ---- masks of pairs one after another
@@ -115,9 +115,9 @@ module _ (described : Description) (way : Way) where
       (expanded-final (below pair.depth) pair (All-head (λ p. is_final described way p ≡ true) pair pairs final))
       ∙ ap (λ ps. pair ∷ ps) (expansion-final pairs (All-tail (λ p. is_final described way p ≡ true) pair pairs final))
 
-  pub comes_to : (pairs others : List Pair) → ComesTo described way pairs others → others ≡ expansion described way pairs
-  comes_to _ _ (ComesTo.done pairs final) = sym (expansion-final pairs final)
-  comes_to _ _ (ComesTo.replaced before pair behind others handed later) =
+  pub comes_to : (pairs others : List Pair) → ExpandTo described way pairs others → others ≡ expansion described way pairs
+  comes_to _ _ (ExpandTo.done pairs final) = sym (expansion-final pairs final)
+  comes_to _ _ (ExpandTo.replaced before pair behind others handed later) =
       comes_to (before ++ children_sharing described way pair ++ behind) others later
       ∙ ap (expansion described way) (append_assoc before (children_sharing described way pair) behind)
       ∙ expansion-parts before (children_sharing described way pair ++ behind)

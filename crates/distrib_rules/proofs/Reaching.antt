@@ -7,7 +7,7 @@ use Rattle.std.proofs.lemmas.List.{append-nil}
 use Rattle.std.proofs.lemmas.List.Elements.{All-nil, All-cons, All-head, All-tail, All-append}
 use Rattle.synth_text.specs.declared.description.Description.{Description}
 use Rattle.distrib_rules.specs.Shares.{Pair, share_of, weight_of, shared_behind, shared}
-use Rattle.distrib_rules.specs.Expansion.{Way, is_final, children_sharing, expanded, expansion, ComesTo}
+use Rattle.distrib_rules.specs.Expansion.{Way, is_final, children_sharing, expanded, expansion, ExpandTo}
 use Rattle.distrib_rules.proofs.ExpansionLaws.{expanded-final, expanded-handed, children_in_order}
 
 -- what holds of each pair of a depth holds of those that share
@@ -37,62 +37,62 @@ module _ (described : Description) (way : Way) where
   handed_to pair = children_sharing described way pair
 
   -- pairs that are final stay in front of others
-  behind_final : (front pairs others : List Pair) → All IsFinal front → ComesTo described way pairs others
-      → ComesTo described way (front ++ pairs) (front ++ others)
-  behind_final front _ _ final (ComesTo.done pairs all) = ComesTo.done (front ++ pairs) (All-append IsFinal front pairs final all)
-  behind_final front _ _ final (ComesTo.replaced before pair behind others handed later) =
+  behind_final : (front pairs others : List Pair) → All IsFinal front → ExpandTo described way pairs others
+      → ExpandTo described way (front ++ pairs) (front ++ others)
+  behind_final front _ _ final (ExpandTo.done pairs all) = ExpandTo.done (front ++ pairs) (All-append IsFinal front pairs final all)
+  behind_final front _ _ final (ExpandTo.replaced before pair behind others handed later) =
       let moved = append_assoc (front ++ before) (handed_to pair) behind
       ∙ append_assoc front before (handed_to pair ++ behind)
       ∙ ap (λ ps. front ++ ps) (sym (append_assoc before (handed_to pair) behind)) in
-      subst (λ ps. ComesTo described way ps (front ++ others)) (append_assoc front before (pair ∷ behind))
-      (ComesTo.replaced (front ++ before) pair behind (front ++ others) handed
-      (subst (λ ps. ComesTo described way ps (front ++ others)) (sym moved)
+      subst (λ ps. ExpandTo described way ps (front ++ others)) (append_assoc front before (pair ∷ behind))
+      (ExpandTo.replaced (front ++ before) pair behind (front ++ others) handed
+      (subst (λ ps. ExpandTo described way ps (front ++ others)) (sym moved)
       (behind_final front (before ++ handed_to pair ++ behind) others final later)))
 
   -- what two lists come to, one behind the other
-  followed : (pairs others rest ends : List Pair) → ComesTo described way pairs others → ComesTo described way rest ends
-      → ComesTo described way (pairs ++ rest) (others ++ ends)
-  followed _ _ rest ends (ComesTo.done pairs all) second = behind_final pairs rest ends all second
-  followed _ _ rest ends (ComesTo.replaced before pair behind others handed later) second =
-      subst (λ ps. ComesTo described way ps (others ++ ends)) (sym (append_assoc before (pair ∷ behind) rest))
-      (ComesTo.replaced before pair (behind ++ rest) (others ++ ends) handed
-      (subst (λ ps. ComesTo described way ps (others ++ ends)) (append_assoc (before ++ handed_to pair) behind rest)
+  followed : (pairs others rest ends : List Pair) → ExpandTo described way pairs others → ExpandTo described way rest ends
+      → ExpandTo described way (pairs ++ rest) (others ++ ends)
+  followed _ _ rest ends (ExpandTo.done pairs all) second = behind_final pairs rest ends all second
+  followed _ _ rest ends (ExpandTo.replaced before pair behind others handed later) second =
+      subst (λ ps. ExpandTo described way ps (others ++ ends)) (sym (append_assoc before (pair ∷ behind) rest))
+      (ExpandTo.replaced before pair (behind ++ rest) (others ++ ends) handed
+      (subst (λ ps. ExpandTo described way ps (others ++ ends)) (append_assoc (before ++ handed_to pair) behind rest)
       (followed (before ++ handed_to pair ++ behind) others rest ends later second)))
 
-  each : (f : Pair → List Pair) (pairs : List Pair) → All (λ pair. ComesTo described way (pair ∷ []) (f pair)) pairs
-      → ComesTo described way pairs (flat_map f pairs)
-  each f [] come = ComesTo.done [] (All-nil IsFinal)
+  each : (f : Pair → List Pair) (pairs : List Pair) → All (λ pair. ExpandTo described way (pair ∷ []) (f pair)) pairs
+      → ExpandTo described way pairs (flat_map f pairs)
+  each f [] come = ExpandTo.done [] (All-nil IsFinal)
   each f (pair ∷ pairs) come =
       followed (pair ∷ []) (f pair) pairs (flat_map f pairs)
-      (All-head (λ p. ComesTo described way (p ∷ []) (f p)) pair pairs come)
-      (each f pairs (All-tail (λ p. ComesTo described way (p ∷ []) (f p)) pair pairs come))
+      (All-head (λ p. ExpandTo described way (p ∷ []) (f p)) pair pairs come)
+      (each f pairs (All-tail (λ p. ExpandTo described way (p ∷ []) (f p)) pair pairs come))
 
-  stays : (pair : Pair) → IsFinal pair → ComesTo described way (pair ∷ []) (pair ∷ [])
-  stays pair final = ComesTo.done (pair ∷ []) (All-cons IsFinal pair [] final (All-nil IsFinal))
+  stays : (pair : Pair) → IsFinal pair → ExpandTo described way (pair ∷ []) (pair ∷ [])
+  stays pair final = ExpandTo.done (pair ∷ []) (All-cons IsFinal pair [] final (All-nil IsFinal))
 
   -- a pair comes to what it is expanded to over all levels below it
   alone : (levels : ℕ) (pair : Pair) → length described.levels ≤ pair.depth + levels
-      → ComesTo described way (pair ∷ []) (expanded described way levels pair)
+      → ExpandTo described way (pair ∷ []) (expanded described way levels pair)
   alone zero pair low =
       stays pair (ap (λ b. b || (nat_le pair.share 1 || nat_le way.to pair.depth))
       (le-leb (length described.levels) pair.depth (omega arith)))
   alone (suc levels) pair low =
       elim (cases_Bool (is_final described way pair)) [
         | inl final ↦
-            subst (ComesTo described way (pair ∷ [])) (sym (expanded-final described way (suc levels) pair final)) (stays pair final)
+            subst (ExpandTo described way (pair ∷ [])) (sym (expanded-final described way (suc levels) pair final)) (stays pair final)
         | inr handed ↦
             let come = each (expanded described way levels) (handed_to pair)
-            (shared-all described (λ p. ComesTo described way (p ∷ []) (expanded described way levels p)) pair.share (pair.depth + 1)
+            (shared-all described (λ p. ExpandTo described way (p ∷ []) (expanded described way levels p)) pair.share (pair.depth + 1)
             (children_in_order described way pair) (λ p down. alone levels p (omega (arith, down, low)))) in
-            subst (ComesTo described way (pair ∷ [])) (sym (expanded-handed described way levels pair handed))
-            (ComesTo.replaced [] pair [] (flat_map (expanded described way levels) (handed_to pair)) handed
-            (subst (λ ps. ComesTo described way ps (flat_map (expanded described way levels) (handed_to pair)))
+            subst (ExpandTo described way (pair ∷ [])) (sym (expanded-handed described way levels pair handed))
+            (ExpandTo.replaced [] pair [] (flat_map (expanded described way levels) (handed_to pair)) handed
+            (subst (λ ps. ExpandTo described way ps (flat_map (expanded described way levels) (handed_to pair)))
             (sym (append-nil (handed_to pair))) come))
       ]
 
-  pub reached : (pairs : List Pair) → ComesTo described way pairs (expansion described way pairs)
+  pub reached : (pairs : List Pair) → ExpandTo described way pairs (expansion described way pairs)
   unfolding expansion
   reached pairs =
       each (λ pair. expanded described way (length described.levels - pair.depth) pair) pairs
-      (all_of (λ pair. ComesTo described way (pair ∷ []) (expanded described way (length described.levels - pair.depth) pair)) pairs
+      (all_of (λ pair. ExpandTo described way (pair ∷ []) (expanded described way (length described.levels - pair.depth) pair)) pairs
       (λ pair. alone (length described.levels - pair.depth) pair (omega arith)))

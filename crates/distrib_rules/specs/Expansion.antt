@@ -36,9 +36,9 @@ expanded described way (suc below) pair =
 unfoldable pub expansion : Description → Way → List Pair → List Pair
 expansion described way pairs = flat_map (λ pair. expanded described way (length described.levels - pair.depth) pair) pairs
 
--- Pairs come to others by replacing, in any order, a pair that isn't final by its object's children, until all are final.
-pub data ComesTo (described : Description) (way : Way) : List Pair → List Pair → Type 0 where
-  done : (pairs : List Pair) → All (λ pair. is_final described way pair ≡ true) pairs → ComesTo described way pairs pairs
+-- Pairs expand to others by replacing, in any order, a pair that isn't final by its object's children, until all are final.
+pub data ExpandTo (described : Description) (way : Way) : List Pair → List Pair → Type 0 where
+  done : (pairs : List Pair) → All (λ pair. is_final described way pair ≡ true) pairs → ExpandTo described way pairs pairs
   replaced : (before : List Pair) (pair : Pair) (behind others : List Pair) → is_final described way pair ≡ false
-      → ComesTo described way (before ++ children_sharing described way pair ++ behind) others
-      → ComesTo described way (before ++ pair ∷ behind) others
+      → ExpandTo described way (before ++ children_sharing described way pair ++ behind) others
+      → ExpandTo described way (before ++ pair ∷ behind) others

@@ -8,8 +8,8 @@ abbrev pub mask_limit : ℕ
 mask_limit = 4096
 
 -- the first broken rule on the number of masks, the depth of the start and the depth of the end
-abbrev pub fault_of : ℕ → ℕ → ℕ → Option DistribFault
-fault_of n from to =
+abbrev pub distrib_fault : ℕ → ℕ → ℕ → Option DistribFault
+distrib_fault n from to =
     if n == 0 then Some faults.ZeroMasks
     else (if nat_lt mask_limit n then Some faults.TooManyMasks
     else (if nat_lt to from then Some faults.Reversed else None))

@@ -7,18 +7,18 @@ use Rattle.topo_tree.specs.Building.{IsBuilt}
 use Rattle.topo_tree.specs.Coverage.{set_at}
 use Rattle.topo_tree.specs.Objects.{depth_count}
 use Rattle.distrib_rules.specs.Shares.{Pair}
-use Rattle.distrib_rules.specs.Expansion.{Way, start, expansion, ComesTo}
+use Rattle.distrib_rules.specs.Expansion.{Way, start, expansion, ExpandTo}
 use Rattle.distrib_rules.specs.Masks.{distribution}
 
 -- Whichever pair is replaced first, pairs come to their expansion.
 abbrev pub OrderMakesNoDifference : Type 0
-OrderMakesNoDifference = (described : Description) (way : Way) (pairs others : List Pair) → ComesTo described way pairs others
+OrderMakesNoDifference = (described : Description) (way : Way) (pairs others : List Pair) → ExpandTo described way pairs others
     → others ≡ expansion described way pairs
 
 -- Some order of replacing brings pairs to their expansion, so each distribution comes to one.
 abbrev pub PairsComeToTheirExpansion : Type 0
 PairsComeToTheirExpansion = (described : Description) (way : Way) (pairs : List Pair)
-    → ComesTo described way pairs (expansion described way pairs)
+    → ExpandTo described way pairs (expansion described way pairs)
 
 -- The masks are as many as were asked for.
 abbrev pub MasksAreAsMany : Type 0

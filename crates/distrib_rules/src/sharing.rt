@@ -7,7 +7,7 @@ ghost use Rattle.distrib_rules.specs.Shares.{shared, in_order};
 ghost use Rattle.distrib_rules.specs.Expansion.{is_final, expansion};
 ghost use Rattle.distrib_rules.specs.Masks.{with_pairs, distribution};
 ghost use Rattle.out_of_memory.specs.Memory.{UnlessMemory};
-ghost use Rattle.distrib_rules.specs.Faults.{mask_limit, fault_of};
+ghost use Rattle.distrib_rules.specs.Faults.{mask_limit, distrib_fault};
 
 use crate::fault::DistribFault;
 use crate::masks::push_share;
@@ -37,8 +37,8 @@ pub fn distrib<T: AsTree>(
     ensures masks { IfOk result (λ masks. masks.items
         ≡ distribution (T.described topology.now) (record { to = to; backwards = reverse }) n from) }
     ensures count { IfOk result (λ masks. vec_len masks ≡ n) }
-    ensures accepted { OnOk result (fault_of n from to ≡ None) }
-    ensures refused { IfErr result (λ fault. UnlessMemory DistribFault.OutOfMemory fault (fault_of n from to ≡ Some fault)) }
+    ensures accepted { OnOk result (distrib_fault n from to ≡ None) }
+    ensures refused { IfErr result (λ fault. UnlessMemory DistribFault.OutOfMemory fault (distrib_fault n from to ≡ Some fault)) }
 {
     if n == 0 {
         return Err(DistribFault::ZeroMasks);

@@ -1,6 +1,6 @@
 //! What `calc` prints. Answers in tables are those of hwloc-calc 2.9.
 use super::{answered, prints, text};
-use command_texts::{Status, line};
+use command_texts::{Status, line_of};
 use std::alloc::Global;
 use std::process::Abort;
 use std::test::Fail;
@@ -43,7 +43,7 @@ fn refusals<R: Abort>(rt: &R, alloc: Global, description: &str, table: &str) -> 
         let Err(status) = answered(alloc, &words_on(alloc, description, words)?)? else {
             panic!(rt; "the words are not refused");
         };
-        let told = line(&status);
+        let told = line_of(&status);
         let found = format!(in alloc; "{} {}", status.code(), told.as_str())?;
         let wanted = format!(in alloc; "{refusal}\n")?;
         assert_eq!(rt; found.as_str(), wanted.as_str(), "{words}");

@@ -1,7 +1,7 @@
 //! What `distrib` prints, and how its words are read.
 use super::{answered, prints, text};
 use byte_text::number32;
-use command_texts::{Status, line};
+use command_texts::{Status, line_of};
 use std::alloc::Global;
 use std::process::Abort;
 use std::test::Fail;
@@ -154,7 +154,7 @@ pub(super) fn refuses<R: Abort>(
         let number = u32::from(status.code());
         assert_eq!(rt; Some(number), number32(code.as_bytes()), "{row}");
         assert_eq!(rt;
-            line(&status).as_str().strip_suffix('\n'),
+            line_of(&status).as_str().strip_suffix('\n'),
             Some(told),
             "{row}"
         );

@@ -15,8 +15,8 @@ loop-position-preserved c =
     let set = c.args.set.now in
     let layer = c.args.layer in
     let path = c.args.path.now in
-    let first = c.inside-row.result.first in
-    let count = c.inside-row.result.count in
+    let first = c.row_inside-row.result.first in
+    let count = c.row_inside-row.result.count in
     let position = c.loop-position.position in
     let out = c.args.out.now.items in
     let so_far = c.loop-position.invariant in
@@ -37,7 +37,7 @@ loop-position-preserved c =
                 (subst (IsObject now) (sym end) (record {
                   layer = c.requires.layer;
                   index =
-                      omega (arith, c.inside-row.ensures.within, c.loop-position-test.true);
+                      omega (arith, c.row_inside-row.ensures.within, c.loop-position-test.true);
                 })));
           }
       | else-meets w ↦ record {
@@ -52,6 +52,7 @@ returns-clause-paths c =
     let now = c.args.tree.now in
     let path = c.args.path.now in
     c.loop-position.invariant.paths
-    ∙ ap (λ ps. c.args.out.now.items ++ ps) (through-all now c.args.set.now c.args.layer path c.inside-row.result.first
-    c.inside-row.result.count c.loop-position.position (omega arith)
-    (ap (λ object. candidates now c.args.layer (set_of now object.layer object.index)) (sym c.end_of.ensures) ∙ c.inside-row.ensures.run))
+    ∙ ap (λ ps. c.args.out.now.items ++ ps) (through-all now c.args.set.now c.args.layer path c.row_inside-row.result.first
+    c.row_inside-row.result.count c.loop-position.position (omega arith)
+    (ap (λ object. candidates now c.args.layer (set_of now object.layer object.index)) (sym c.end_of.ensures)
+    ∙ c.row_inside-row.ensures.run))

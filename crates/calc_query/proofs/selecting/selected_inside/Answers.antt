@@ -32,7 +32,7 @@ loop-index-preserved c =
     let before = c.args.before.now in
     let outer = c.loop-index.index in
     let chosen = c.loop-index.chosen in
-    let row = c.inside-row.result in
+    let row = c.row_inside-row.result in
     let among = λ (o : ℕ). candidates now part.layer (set_of now c.args.layer o) in
     let test : ℕ → ℕ → Bool = λ index o. has before o && is_picked_among now c.args.numbering part (among o) index in
     record {
@@ -41,7 +41,7 @@ loop-index-preserved c =
           (is_picked_among now c.args.numbering part (range_with_len row.first row.count))) outer c.loop-index.invariant.chosen
           (λ index low.
           has-numbers_below 4096 (is_picked_among now c.args.numbering part (range_with_len row.first row.count)) index low
-          ∙ ap (λ run. is_picked_among now c.args.numbering part run index) (sym c.inside-row.ensures.run)
+          ∙ ap (λ run. is_picked_among now c.args.numbering part run index) (sym c.row_inside-row.ensures.run)
           ∙ sym (ap (λ b. b && is_picked_among now c.args.numbering part (among outer) index)
           (c.loop-index.invariant.here c.loop-index-test.true)))
           ∙ collect_up test (outer + 1) c.next_index-index-in-loop-index.result c.next_index-index-in-loop-index.ensures.from

@@ -9,22 +9,22 @@ use Rattle.clof_tool.proofs.answer.answer.Goals as goal
 
 pub returns-in-Set-clause-complete : goal.returns-in-Set-clause-complete
 returns-in-Set-clause-complete g c words accepted calm =
-    set_complete c.set_text.result c.in-Set.list c.in-Set.text.now c.set_text.ensures.err
+    set_complete c.set_output.result c.in-Set.list c.in-Set.text.now c.set_output.ensures.err
     (subst (λ (a : Asked). (status : Status) → WordsRefused (plain a) status → ⊥) c.in-Set.is words)
 
 pub returns-in-Topo-clause-complete : goal.returns-in-Topo-clause-complete
 returns-in-Topo-clause-complete g c words accepted calm =
-    topo_complete c.topo_text.result c.in-Topo.text.now c.topo_text.ensures.err
+    topo_complete c.topo_output.result c.in-Topo.text.now c.topo_output.ensures.err
     (subst (λ (a : Asked). (status : Status) → WordsRefused (plain a) status → ⊥) c.in-Topo.is words)
 
 pub returns-in-Calc-clause-complete : goal.returns-in-Calc-clause-complete
 returns-in-Calc-clause-complete g c words accepted calm =
-    calc_complete c.calc_text.result (plain_calculation c.in-Calc.asked) c.calc_text.ensures.err
+    calc_complete c.calc_output.result (plain_calculation c.in-Calc.asked) c.calc_output.ensures.err
     (subst (λ (a : Asked). (status : Status) → WordsRefused (plain a) status → ⊥) c.in-Calc.is words)
 
 pub returns-in-Distrib-clause-complete : goal.returns-in-Distrib-clause-complete
 returns-in-Distrib-clause-complete g c words accepted calm =
-    distrib_complete c.distrib_text.result (plain_distribution c.in-Distrib.asked) c.distrib_text.ensures.err
+    distrib_complete c.distrib_output.result (plain_distribution c.in-Distrib.asked) c.distrib_output.ensures.err
     (subst (λ (a : Asked). (status : Status) → WordsRefused (plain a) status → ⊥) c.in-Distrib.is words)
 
 pub returns-in-Run-clause-complete : goal.returns-in-Run-clause-complete

@@ -1,5 +1,5 @@
 use Rattle.command_texts.proofs.OnTopologies.{err_again, not_refused}
-use Rattle.command_texts.proofs.trees.topo_text.Goals as goal
+use Rattle.command_texts.proofs.trees.topo_output.Goals as goal
 
 pub returns-clause-refused : goal.returns-clause-refused
 returns-clause-refused c status refuses = err_again c.in-Err.status status (c.in-Err.ensures.refused status refuses)

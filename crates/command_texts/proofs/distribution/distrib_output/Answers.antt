@@ -2,7 +2,7 @@ use Rattle.std.proofs.Common.{Err, inl, inr, ap, sym, ◌≡◌, ◌∙◌}
 use Rattle.command_words.specs.Plain.{plain_distribution}
 use Rattle.command_texts.specs.DistribText.{answer_on}
 use Rattle.command_texts.proofs.OnTopologies.{refused_early, refused_on}
-use Rattle.command_texts.proofs.distribution.distrib_text.Goals as goal
+use Rattle.command_texts.proofs.distribution.distrib_output.Goals as goal
 
 pub returns-clause-refused : goal.returns-clause-refused
 returns-clause-refused c status refuses =

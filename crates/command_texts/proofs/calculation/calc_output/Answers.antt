@@ -2,7 +2,7 @@ use Rattle.std.proofs.Common.{Err, inl, inr, ap, sym, ◌≡◌, ◌∙◌}
 use Rattle.command_words.specs.Plain.{plain_calculation}
 use Rattle.command_texts.specs.CalcText.{calc_on}
 use Rattle.command_texts.proofs.OnTopologies.{refused_early, refused_on}
-use Rattle.command_texts.proofs.calculation.calc_text.Goals as goal
+use Rattle.command_texts.proofs.calculation.calc_output.Goals as goal
 
 pub returns-clause-refused : goal.returns-clause-refused
 returns-clause-refused c status refuses =

@@ -3,7 +3,7 @@ use Rattle.std.specs.List.{range_with_len}
 use Rattle.topo_tree.specs.Beginnings.{width_at}
 use Rattle.topo_tree.specs.Coverage.{layer_depth, set_of}
 use Rattle.calc_query.proofs.CandidateLaws.{found, first_inside, end_inside, run_inside, run_within, none_inside}
-use Rattle.calc_query.proofs.candidates.inside.Goals as goal
+use Rattle.calc_query.proofs.candidates.row_inside.Goals as goal
 
 pub returns-then-count-eq0-clause-run : goal.returns-then-count-eq0-clause-run
 returns-then-count-eq0-clause-run c =
