@@ -1,17 +1,15 @@
 -- How the holder of a Hemlock left.
 use Rattle.std.proofs.Common.{◌≡◌, ◌≢◌, ℕ, Bool, [], ◌∷◌, Some, refl, ap, sym, ◌∙◌, subst}
 use Rattle.atomic_table.specs.Table.{rest}
-use Rattle.atomic_table.specs.declared.badge.Badge.{Badge}
 use Rattle.lock_rules.specs.Holders.{held_view}
 use Rattle.lock_rules.specs.Tag.{Tag}
-use Rattle.lock_rules.specs.Tokens.{view_of}
 use Rattle.lock_rules.specs.Views.{IsPlain}
 use Rattle.lock_rules.specs.declared.held.Held.{Held}
 use Rattle.lock_rules.specs.declared.view.Phase.TheVariants.{Leaving}
 use Rattle.lock_rules.specs.declared.view.View.{View}
 use Rattle.lock_tables.specs.Happened.{Seated, missed_view}
 use Rattle.lock_tables.proofs.Seats.{alike, alike_plain}
-use Rattle.hemlock_lock.specs.Calls.{HasMade, HasGranted, HasWaited}
+use Rattle.hemlock_lock.specs.Calls.{HasMade, HasGranted, HasWaited, granted}
 use Rattle.hemlock_lock.specs.Kinds.{own_name, followed_view, left_view, exchange_tail, store_grant, load_grant}
 
 module _ {V : Type 0} (fit : V → Type 0) (tag_of : V → Tag) (parked : V → Bool) where
@@ -19,12 +17,12 @@ module _ {V : Type 0} (fit : V → Type 0) (tag_of : V → Tag) (parked : V → 
   pub granted_is : (held : Held V) (found own was : ℕ) (me me' me'' : Seated V) → me ≡ (held_view held, (0, Some held.value) ∷ [])
       → own ≡ own_name (held_view held) → found ≢ own
       → HasMade fit tag_of parked exchange_tail me found me' → HasMade fit tag_of parked store_grant me' was me''
-      → HasGranted fit tag_of parked held × (me'' ≡ (left_view Leaving (followed_view (held_view held)), []))
+      → HasGranted fit tag_of parked held × (me'' ≡ granted held)
   granted_is held found own was me me' me'' before name other step store =
       let ne : found ≢ own_name me.0 = λ e. other (e ∙ ap (λ (m : Seated V). own_name m.0) before ∙ sym name) in
       let after : me' ≡ (followed_view (held_view held), (0, Some held.value) ∷ []) = (step.1 ne).0
       ∙ ap (λ (m : Seated V). (followed_view m.0, m.1)) before in
-      let last : me'' ≡ (left_view Leaving (followed_view (held_view held)), []) =
+      let last : me'' ≡ granted held =
       store.0 ∙ ap (λ (m : Seated V). (left_view Leaving m.0, rest m.1)) after in (
         record {
           found = found;
@@ -38,12 +36,11 @@ module _ {V : Type 0} (fit : V → Type 0) (tag_of : V → Tag) (parked : V → 
       )
 
   -- behind the load of the own grant
-  pub waited_is : (before : View) (badge : Badge View) (found : ℕ) (me me' : Seated V) → me ≡ (before, []) → found ≢ 0
-      → HasMade fit tag_of parked load_grant me found me' → view_of badge ≡ me'.0 → HasWaited fit tag_of parked before badge
-  waited_is before badge found me me' is uncleared step view =
-      let hand = ap (λ (m : Seated V). m.1) (step.1 uncleared).0 ∙ ap (λ (m : Seated V). m.1) is in
-      let made = subst (λ (x : Seated V × Seated V). HasMade fit tag_of parked load_grant x.0 found x.1) (λ i. (is i, (sym view i, hand i)))
-      step in (found, uncleared, made)
+  pub waited_is : (before now : Seated V) (found : ℕ) (me me' : Seated V) → me ≡ before → found ≢ 0
+      → HasMade fit tag_of parked load_grant me found me' → now ≡ me' → HasWaited fit tag_of parked before now
+  waited_is before now found me me' is uncleared step same =
+      let made = subst (λ (x : Seated V × Seated V). HasMade fit tag_of parked load_grant x.0 found x.1) (λ i. (is i, sym same i)) step in
+      (found, uncleared, made)
 
 pub waited_plain : (v : View) → IsPlain v → IsPlain (missed_view (left_view Leaving (followed_view v)))
 waited_plain v p = alike_plain v _ (alike _ _ refl refl refl refl refl refl refl refl refl refl refl p.predecessor_within) p

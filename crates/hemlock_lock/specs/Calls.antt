@@ -15,6 +15,11 @@ use Rattle.hemlock_lock.specs.Kinds.{own_name, entered_view, granted_view, clear
 use Rattle.hemlock_lock.specs.Kinds.{load_predecessor_grant, clear_predecessor_grant, load_tail, exchange_tail, store_grant, load_grant}
 use Rattle.hemlock_lock.specs.Rule.{hemlock_discipline}
 
+module _ {V : Type 0} where
+  -- a holder that has put its value back and granted
+  abbrev pub granted : Held V → Seated V
+  granted h = (left_view Leaving (followed_view (held_view h)), [])
+
 module _ {V : Type 0} (fit : V → Type 0) (tag_of : V → Tag) (parked : V → Bool) where
   -- the record of a step of this kind
   abbrev pub HasMade : StepKind → Seated V → ℕ → Seated V → Type 0
@@ -76,21 +81,20 @@ module _ {V : Type 0} (fit : V → Type 0) (tag_of : V → Tag) (parked : V → 
     pub exchange : HasMade exchange_tail (held_view before, (0, Some before.value) ∷ []) found
         (followed_view (held_view before), (0, Some before.value) ∷ [])
     pub was : ℕ
-    pub store : HasMade store_grant (followed_view (held_view before), (0, Some before.value) ∷ []) was
-        (left_view Leaving (followed_view (held_view before)), [])
+    pub store : HasMade store_grant (followed_view (held_view before), (0, Some before.value) ∷ []) was (granted before)
 
   -- a load of the own grant that showed 0
-  abbrev pub HasDone : View → Badge View → Type 0
-  HasDone before now = (found : ℕ) × (found ≡ 0) × HasMade load_grant (before, []) found (view_of now, [])
+  abbrev pub HasDone : Seated V → Badge View → Type 0
+  HasDone me now = (found : ℕ) × (found ≡ 0) × HasMade load_grant me found (view_of now, [])
 
   -- a load of the own grant that did not show 0
-  abbrev pub HasWaited : View → Badge View → Type 0
-  HasWaited before now = (found : ℕ) × (found ≢ 0) × HasMade load_grant (before, []) found (view_of now, [])
+  abbrev pub HasWaited : Seated V → Seated V → Type 0
+  HasWaited me now = (found : ℕ) × (found ≢ 0) × HasMade load_grant me found now
 
   -- a release that is done: `tail` named the holder, or the grant was cleared at once
   abbrev pub HasReleased : Held V → Badge View → Type 0
-  HasReleased before now = HasLeft before now ⊎ (HasGranted before × HasDone (left_view Leaving (followed_view (held_view before))) now)
+  HasReleased before now = HasLeft before now ⊎ (HasGranted before × HasDone (granted before) now)
 
   -- a release that isn't: the grant was not cleared yet
-  abbrev pub HasBegunToLeave : Held V → Badge View → Type 0
-  HasBegunToLeave before now = HasGranted before × HasWaited (left_view Leaving (followed_view (held_view before))) now
+  abbrev pub HasBegunToLeave : Held V → Seated V → Type 0
+  HasBegunToLeave before now = HasGranted before × HasWaited (granted before) now

@@ -28,7 +28,6 @@
 
 mod kinds;
 mod laws;
-mod leave;
 mod lock;
 
 pub use kinds::{
@@ -36,5 +35,4 @@ pub use kinds::{
     SwapTail,
 };
 pub use laws::HemlockWords;
-pub use leave::Leave;
 pub use lock::Hemlock;

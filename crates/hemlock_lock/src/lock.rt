@@ -1,10 +1,11 @@
 //! The lock and its calls.
-ghost use Rattle.std.specs.Prelude.{◌≡◌, ◌≢◌, ◌+◌, ◌≤◌, ◌<◌, ◌⊎◌, [], true, false, refl};
+ghost use Rattle.std.specs.Prelude.{◌≡◌, ◌≢◌, ◌+◌, ◌≤◌, ◌<◌, ◌⊎◌, true, false, refl};
 ghost use Rattle.lock_rules.specs.declared.view.Algorithm.TheVariants.{Hemlock as hemlock_algorithm};
 ghost use Rattle.lock_rules.specs.declared.step.Answer.TheVariants.{Open, Yes};
 ghost use Rattle.lock_rules.specs.Rows.{row_of};
 ghost use Rattle.lock_rules.specs.Views.{lock_name, answer_of, mark_of, IsPlain};
 ghost use Rattle.lock_rules.specs.Holders.{held_view, holder_of};
+ghost use Rattle.lock_rules.specs.Leaves.{LeaveRests, leave_waiting};
 ghost use Rattle.lock_rules.specs.Steps.{IfNot, IfGot};
 ghost use Rattle.lock_rules.specs.Passes.{IsOf, AreAll};
 ghost use Rattle.lock_rules.specs.Tokens.{view_of, badge_place, badge_waiting};
@@ -20,9 +21,8 @@ use crate::kinds::{
     SwapTail,
 };
 use crate::laws::HemlockWords;
-use crate::leave::Leave;
 use atomic_table::Seat;
-use lock_rules::{Basic, Cargo, Held, Pass, Queue, Refused, Step, View, Waiters};
+use lock_rules::{Basic, Cargo, Held, Leave, Pass, Queue, Refused, Step, View, Waiters};
 use lock_tables::{LockWords, Ruled};
 use std::alloc::Global;
 
@@ -64,20 +64,6 @@ impl<V: Cargo> Hemlock<V> {
     {
         16 * (name as usize + 1)
     }
-
-    /// The seat of a pass that leaves this lock, and its number.
-    #[inline]
-    fn leave_parts(&self, leave: Leave) -> (Seat<Option<V>, View>, u64)
-        requires of { IsOwnOf V.tag hemlock_algorithm self.now.words (badge_waiting leave.badge).place }
-        ensures own { IsSeatIn hemlock_algorithm self.now.words result.0 }
-        ensures table { result.0.table_id ≡ leave.badge.table_id }
-        ensures view { result.0.me ≡ (view_of leave.badge, []) }
-        ensures plain { IsPlain result.0.me.0 }
-        ensures silent { result.0.me.0.announced ≡ false }
-        ensures mark { result.1 ≡ mark_of result.0.me.0 }
-    {
-        leave.into_parts()
-    }
 }
 
 impl<V: Cargo> Basic<V> for Hemlock<V> {
@@ -89,7 +75,7 @@ impl<V: Cargo> Basic<V> for Hemlock<V> {
 
     type Held = Held<V>;
 
-    type Leave = Leave;
+    type Leave = Leave<V>;
 
     ghost name = { λ l. lock_name hemlock_algorithm (words_key l.words).waiters
         (words_table l.words) };
@@ -192,20 +178,20 @@ impl<V: Cargo> Basic<V> for Hemlock<V> {
     }
 
     /// The answer is `Got` where `tail` named the holder, or the one behind it has cleared its grant already.
-    fn begin_release(&self, held: Held<V>) -> Step<Leave, Pass>
+    fn begin_release(&self, held: Held<V>) -> Step<Leave<V>, Pass>
         requires own { IsOwnOf V.tag hemlock_algorithm self.now.words (holder_of held).place }
         requires fit { V.fit held.value }
         requires tagged { V.tag held.value ≡ V.tag (words_key self.now.words).value.value }
         requires relied_on { V.parked held.value ≡ true → (holder_of held).tested ≡ Yes }
         requires said { V.said held.value ≢ Open → V.said held.value ≡ (holder_of held).tested }
         ensures released { IfGot result (λ p. HasReleased V.fit V.tag V.parked held p.badge) }
-        ensures began_to_leave { IfNot result (λ l. HasBegunToLeave V.fit V.tag V.parked held l.badge) }
-        ensures leave { IfNot result (λ l. (badge_waiting l.badge).place ≡ (holder_of held).place) }
-        ensures loaded { IfNot result (λ l. (badge_waiting l.badge).loads ≡ (holder_of held).loads + 1) }
-        ensures unready { IfNot result (λ l. (badge_waiting l.badge).ready ≡ false) }
-        ensures rests { IfNot result (λ _. Unit {0}) }
+        ensures began_to_leave { IfNot result (λ l. HasBegunToLeave V.fit V.tag V.parked held l.seat.me) }
+        ensures leave { IfNot result (λ l. (leave_waiting l).place ≡ (holder_of held).place) }
+        ensures loaded { IfNot result (λ l. (leave_waiting l).loads ≡ (holder_of held).loads + 1) }
+        ensures unready { IfNot result (λ l. (leave_waiting l).ready ≡ false) }
+        ensures rests { IfNot result (λ l. LeaveRests V.fit V.tag V.parked l) }
         ensures pass { IfGot result (λ p. badge_place p.badge ≡ (holder_of held).place) }
-        ensures steps { IfNot result (λ l. (view_of l.badge).steps ≡ (held_view held).steps + 3) }
+        ensures steps { IfNot result (λ l. l.seat.me.0.steps ≡ (held_view held).steps + 3) }
         ensures steps_behind { IfGot result (λ p. (((view_of p.badge).loads ≡ (holder_of held).loads)
             × ((view_of p.badge).steps ≡ (held_view held).steps + 1))
             ⊎ (((view_of p.badge).loads ≡ (holder_of held).loads + 1) × ((view_of p.badge).steps ≡ (held_view held).steps + 3))) }
@@ -222,29 +208,29 @@ impl<V: Cargo> Basic<V> for Hemlock<V> {
         }
         self.words.store::<StoreGrant>(&mut seat, grant, 1);
         if self.words.load::<LoadGrant>(&mut seat, grant) != 0 {
-            return Step::Not(Leave::of(seat, mark));
+            return Step::Not(self.words.leave_of(seat, mark));
         }
         Step::Got(Pass::of(seat, mark))
     }
 
     /// The answer is `Not` exactly where the grant isn't cleared.
-    fn poll_release(&self, leave: Leave) -> Step<Leave, Pass>
-        requires own { IsOwnOf V.tag hemlock_algorithm self.now.words (badge_waiting leave.badge).place }
-        ensures done { IfGot result (λ p. HasDone V.fit V.tag V.parked (view_of leave.badge) p.badge) }
-        ensures waited { IfNot result (λ l. HasWaited V.fit V.tag V.parked (view_of leave.badge) l.badge) }
-        ensures leave { IfNot result (λ l. (badge_waiting l.badge).place ≡ (badge_waiting leave.badge).place) }
-        ensures loaded { IfNot result (λ l. (badge_waiting l.badge).loads ≡ (badge_waiting leave.badge).loads + 1) }
-        ensures unready { IfNot result (λ l. (badge_waiting l.badge).ready ≡ false) }
-        ensures rests { IfNot result (λ _. Unit {0}) }
-        ensures pass { IfGot result (λ p. badge_place p.badge ≡ (badge_waiting leave.badge).place) }
-        ensures steps { IfNot result (λ l. (view_of l.badge).steps ≡ (view_of leave.badge).steps + 1) }
-        ensures steps_behind { IfGot result (λ p. (view_of p.badge).steps ≡ (view_of leave.badge).steps + 1) }
+    fn poll_release(&self, leave: Leave<V>) -> Step<Leave<V>, Pass>
+        requires own { IsOwnOf V.tag hemlock_algorithm self.now.words (leave_waiting leave).place }
+        ensures done { IfGot result (λ p. HasDone V.fit V.tag V.parked leave.seat.me p.badge) }
+        ensures waited { IfNot result (λ l. HasWaited V.fit V.tag V.parked leave.seat.me l.seat.me) }
+        ensures leave { IfNot result (λ l. (leave_waiting l).place ≡ (leave_waiting leave).place) }
+        ensures loaded { IfNot result (λ l. (leave_waiting l).loads ≡ (leave_waiting leave).loads + 1) }
+        ensures unready { IfNot result (λ l. (leave_waiting l).ready ≡ false) }
+        ensures rests { IfNot result (λ l. LeaveRests V.fit V.tag V.parked l) }
+        ensures pass { IfGot result (λ p. badge_place p.badge ≡ (leave_waiting leave).place) }
+        ensures steps { IfNot result (λ l. l.seat.me.0.steps ≡ leave.seat.me.0.steps + 1) }
+        ensures steps_behind { IfGot result (λ p. (view_of p.badge).steps ≡ leave.seat.me.0.steps + 1) }
     {
-        let (mut seat, mark) = self.leave_parts(leave);
+        let (mut seat, mark) = self.words.leave_parts(leave);
         let own = self.name_of(&seat, mark);
         let grant = self.grant_of(&seat, own);
         if self.words.load::<LoadGrant>(&mut seat, grant) != 0 {
-            return Step::Not(Leave::of(seat, mark));
+            return Step::Not(self.words.leave_of(seat, mark));
         }
         Step::Got(Pass::of(seat, mark))
     }

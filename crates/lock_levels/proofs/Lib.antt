@@ -1,4 +1,3 @@
 pub mod Levels
 pub mod MadeKinds
-pub mod Names
 pub mod Raised

@@ -1,4 +1,3 @@
 pub mod AnyKinds
 pub mod Kinds
-pub mod Leaves
 pub mod Raised

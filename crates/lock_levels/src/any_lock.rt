@@ -1,6 +1,7 @@
 //! A basic lock whose kind is chosen when it is made.
 ghost use Rattle.std.specs.Prelude.{◌≡◌, ◌≢◌, ◌+◌, ◌<◌, true, false, IfOk, IfErr};
 ghost use Rattle.lock_rules.specs.Holders.{holder_of};
+ghost use Rattle.lock_rules.specs.Leaves.{LeaveRests, leave_waiting};
 ghost use Rattle.lock_rules.specs.Passes.{AreAll, IsOf};
 ghost use Rattle.lock_rules.specs.Steps.{IfNot, IfGot, IsNot, IsGot};
 ghost use Rattle.lock_rules.specs.Tokens.{view_of, badge_place, badge_waiting};
@@ -8,14 +9,12 @@ ghost use Rattle.lock_rules.specs.declared.step.Answer.TheVariants.{Open, Yes};
 ghost use Rattle.lock_rules.specs.declared.view.Algorithm.TheVariants.{Mcs as mcs_algorithm};
 ghost use Rattle.lock_levels.specs.AnyKinds.{any_kind};
 ghost use Rattle.lock_levels.specs.Kinds.{algorithm_of, by_kind, kind_of, only_queues};
-ghost use Rattle.lock_levels.specs.Leaves.{AnyRests, any_waiting};
 
-use crate::any_leave::AnyLeave;
 use crate::kinds::{Kinds, kind_with, parts_of};
 use clh_lock::Clh;
 use hemlock_lock::Hemlock;
 use lock_plan::LockKind;
-use lock_rules::{Algorithm, Basic, Cargo, Held, Pass, Queue, Refused, Step};
+use lock_rules::{Algorithm, Basic, Cargo, Held, Leave, Pass, Queue, Refused, Step};
 use mcs_lock::Mcs;
 use std::alloc::Global;
 use ticket_lock::Ticket;
@@ -49,7 +48,7 @@ impl<V: Cargo> Basic<V> for AnyLock<V> {
 
     type Held = Held<V>;
 
-    type Leave = AnyLeave<V>;
+    type Leave = Leave<V>;
 
     ghost name = { λ l. by_kind ⟦<Ticket<V> as Basic<V>>⟧.name ⟦<Mcs<V> as Basic<V>>⟧.name ⟦<Clh<V> as Basic<V>>⟧.name
         ⟦<Hemlock<V> as Basic<V>>⟧.name l.lock };
@@ -168,7 +167,7 @@ impl<V: Cargo> Basic<V> for AnyLock<V> {
     }
 
     /// In a Ticket and a CLH lock the answer is never `Not`, and in an MCS lock only where the exchange of the tail found another.
-    fn begin_release(&self, held: Held<V>) -> Step<AnyLeave<V>, Pass>
+    fn begin_release(&self, held: Held<V>) -> Step<Leave<V>, Pass>
         requires own { IsOf (by_kind ⟦<Ticket<V> as Basic<V>>⟧.name ⟦<Mcs<V> as Basic<V>>⟧.name ⟦<Clh<V> as Basic<V>>⟧.name
             ⟦<Hemlock<V> as Basic<V>>⟧.name self.now.lock) (by_kind ⟦<Ticket<V> as Basic<V>>⟧.tag ⟦<Mcs<V> as Basic<V>>⟧.tag
             ⟦<Clh<V> as Basic<V>>⟧.tag ⟦<Hemlock<V> as Basic<V>>⟧.tag self.now.lock) (holder_of held).place }
@@ -178,53 +177,27 @@ impl<V: Cargo> Basic<V> for AnyLock<V> {
         requires relied_on { V.parked held.value ≡ true → (holder_of held).tested ≡ Yes }
         requires said { V.said held.value ≢ Open → V.said held.value ≡ (holder_of held).tested }
         ensures leaves_at_once { only_queues (algorithm_of self.now.lock) ≡ true → IsGot result }
-        ensures behind { IfNot result (λ l. algorithm_of self.now.lock ≡ mcs_algorithm → (any_waiting l).followed ≡ true) }
-        ensures leave { IfNot result (λ l. (any_waiting l).place ≡ (holder_of held).place) }
-        ensures loaded { IfNot result (λ l. (any_waiting l).loads ≡ (holder_of held).loads + 1) }
-        ensures unready { IfNot result (λ l. (any_waiting l).ready ≡ false) }
-        ensures rests { IfNot result (λ l. AnyRests V.fit V.tag V.parked l) }
+        ensures behind { IfNot result (λ l. algorithm_of self.now.lock ≡ mcs_algorithm → (leave_waiting l).followed ≡ true) }
+        ensures leave { IfNot result (λ l. (leave_waiting l).place ≡ (holder_of held).place) }
+        ensures loaded { IfNot result (λ l. (leave_waiting l).loads ≡ (holder_of held).loads + 1) }
+        ensures unready { IfNot result (λ l. (leave_waiting l).ready ≡ false) }
+        ensures rests { IfNot result (λ l. LeaveRests V.fit V.tag V.parked l) }
         ensures pass { IfGot result (λ p. badge_place p.badge ≡ (holder_of held).place) }
     {
         match &self.lock {
-            Kinds::Ticket(lock) => match lock.begin_release(held) {
-                Step::Not(_) => unreachable!(),
-                Step::Got(pass) => Step::Got(pass),
-            },
-            Kinds::Mcs(lock) => match lock.begin_release(held) {
-                Step::Not(leave) => Step::Not(AnyLeave::Mcs(leave)),
-                Step::Got(pass) => Step::Got(pass),
-            },
-            Kinds::Clh(lock) => match lock.begin_release(held) {
-                Step::Not(_) => unreachable!(),
-                Step::Got(pass) => Step::Got(pass),
-            },
-            Kinds::Hemlock(lock) => match lock.begin_release(held) {
-                Step::Not(leave) => Step::Not(AnyLeave::Hemlock(leave)),
-                Step::Got(pass) => Step::Got(pass),
-            },
+            Kinds::Ticket(lock) => lock.begin_release(held),
+            Kinds::Mcs(lock) => lock.begin_release(held),
+            Kinds::Clh(lock) => lock.begin_release(held),
+            Kinds::Hemlock(lock) => lock.begin_release(held),
         }
     }
 
-    fn poll_release(&self, leave: AnyLeave<V>) -> Step<AnyLeave<V>, Pass> {
-        match leave {
-            AnyLeave::Mcs(leave) => {
-                let Kinds::Mcs(lock) = &self.lock else {
-                    unreachable!()
-                };
-                match lock.poll_release(leave) {
-                    Step::Not(leave) => Step::Not(AnyLeave::Mcs(leave)),
-                    Step::Got(pass) => Step::Got(pass),
-                }
-            }
-            AnyLeave::Hemlock(leave) => {
-                let Kinds::Hemlock(lock) = &self.lock else {
-                    unreachable!()
-                };
-                match lock.poll_release(leave) {
-                    Step::Not(leave) => Step::Not(AnyLeave::Hemlock(leave)),
-                    Step::Got(pass) => Step::Got(pass),
-                }
-            }
+    fn poll_release(&self, leave: Leave<V>) -> Step<Leave<V>, Pass> {
+        match &self.lock {
+            Kinds::Ticket(lock) => lock.poll_release(leave),
+            Kinds::Mcs(lock) => lock.poll_release(leave),
+            Kinds::Clh(lock) => lock.poll_release(leave),
+            Kinds::Hemlock(lock) => lock.poll_release(leave),
         }
     }
 

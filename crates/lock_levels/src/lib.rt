@@ -4,14 +4,12 @@
 //! `lock_tree` has locks of one to five levels.
 #![tactic(auto)]
 
-mod any_leave;
 mod any_lock;
 mod has_kinds;
 mod kinds;
 mod laws;
 mod tiers;
 
-pub use any_leave::AnyLeave;
 pub use any_lock::AnyLock;
 pub use has_kinds::HasKinds;
 pub use kinds::Kinds;

@@ -5,5 +5,7 @@ pub mod Views
 pub mod Rows
 pub mod Tokens
 pub mod Passes
+pub mod Hands
+pub mod Leaves
 pub mod Holders
 pub mod Trees

@@ -6,15 +6,17 @@
 //! tokens, so that no token names the type of a lock.
 //!
 //! For those who write a lock there are what its table's seats know (`View`), the tokens that all locks share (`Pass`, `Queue`, `Held`,
-//! `Left`), the key that its table is told (`Opening`), and how its words lie in lines (`specs/Rows`). The crate `lock_tables` has the rule
-//! that stands on these.
+//! `Leave`), the key that its table is told (`Opening`), and how its words lie in lines (`specs/Rows`). The crate `lock_tables` has the
+//! rule that stands on these.
 #![tactic(auto)]
 
 mod basic;
 mod cargo;
+mod departing;
 mod held;
 mod holder;
 mod laws;
+mod leave;
 mod pauses;
 mod payload;
 mod plain;
@@ -27,10 +29,11 @@ pub use basic::Basic;
 pub use cargo::Cargo;
 pub use held::{Held, HeldSeat};
 pub use laws::passes_are_shared;
+pub use leave::Leave;
 pub use pauses::Pauses;
 pub use payload::Payload;
 pub use plain::Plain;
 pub use step::{Answer, Refused, Step};
 pub use token::{Departing, Holding, Placed, Queueing};
-pub use tokens::{Left, Pass, Queue};
+pub use tokens::{Pass, Queue};
 pub use view::{Algorithm, Opening, Phase, Tagged, View, Waiters};

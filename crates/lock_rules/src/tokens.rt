@@ -1,12 +1,12 @@
-//! The tokens of a pass that doesn't hold. None names the type of the value, and each is one for all locks whose token of that kind has no
-//! slot in hand.
+//! The tokens of a pass at rest and of one in the queue, one each for all four locks. Neither has a slot in hand, or names the type of the
+//! value.
 ghost use Rattle.std.specs.Prelude.{◌≡◌, []};
 ghost use Rattle.lock_rules.specs.Rows.{IsRowOf};
 ghost use Rattle.lock_rules.specs.Tokens.{IsSeated, view_of, badge_place, badge_waiting};
 ghost use Rattle.lock_rules.specs.Views.{IsPlain, IsTold, mark_of};
 ghost use Rattle.lock_rules.specs.declared.view.Phase.TheVariants.{Idle, Queued};
 
-use crate::token::{Departing, Placed, Queueing};
+use crate::token::{Placed, Queueing};
 use crate::view::View;
 use atomic_table::{Badge, Seat};
 
@@ -31,13 +31,6 @@ pub struct Queue {
     pub ghost behind: { predecessor ≡ (view_of badge).predecessor },
 }
 
-/// A pass that has left, for the locks whose release is done with its first call. They give none; the type has values because the contract
-/// of a call that takes one must be met by some call.
-#[derive(Drop)]
-pub struct Left {
-    pub pass: Pass,
-}
-
 impl Placed for Pass {
     ghost place = { λ p. badge_place p.badge };
 
@@ -46,12 +39,6 @@ impl Placed for Pass {
 
 impl Queueing for Queue {
     ghost waiting = { λ q. badge_waiting q.badge };
-}
-
-impl Departing for Left {
-    ghost waiting = { λ l. badge_waiting l.pass.badge };
-
-    ghost rests = { λ _. Unit {0} };
 }
 
 impl Pass {

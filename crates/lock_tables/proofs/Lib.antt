@@ -10,3 +10,4 @@ pub mod Implied
 pub mod Seats
 pub mod Makes
 pub mod Owned
+pub mod Hands

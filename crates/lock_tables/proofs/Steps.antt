@@ -12,6 +12,7 @@ use mathlib.Core.Logic.{dite}
 use native.Mathlib.Decide.{ℕ_discrete}
 use Rattle.atomic_table.specs.Table.{State, Me, Act, keeps, takes, gives, stepped, put_back, Valid, carried_after, Splits, Joins}
 use Rattle.atomic_table.specs.Table.{opening, Final, Seen}
+use Rattle.lock_rules.specs.Hands.{MayRest}
 use Rattle.lock_rules.specs.Rows.{waiting}
 use Rattle.lock_rules.specs.Tag.{Tag}
 use Rattle.lock_rules.specs.Views.{IsPlain, is_counted, first_view, without_next, next_split, joined_view, spent_view}
@@ -20,7 +21,7 @@ use Rattle.lock_rules.specs.declared.view.Phase.{Phase}
 use Rattle.lock_rules.specs.declared.view.Phase.TheVariants.{Idle, Queued, Holding, Leaving}
 use Rattle.lock_rules.specs.declared.view.View.{View}
 use Rattle.lock_rules.specs.declared.view.Waiters.{Waiters}
-use Rattle.lock_tables.specs.Happened.{Happened, Stepped, SteppedAndTook, MayRest}
+use Rattle.lock_tables.specs.Happened.{Happened, Stepped, SteppedAndTook}
 use Rattle.lock_tables.specs.Laws.{IsDisciplined, number_at}
 use Rattle.lock_tables.specs.Numbers.{passes_of}
 use Rattle.lock_tables.specs.Queue.{IsIn, Enters, Takes, EntersAndTakes, Leaves, Stays}

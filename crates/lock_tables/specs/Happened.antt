@@ -5,7 +5,7 @@ use mathlib.Core.Option.{some}
 use lib.ListN.{get_elem?}
 use Rattle.lock_rules.specs.Tag.{Tag}
 use Rattle.lock_rules.specs.Views.{answer_of, is_counted}
-use Rattle.lock_rules.specs.declared.step.Answer.TheVariants.{Open, Yes}
+use Rattle.lock_rules.specs.declared.step.Answer.TheVariants.{Open}
 use Rattle.lock_rules.specs.declared.view.Phase.TheVariants.{Holding}
 use Rattle.lock_rules.specs.declared.view.View.{View}
 use Rattle.lock_rules.specs.declared.view.Waiters.{Waiters}
@@ -65,9 +65,3 @@ module _ {V Q : Type 0} (rule : Waiters → ℕ → Tag → State (Option V) Vie
   abbrev pub SteppedAndTook : (V → Type 0) → (V → Tag) → (ℕ → Q → Q → Type 0) → ℕ → ℕ → ℕ → Seated V → View → Seated V → Type 0
   SteppedAndTook fit tag_of event word found now me w me' = (x : V) × fit x × (tag_of x ≡ me.0.tag.tag)
       × Stepped event (takes 0 (Some x)) word found now me w me'
-
--- what a holder puts back: a fit value of the tag that its seat knows, parked only behind a yes
-pub record MayRest {V : Type 0} (fit : V → Type 0) (tag_of : V → Tag) (parked : V → Bool) (v : View) (x : V) : Type 0 where
-  pub fits : fit x
-  pub tagged : tag_of x ≡ v.tag.tag
-  pub relied_on : parked x ≡ true → v.tested ≡ Yes

@@ -1,9 +1,10 @@
 -- A kind of atomic step on the words of a lock, as data of its algorithm.
-use Rattle.std.specs.Prelude.{◌≡◌, ◌≢◌, ℕ, ◌+◌, ◌%◌, ◌^◌, Bool, true, false, ◌||◌, [], ◌∷◌, Some}
+use Rattle.std.specs.Prelude.{◌≡◌, ◌≢◌, ℕ, ◌+◌, ◌%◌, ◌^◌, Bool, true, false, ◌||◌}
 use Rattle.atomic_table.specs.Table.{keeps, gives}
+use Rattle.lock_rules.specs.Hands.{HasKept}
 use Rattle.lock_rules.specs.Tag.{Tag}
 use Rattle.lock_rules.specs.declared.view.View.{View}
-use Rattle.lock_tables.specs.Happened.{Seated, Stepped, SteppedAndTook, MayRest}
+use Rattle.lock_tables.specs.Happened.{Seated, Stepped, SteppedAndTook}
 use Rattle.lock_tables.specs.Queue.{Enters, Takes, EntersAndTakes, Leaves, Stays}
 use Rattle.lock_tables.specs.Rule.{Discipline, IsLock}
 
@@ -80,7 +81,7 @@ module _ {V : Type 0} (fit : V → Type 0) (tag_of : V → Tag) (parked : V → 
   -- who may give back has the slot in hand, with a value in it that may rest
   abbrev pub Carries : Bool → Seated V → Type 0
   Carries false me = Unit {0}
-  Carries true me = (x : V) × (me.1 ≡ (0, Some x) ∷ []) × MayRest fit tag_of parked me.0 x
+  Carries true me = HasKept fit tag_of parked true me.0 me.1
 
 module _ (d : Discipline) {V : Type 0} (fit : V → Type 0) (tag_of : V → Tag) (parked : V → Bool) where
   -- the record of a step with this event, which found a number in this word, made it `now`, and gave its seat the view w

@@ -1,9 +1,11 @@
 //! What a lock does with its words, but for the steps of its own algorithm.
-ghost use Rattle.std.specs.Prelude.{◌≡◌, ◌<◌, [], ◌∷◌, None, Some, IfOk, IfErr, false};
+ghost use Rattle.std.specs.Prelude.{◌≡◌, ◌<◌, [], ◌∷◌, None, Some, IfOk, IfErr, MatchBool, false};
+ghost use Rattle.lock_rules.specs.Hands.{HasKept, keeps_slot, phase_left};
 ghost use Rattle.lock_rules.specs.Holders.{held_view, holder_of};
+ghost use Rattle.lock_rules.specs.Leaves.{LeaveRests, leave_waiting};
 ghost use Rattle.lock_rules.specs.Passes.{AreAll};
 ghost use Rattle.lock_rules.specs.Tokens.{view_of, badge_place, badge_waiting};
-ghost use Rattle.lock_rules.specs.Views.{is_counted, lock_name, mark_of, IsPlain};
+ghost use Rattle.lock_rules.specs.Views.{is_counted, lock_name, mark_of, IsPlain, IsTold};
 ghost use Rattle.lock_rules.specs.declared.view.Phase.TheVariants.{Idle, Holding};
 ghost use Rattle.lock_tables.specs.Counting.{Counted, HasAnnounced, HasWithdrawn};
 ghost use Rattle.lock_tables.specs.Happened.{announced_view, withdrawn_view};
@@ -17,7 +19,7 @@ use crate::slot::{put, take};
 use crate::table::{into_value, join_passes, new_table, split_passes};
 use atomic_table::Seat;
 use crossbeam_utils::CachePadded;
-use lock_rules::{Cargo, Held, Pass, Queue, Refused, View, Waiters};
+use lock_rules::{Cargo, Held, Leave, Pass, Queue, Refused, View, Waiters};
 use std::alloc::Global;
 
 impl<V: Cargo, D: Disciplined> LockWords<V, D> {
@@ -123,6 +125,38 @@ impl<V: Cargo, D: Disciplined> LockWords<V, D> {
         ensures mark { result ≡ mark_of (held_view held.now) }
     {
         held.seat.mark
+    }
+
+    /// The token of a seat of this lock that leaves, and its mark.
+    #[inline]
+    pub fn leave_of(&self, seat: Seat<Option<V>, View>, mark: u64) -> Leave<V>
+        requires own { IsSeatIn D.discipline.algorithm self.now seat }
+        requires leaves { seat.me.0.phase ≡ phase_left D.discipline.algorithm }
+        requires plain { IsPlain seat.me.0 }
+        requires silent { seat.me.0.announced ≡ false }
+        requires hand { HasKept V.fit V.tag V.parked (keeps_slot D.discipline.algorithm) seat.me.0 seat.me.1 }
+        requires mark { mark ≡ mark_of seat.me.0 }
+        ensures seat { result.seat ≡ seat }
+        ensures rests { LeaveRests V.fit V.tag V.parked result }
+    {
+        Leave::of(seat, mark)
+    }
+
+    /// The seat of a pass of this lock that leaves, and its mark.
+    #[inline]
+    pub fn leave_parts(&self, leave: Leave<V>) -> (Seat<Option<V>, View>, u64)
+        requires of { IsOwnOf V.tag D.discipline.algorithm self.now (leave_waiting leave).place }
+        requires rests { MatchBool (keeps_slot D.discipline.algorithm) (LeaveRests V.fit V.tag V.parked leave) (Unit {0}) }
+        ensures own { IsSeatIn D.discipline.algorithm self.now result.0 }
+        ensures seat { result.0 ≡ leave.seat }
+        ensures leaves { result.0.me.0.phase ≡ phase_left D.discipline.algorithm }
+        ensures hand { HasKept V.fit V.tag V.parked (keeps_slot D.discipline.algorithm) result.0.me.0 result.0.me.1 }
+        ensures plain { IsPlain result.0.me.0 }
+        ensures told { IsTold result.0.me.0 }
+        ensures silent { result.0.me.0.announced ≡ false }
+        ensures mark { result.1 ≡ mark_of result.0.me.0 }
+    {
+        leave.into_parts()
     }
 
     /// Announces the pass, before its other steps, where the lock counts its waiters.

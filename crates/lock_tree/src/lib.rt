@@ -9,7 +9,7 @@ mod tiers;
 
 pub use depths::{Lock1, Lock2, Lock3, Lock4, Lock5, make_1, make_2, make_3, make_4, make_5};
 pub use lock_levels::{
-    AnyLeave, AnyLock, HasKinds, Kinds, LevelOver, LowPass, Owned, TopOf, add_below, kind_at,
+    AnyLock, HasKinds, Kinds, LevelOver, LowPass, Owned, TopOf, add_below, kind_at,
     low_passes_are_shared, low_passes_may_be_sent, make_top_of, top_passes_are_shared,
     top_passes_may_be_sent,
 };

@@ -30,10 +30,8 @@
 //! kinds of step, `specs/Calls` what each call did.
 #![tactic(auto)]
 
-mod departing;
 mod kinds;
 mod laws;
-mod leave;
 mod lock;
 mod records;
 
@@ -42,5 +40,4 @@ pub use kinds::{
     StorePredecessorNext, StoreSuccessorLocked,
 };
 pub use laws::McsWords;
-pub use leave::Leave;
 pub use lock::Mcs;

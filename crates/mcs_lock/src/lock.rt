@@ -4,6 +4,7 @@ ghost use Rattle.lock_rules.specs.declared.view.Algorithm.TheVariants.{Mcs as mc
 ghost use Rattle.lock_rules.specs.declared.step.Answer.TheVariants.{Open, Yes};
 ghost use Rattle.lock_rules.specs.Views.{lock_name, answer_of};
 ghost use Rattle.lock_rules.specs.Holders.{held_view, holder_of};
+ghost use Rattle.lock_rules.specs.Leaves.{LeaveRests, leave_waiting};
 ghost use Rattle.lock_rules.specs.Passes.{AreAll};
 ghost use Rattle.lock_rules.specs.Steps.{IfNot, IfGot};
 ghost use Rattle.lock_rules.specs.Tokens.{view_of, badge_place, badge_waiting};
@@ -12,15 +13,13 @@ ghost use Rattle.lock_tables.specs.Words.{words_key, words_table, IsOwnOf};
 ghost use Rattle.mcs_lock.specs.Choice.{mcs_waiters};
 ghost use Rattle.mcs_lock.specs.Calls.{HasEntered, HasEnteredAndTaken, HasMissed, HasTaken, HasAsked};
 ghost use Rattle.mcs_lock.specs.Calls.{at_home, HasLeft, HasPassed, IsFollowed, HasWaited};
-ghost use Rattle.mcs_lock.specs.Leaves.{leave_waiting, HasHome};
 
 use crate::kinds::{
     CompareAndSwapTail, FetchAndStoreTail, LoadLocked, LoadNext, LoadTail, StoreLocked, StoreNext,
     StorePredecessorNext, StoreSuccessorLocked,
 };
 use crate::laws::McsWords;
-use crate::leave::Leave;
-use lock_rules::{Basic, Cargo, Held, Pass, Queue, Refused, Step, Waiters};
+use lock_rules::{Basic, Cargo, Held, Leave, Pass, Queue, Refused, Step, Waiters};
 use lock_tables::{LockWords, Ruled};
 use std::alloc::Global;
 
@@ -167,7 +166,7 @@ impl<V: Cargo> Basic<V> for Mcs<V> {
         ensures loaded { IfNot result (λ l. (leave_waiting l).loads ≡ (holder_of held).loads + 1) }
         ensures unready { IfNot result (λ l. (leave_waiting l).ready ≡ false) }
         ensures behind { IfNot result (λ l. (leave_waiting l).followed ≡ true) }
-        ensures rests { IfNot result (λ l. HasHome V.fit V.tag V.parked l) }
+        ensures rests { IfNot result (λ l. LeaveRests V.fit V.tag V.parked l) }
         ensures pass { IfGot result (λ p. badge_place p.badge ≡ (holder_of held).place) }
         ensures steps { IfNot result (λ l. l.seat.me.0.steps ≡ (held_view held).steps + 2) }
         ensures steps_leaving { IfGot result (λ p. (view_of p.badge).steps ≡ (held_view held).steps + 2) }
@@ -188,28 +187,28 @@ impl<V: Cargo> Basic<V> for Mcs<V> {
         if found == own.name {
             return Step::Got(Pass::of(seat, mark));
         }
-        Step::Not(Leave { seat, mark })
+        Step::Not(self.words.leave_of(seat, mark))
     }
 
     /// The answer is `Got` exactly where the pass saw its successor, which it lets go on.
     fn poll_release(&self, leave: Leave<V>) -> Step<Leave<V>, Pass>
         requires own { IsOwnOf V.tag mcs_algorithm self.now.words (leave_waiting leave).place }
-        requires rests { HasHome V.fit V.tag V.parked leave }
+        requires rests { LeaveRests V.fit V.tag V.parked leave }
         ensures did { IfGot result (λ p. HasPassed V.fit V.tag V.parked leave.seat.me p.badge) }
         ensures waited { IfNot result (λ l. HasWaited V.fit V.tag V.parked leave.seat.me l.seat.me) }
         ensures leave { IfNot result (λ l. (leave_waiting l).place ≡ (leave_waiting leave).place) }
         ensures loaded { IfNot result (λ l. (leave_waiting l).loads ≡ (leave_waiting leave).loads + 1) }
         ensures unready { IfNot result (λ l. (leave_waiting l).ready ≡ false) }
-        ensures rests { IfNot result (λ l. HasHome V.fit V.tag V.parked l) }
+        ensures rests { IfNot result (λ l. LeaveRests V.fit V.tag V.parked l) }
         ensures pass { IfGot result (λ p. badge_place p.badge ≡ (leave_waiting leave).place) }
         ensures steps { IfNot result (λ l. l.seat.me.0.steps ≡ leave.seat.me.0.steps + 1) }
         ensures steps_leaving { IfGot result (λ p. (view_of p.badge).steps ≡ leave.seat.me.0.steps + 2) }
     {
-        let (mut seat, mark) = self.leave_parts(leave);
+        let (mut seat, mark) = self.words.leave_parts(leave);
         let own = self.own_record(&seat, mark);
         let successor = self.words.load::<LoadNext>(&mut seat, own.next);
         if successor == 0 {
-            return Step::Not(Leave { seat, mark });
+            return Step::Not(self.words.leave_of(seat, mark));
         }
         let behind = self.record_of(&seat, successor - 1);
         self.words

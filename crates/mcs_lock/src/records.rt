@@ -1,13 +1,11 @@
-//! The records of the passes, a line of words each, and the parts of a pass that leaves.
+//! The records of the passes, a line of words each.
 ghost use Rattle.std.specs.Prelude.{◌≡◌, ◌<◌};
 ghost use Rattle.lock_rules.specs.Rows.{row_of};
 ghost use Rattle.lock_rules.specs.Views.{IsPlain, mark_of};
 ghost use Rattle.lock_rules.specs.declared.view.Algorithm.TheVariants.{Mcs as mcs_algorithm};
-ghost use Rattle.lock_tables.specs.Words.{IsOwnOf, IsSeatIn};
-ghost use Rattle.mcs_lock.specs.Leaves.{leave_waiting};
+ghost use Rattle.lock_tables.specs.Words.{IsSeatIn};
 ghost use Rattle.mcs_lock.specs.Rule.{next, locked, name};
 
-use crate::leave::Leave;
 use crate::lock::Mcs;
 use atomic_table::Seat;
 use lock_rules::{Cargo, View};
@@ -54,17 +52,5 @@ impl<V: Cargo> Mcs<V> {
         ensures name { result.name ≡ name seat.now.me.0.number }
     {
         self.record_of(seat, mark)
-    }
-
-    /// The seat of a pass that leaves this lock, and its number.
-    #[inline]
-    pub(crate) fn leave_parts(&self, leave: Leave<V>) -> (Seat<Option<V>, View>, u64)
-        requires of { IsOwnOf V.tag mcs_algorithm self.now.words (leave_waiting leave).place }
-        ensures own { IsSeatIn mcs_algorithm self.now.words result.0 }
-        ensures seat { result.0 ≡ leave.seat }
-        ensures mark { result.1 ≡ mark_of result.0.me.0 }
-    {
-        let Leave { seat, mark } = leave;
-        (seat, mark)
     }
 }

@@ -4,6 +4,7 @@ ghost use Rattle.lock_rules.specs.declared.view.Algorithm.TheVariants.{Ticket as
 ghost use Rattle.lock_rules.specs.declared.step.Answer.TheVariants.{Open, Yes};
 ghost use Rattle.lock_rules.specs.Views.{lock_name, answer_of};
 ghost use Rattle.lock_rules.specs.Holders.{held_view, holder_of};
+ghost use Rattle.lock_rules.specs.Leaves.{LeaveRests, leave_waiting};
 ghost use Rattle.lock_rules.specs.Steps.{IfNot, IfGot, IsNot, IsGot};
 ghost use Rattle.lock_rules.specs.Passes.{IsOf, AreAll};
 ghost use Rattle.lock_rules.specs.Tokens.{view_of, badge_place, badge_waiting};
@@ -14,7 +15,7 @@ ghost use Rattle.ticket_lock.specs.Calls.{HasEntered, HasMissed, HasTaken, HasAs
 
 use crate::kinds::{AddNext, LoadNext, LoadServing, StoreServing};
 use crate::laws::TicketWords;
-use lock_rules::{Basic, Cargo, Held, Left, Pass, Queue, Refused, Step, Waiters};
+use lock_rules::{Basic, Cargo, Held, Leave, Pass, Queue, Refused, Step, Waiters};
 use lock_tables::{LockWords, Ruled};
 use std::alloc::Global;
 
@@ -48,7 +49,7 @@ impl<V: Cargo> Basic<V> for Ticket<V> {
 
     type Held = Held<V>;
 
-    type Leave = Left;
+    type Leave = Leave<V>;
 
     ghost name = { λ l. lock_name ticket_algorithm (words_key l.words).waiters (words_table l.words) };
 
@@ -132,7 +133,7 @@ impl<V: Cargo> Basic<V> for Ticket<V> {
     }
 
     /// The answer is never `Not`: the value is put back, and the next ticket is served.
-    fn begin_release(&self, held: Held<V>) -> Step<Left, Pass>
+    fn begin_release(&self, held: Held<V>) -> Step<Leave<V>, Pass>
         requires own { IsOwnOf V.tag ticket_algorithm self.now.words (holder_of held).place }
         requires fit { V.fit held.value }
         requires tagged { V.tag held.value ≡ V.tag (words_key self.now.words).value.value }
@@ -140,10 +141,10 @@ impl<V: Cargo> Basic<V> for Ticket<V> {
         requires said { V.said held.value ≢ Open → V.said held.value ≡ (holder_of held).tested }
         ensures leaves_at_once { IsGot result }
         ensures did { IfGot result (λ p. HasLeft V.fit V.tag V.parked held p.badge) }
-        ensures leave { IfNot result (λ l. (badge_waiting l.pass.badge).place ≡ (holder_of held).place) }
-        ensures loaded { IfNot result (λ l. (badge_waiting l.pass.badge).loads ≡ (holder_of held).loads + 1) }
-        ensures unready { IfNot result (λ l. (badge_waiting l.pass.badge).ready ≡ false) }
-        ensures rests { IfNot result (λ _. Unit {0}) }
+        ensures leave { IfNot result (λ l. (leave_waiting l).place ≡ (holder_of held).place) }
+        ensures loaded { IfNot result (λ l. (leave_waiting l).loads ≡ (holder_of held).loads + 1) }
+        ensures unready { IfNot result (λ l. (leave_waiting l).ready ≡ false) }
+        ensures rests { IfNot result (λ l. LeaveRests V.fit V.tag V.parked l) }
         ensures pass { IfGot result (λ p. badge_place p.badge ≡ (holder_of held).place) }
         ensures steps { IfGot result (λ p. (view_of p.badge).steps ≡ (held_view held).steps + 1) }
     {
@@ -154,18 +155,18 @@ impl<V: Cargo> Basic<V> for Ticket<V> {
         Step::Got(Pass::of(seat, ticket))
     }
 
-    /// The answer is never `Not`.
-    fn poll_release(&self, leave: Left) -> Step<Left, Pass>
-        requires own { IsOwnOf V.tag ticket_algorithm self.now.words (badge_waiting leave.pass.badge).place }
+    /// The answer is never `Not`: the pass has left already.
+    fn poll_release(&self, leave: Leave<V>) -> Step<Leave<V>, Pass>
+        requires own { IsOwnOf V.tag ticket_algorithm self.now.words (leave_waiting leave).place }
         ensures leaves_at_once { IsGot result }
-        ensures leave { IfNot result (λ l. (badge_waiting l.pass.badge).place ≡ (badge_waiting leave.pass.badge).place) }
-        ensures loaded { IfNot result (λ l. (badge_waiting l.pass.badge).loads ≡ (badge_waiting leave.pass.badge).loads + 1) }
-        ensures unready { IfNot result (λ l. (badge_waiting l.pass.badge).ready ≡ false) }
-        ensures rests { IfNot result (λ _. Unit {0}) }
-        ensures pass { IfGot result (λ p. badge_place p.badge ≡ (badge_waiting leave.pass.badge).place) }
+        ensures leave { IfNot result (λ l. (leave_waiting l).place ≡ (leave_waiting leave).place) }
+        ensures loaded { IfNot result (λ l. (leave_waiting l).loads ≡ (leave_waiting leave).loads + 1) }
+        ensures unready { IfNot result (λ l. (leave_waiting l).ready ≡ false) }
+        ensures rests { IfNot result (λ l. LeaveRests V.fit V.tag V.parked l) }
+        ensures pass { IfGot result (λ p. badge_place p.badge ≡ (leave_waiting leave).place) }
     {
-        let Left { pass } = leave;
-        Step::Got(pass)
+        let (seat, mark) = self.words.leave_parts(leave);
+        Step::Got(Pass::of(seat, mark))
     }
 
     fn close(self, passes: Vec<Pass>) -> V
