@@ -12,12 +12,12 @@ ghost use Rattle.lock_tables.specs.Happened.{counting};
 ghost use Rattle.lock_tables.specs.Words.{words_key, words_table, IsOwnOf};
 ghost use Rattle.clh_lock.specs.Choice.{clh_waiters};
 ghost use Rattle.clh_lock.specs.Calls.{HasEntered, HasMissed, HasTaken, HasAsked, HasLeft};
-ghost use Rattle.clh_lock.specs.Rule.{flag, opens};
+ghost use Rattle.clh_lock.specs.Rule.{clh_discipline, flag, opens};
 
 use crate::kinds::{FetchAndStoreTail, LoadTail, LoadWatched, StoreGranted, StorePending};
 use crate::laws::ClhWords;
 use lock_rules::{Basic, Cargo, Held, Leave, Pass, Queue, Refused, Step, Waiters};
-use lock_tables::{LockWords, Ruled};
+use lock_tables::{Learner, LockWords, Ruled};
 use std::alloc::{AllocError, Global};
 
 const PENDING: u64 = 1;
@@ -216,11 +216,15 @@ impl<V: Cargo> Basic<V> for Clh<V> {
 }
 
 impl<V: Cargo> Ruled<V> for Clh<V> {
-    type Algorithm = ClhWords;
+    ghost discipline = { λ _. clh_discipline };
 
     ghost table = { λ l. words_table l.words };
 
     ghost waiters = { λ l. (words_key l.words).waiters };
+
+    fn show<L: Learner<V>>(&self, learner: L) {
+        self.words.show(learner);
+    }
 
     ghost named = { λ l. refl };
 }

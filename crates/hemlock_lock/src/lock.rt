@@ -14,7 +14,7 @@ ghost use Rattle.lock_tables.specs.Words.{words_key, words_table, IsOwnOf, IsSea
 ghost use Rattle.hemlock_lock.specs.Calls.{HasQueued, HasTakenAtOnce, HasMissed, HasTaken, HasAsked, HasReleased, HasBegunToLeave};
 ghost use Rattle.hemlock_lock.specs.Calls.{HasDone, HasWaited};
 ghost use Rattle.hemlock_lock.specs.Kinds.{own_name};
-ghost use Rattle.hemlock_lock.specs.Rule.{grant};
+ghost use Rattle.hemlock_lock.specs.Rule.{grant, hemlock_discipline};
 
 use crate::kinds::{
     ClearPredecessorGrant, ExchangeTail, LoadGrant, LoadPredecessorGrant, LoadTail, StoreGrant,
@@ -23,7 +23,7 @@ use crate::kinds::{
 use crate::laws::HemlockWords;
 use atomic_table::Seat;
 use lock_rules::{Basic, Cargo, Held, Leave, Pass, Queue, Refused, Step, View, Waiters};
-use lock_tables::{LockWords, Ruled};
+use lock_tables::{Learner, LockWords, Ruled};
 use std::alloc::Global;
 
 const TAIL: usize = 16;
@@ -248,11 +248,15 @@ impl<V: Cargo> Basic<V> for Hemlock<V> {
 }
 
 impl<V: Cargo> Ruled<V> for Hemlock<V> {
-    type Algorithm = HemlockWords;
+    ghost discipline = { λ _. hemlock_discipline };
 
-    ghost table = { λ l. (words_table l.words) };
+    ghost table = { λ l. words_table l.words };
 
     ghost waiters = { λ l. (words_key l.words).waiters };
+
+    fn show<L: Learner<V>>(&self, learner: L) {
+        self.words.show(learner);
+    }
 
     ghost named = { λ l. refl };
 }

@@ -1,3 +1,4 @@
 pub mod AnyKinds
 pub mod Kinds
 pub mod Raised
+pub mod Ruled

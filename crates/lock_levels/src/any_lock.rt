@@ -22,7 +22,7 @@ use ticket_lock::Ticket;
 /// A lock of one of the four kinds, which learns of waiters in one of the two ways.
 #[derive(Drop)]
 pub struct AnyLock<V: Cargo> {
-    lock: Kinds<Ticket<V>, Mcs<V>, Clh<V>, Hemlock<V>>,
+    pub(crate) lock: Kinds<Ticket<V>, Mcs<V>, Clh<V>, Hemlock<V>>,
 }
 
 impl<V: Cargo> AnyLock<V> {

@@ -5,6 +5,7 @@
 #![tactic(auto)]
 
 mod any_lock;
+mod any_ruled;
 mod has_kinds;
 mod kinds;
 mod laws;

@@ -9,4 +9,5 @@ pub mod Counting
 pub mod Kinds
 pub mod KeptKinds
 pub mod Words
+pub mod Witnesses
 pub mod Calls

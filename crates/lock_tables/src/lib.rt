@@ -10,6 +10,7 @@ mod rule;
 mod ruled;
 mod slot;
 mod table;
+mod witness;
 mod words;
 
 pub use counting::{AddWaiting, LoadWaiting, SubtractWaiting};
@@ -17,4 +18,5 @@ pub use cuts::{Cut, Glue};
 pub use kinds::{Finding, KindOf, Storing};
 pub use lock_words::LockWords;
 pub use rule::{Disciplined, QueueRule, rule_is_basic};
-pub use ruled::Ruled;
+pub use ruled::{Learner, Ruled};
+pub use witness::Witness;

@@ -1,29 +1,70 @@
-//! A basic lock whose table is under the rule of a queue lock.
+//! A basic lock whose table is under the rule of a queue lock, and how it shows that it is.
 ghost use Rattle.std.specs.Prelude.{◌≡◌};
 ghost use Rattle.atomic_table.specs.Seated.{TableId};
 ghost use Rattle.lock_rules.specs.Views.{lock_name};
 ghost use Rattle.lock_rules.specs.declared.view.Waiters.{Waiters};
 ghost use Rattle.lock_tables.specs.Laws.{RuleIsBasic};
+ghost use Rattle.lock_tables.specs.Rule.{Discipline};
+ghost use Rattle.lock_tables.specs.Witnesses.{witnessed};
+ghost use Rattle.lock_tables.specs.Words.{words_key, words_table};
 
+use crate::lock_words::LockWords;
 use crate::rule::{Disciplined, rule_is_basic};
+use crate::witness::Witness;
 use lock_rules::{Basic, Cargo};
 
-/// A lock that steps on a table of its algorithm, a `LockTable<V, Self::Algorithm>`.
+/// What is learned of a lock by its witness, whatever its algorithm.
+pub trait Learner<V: Cargo>: Sized {
+    // What it learns of a lock whose table is under the rule of this discipline, and that learns of waiters in this way.
+    ghost learns: { Self → Discipline → TableId → Waiters → Type 0 };
+
+    fn learn<D: Disciplined>(self, witness: Witness<'_, V, D>)
+        ensures { learns self D.discipline (words_table (witnessed witness)) (words_key (witnessed witness)).waiters };
+}
+
+impl<V: Cargo, D: Disciplined> LockWords<V, D> {
+    /// Shows a witness of these words.
+    pub fn show<L: Learner<V>>(&self, learner: L)
+        ensures { L.learns learner D.discipline (words_table self.now) (words_key self.now).waiters }
+    {
+        learner.learn(Witness { words: self });
+    }
+}
+
+/// A lock whose table is under the rule of a queue lock, with what its algorithm adds to that rule.
 pub trait Ruled<V: Cargo>: Basic<V> {
-    type Algorithm: Disciplined;
+    ghost discipline: { Self → Discipline };
 
     // Its table, and how it learns of waiters.
     ghost table: { Self → TableId };
 
     ghost waiters: { Self → Waiters };
 
+    /// Shows a witness of its words. A lock that doesn't know its learner can keep the clause in one way alone: it has words whose table is
+    /// this one and whose algorithm has this discipline, and shows their witness.
+    fn show<L: Learner<V>>(&self, learner: L)
+        ensures { L.learns learner (discipline self.now) (table self.now) (waiters self.now) };
+
     /// The rule of the table implies that of a basic lock.
-    final fn is_basic()
-        ensures { RuleIsBasic Self.Algorithm.discipline V.fit V.tag V.parked }
+    final fn is_basic(&self)
+        ensures { RuleIsBasic (discipline self.now) V.fit V.tag V.parked }
     {
-        rule_is_basic::<V, Self::Algorithm>();
+        self.show(Points);
     }
 
     // The lock is named by its algorithm and its table.
-    ghost named: { (l : Self) → Self.Basic.name l ≡ lock_name Self.Algorithm.discipline.algorithm (waiters l) (table l) };
+    ghost named: { (l : Self) → Self.Basic.name l ≡ lock_name (discipline l).algorithm (waiters l) (table l) };
+}
+
+/// Learns that the rule implies that of a basic lock.
+#[derive(Drop)]
+struct Points;
+
+impl<V: Cargo> Learner<V> for Points {
+    ghost learns = { λ _ d _ _. RuleIsBasic d V.fit V.tag V.parked };
+
+    fn learn<D: Disciplined>(self, witness: Witness<'_, V, D>) {
+        let _ = witness;
+        rule_is_basic::<V, D>();
+    }
 }

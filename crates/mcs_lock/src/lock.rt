@@ -13,6 +13,7 @@ ghost use Rattle.lock_tables.specs.Words.{words_key, words_table, IsOwnOf};
 ghost use Rattle.mcs_lock.specs.Choice.{mcs_waiters};
 ghost use Rattle.mcs_lock.specs.Calls.{HasEntered, HasEnteredAndTaken, HasMissed, HasTaken, HasAsked};
 ghost use Rattle.mcs_lock.specs.Calls.{at_home, HasLeft, HasPassed, IsFollowed, HasWaited};
+ghost use Rattle.mcs_lock.specs.Rule.{mcs_discipline};
 
 use crate::kinds::{
     CompareAndSwapTail, FetchAndStoreTail, LoadLocked, LoadNext, LoadTail, StoreLocked, StoreNext,
@@ -20,7 +21,7 @@ use crate::kinds::{
 };
 use crate::laws::McsWords;
 use lock_rules::{Basic, Cargo, Held, Leave, Pass, Queue, Refused, Step, Waiters};
-use lock_tables::{LockWords, Ruled};
+use lock_tables::{Learner, LockWords, Ruled};
 use std::alloc::Global;
 
 const TAIL: usize = 16;
@@ -229,11 +230,15 @@ impl<V: Cargo> Basic<V> for Mcs<V> {
 }
 
 impl<V: Cargo> Ruled<V> for Mcs<V> {
-    type Algorithm = McsWords;
+    ghost discipline = { λ _. mcs_discipline };
 
-    ghost table = { λ l. (words_table l.words) };
+    ghost table = { λ l. words_table l.words };
 
     ghost waiters = { λ l. (words_key l.words).waiters };
+
+    fn show<L: Learner<V>>(&self, learner: L) {
+        self.words.show(learner);
+    }
 
     ghost named = { λ l. refl };
 }

@@ -12,11 +12,12 @@ ghost use Rattle.lock_tables.specs.Happened.{counting};
 ghost use Rattle.lock_tables.specs.Words.{words_key, words_table, IsOwnOf};
 ghost use Rattle.ticket_lock.specs.Choice.{ticket_waiters};
 ghost use Rattle.ticket_lock.specs.Calls.{HasEntered, HasMissed, HasTaken, HasAsked, HasLeft};
+ghost use Rattle.ticket_lock.specs.Rule.{ticket_discipline};
 
 use crate::kinds::{AddNext, LoadNext, LoadServing, StoreServing};
 use crate::laws::TicketWords;
 use lock_rules::{Basic, Cargo, Held, Leave, Pass, Queue, Refused, Step, Waiters};
-use lock_tables::{LockWords, Ruled};
+use lock_tables::{Learner, LockWords, Ruled};
 use std::alloc::Global;
 
 const NEXT: usize = 16;
@@ -182,11 +183,15 @@ impl<V: Cargo> Basic<V> for Ticket<V> {
 }
 
 impl<V: Cargo> Ruled<V> for Ticket<V> {
-    type Algorithm = TicketWords;
+    ghost discipline = { λ _. ticket_discipline };
 
     ghost table = { λ l. words_table l.words };
 
     ghost waiters = { λ l. (words_key l.words).waiters };
+
+    fn show<L: Learner<V>>(&self, learner: L) {
+        self.words.show(learner);
+    }
 
     ghost named = { λ l. refl };
 }
