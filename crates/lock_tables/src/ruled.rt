@@ -11,7 +11,7 @@ ghost use Rattle.lock_tables.specs.Words.{words_key, words_table};
 use crate::lock_words::LockWords;
 use crate::rule::{Disciplined, rule_is_basic};
 use crate::witness::Witness;
-use lock_rules::{Basic, Cargo};
+use lock_rules::{Basic, Cargo, Held, Leave, Pass, Queue};
 
 /// What is learned of a lock by its witness, whatever its algorithm.
 pub trait Learner<V: Cargo>: Sized {
@@ -32,7 +32,10 @@ impl<V: Cargo, D: Disciplined> LockWords<V, D> {
 }
 
 /// A lock whose table is under the rule of a queue lock, with what its algorithm adds to that rule.
-pub trait Ruled<V: Cargo>: Basic<V> {
+///
+/// Its tokens are seats of that table: the lock's name has the table, and what a token of it says of loads and entering steps are steps on
+/// the table's words.
+pub trait Ruled<V: Cargo>: Basic<V, Pass = Pass, Queue = Queue, Held = Held<V>, Leave = Leave<V>> {
     ghost discipline: { Self → Discipline };
 
     // Its table, and how it learns of waiters.
