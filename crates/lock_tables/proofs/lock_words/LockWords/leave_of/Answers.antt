@@ -1,7 +1,7 @@
-use Rattle.std.proofs.Common.{ap, sym, ◌∙◌, subst}
-use Rattle.lock_rules.specs.Hands.{MayStay, keeps_slot, phase_left}
+use Rattle.std.proofs.Common.{ap, sym, ◌∙◌}
+use Rattle.lock_rules.specs.Hands.{keeps_slot, phase_left}
 use Rattle.lock_rules.specs.Rows.{row_of}
-use Rattle.lock_tables.proofs.Hands.{kept_stays}
+use Rattle.lock_tables.proofs.Hands.{kept_full, seat_stays}
 use Rattle.lock_tables.proofs.lock_words.LockWords.leave_of.Goals as goal
 
 pub of-requires-clause-leaves : goal.of-requires-clause-leaves
@@ -14,11 +14,10 @@ of-requires-clause-row g c =
 
 pub of-requires-clause-hand : goal.of-requires-clause-hand
 of-requires-clause-hand g c =
-    ap keeps_slot c.requires.own.algorithm ∙ (kept_stays g.V.Cargo.fit g.V.Cargo.tag g.V.Cargo.parked
-    (keeps_slot g.D.Disciplined.discipline.algorithm) c.args.seat.me.0 c.args.seat.me.1 c.requires.hand).1
+    ap keeps_slot c.requires.own.algorithm ∙ kept_full g.V.Cargo.fit g.V.Cargo.tag g.V.Cargo.parked
+    (keeps_slot g.D.Disciplined.discipline.algorithm) c.args.seat.me.0 c.args.seat.me.1 c.requires.hand
 
 pub returns-clause-rests : goal.returns-clause-rests
 returns-clause-rests g c =
-    subst (λ s. MayStay g.V.Cargo.fit g.V.Cargo.tag g.V.Cargo.parked s.me.0 s.me.1) (sym c.of.ensures.seat)
-    (kept_stays g.V.Cargo.fit g.V.Cargo.tag g.V.Cargo.parked (keeps_slot g.D.Disciplined.discipline.algorithm) c.args.seat.me.0
-    c.args.seat.me.1 c.requires.hand).0
+    seat_stays g.V.Cargo.fit g.V.Cargo.tag g.V.Cargo.parked (keeps_slot g.D.Disciplined.discipline.algorithm) c.of.result.seat
+    c.args.seat c.of.ensures.seat c.requires.hand

@@ -1,8 +1,7 @@
-use Rattle.std.proofs.Common.{ap, sym, ◌∙◌, subst}
-use Rattle.lock_rules.specs.Hands.{HasKept, keeps_slot, phase_left}
-use Rattle.lock_rules.specs.Views.{IsTold}
+use Rattle.std.proofs.Common.{ap, sym, ◌∙◌}
+use Rattle.lock_rules.specs.Hands.{keeps_slot, phase_left}
 use Rattle.lock_rules.proofs.Names.{own_algorithm}
-use Rattle.lock_tables.proofs.Hands.{kept_is, left_told}
+use Rattle.lock_tables.proofs.Hands.{seat_kept, seat_told}
 use Rattle.lock_tables.proofs.Owned.{own_from}
 use Rattle.lock_tables.proofs.lock_words.LockWords.leave_parts.Goals as goal
 
@@ -13,22 +12,19 @@ returns-clause-own g c =
 
 pub returns-clause-leaves : goal.returns-clause-leaves
 returns-clause-leaves g c =
-    let leave = c.args.leave in
-    let algorithm = own_algorithm _ _ _ _ leave.seat.table_id leave.seat.me.0 c.requires.of in
-    ap (λ s. s.me.0.phase) c.into_parts.ensures.seat ∙ leave.leaves ∙ ap phase_left algorithm
+    let l = c.args.leave in
+    let algorithm = own_algorithm _ _ _ _ l.seat.table_id l.seat.me.0 c.requires.of in
+    ap (λ s. s.me.0.phase) c.into_parts.ensures.seat ∙ l.leaves ∙ ap phase_left algorithm
 
 pub returns-clause-hand : goal.returns-clause-hand
 returns-clause-hand g c =
-    let leave = c.args.leave in
-    let algorithm = own_algorithm _ _ _ _ leave.seat.table_id leave.seat.me.0 c.requires.of in
-    let keeps = keeps_slot g.D.Disciplined.discipline.algorithm in
-    subst (λ s. HasKept g.V.Cargo.fit g.V.Cargo.tag g.V.Cargo.parked keeps s.me.0 s.me.1) (sym c.into_parts.ensures.seat)
-    (kept_is g.V.Cargo.fit g.V.Cargo.tag g.V.Cargo.parked keeps leave.seat.me.0 leave.seat.me.1
-    (sym (ap keeps_slot algorithm) ∙ leave.hand) c.requires.rests)
+    let l = c.args.leave in
+    let algorithm = own_algorithm _ _ _ _ l.seat.table_id l.seat.me.0 c.requires.of in
+    seat_kept g.V.Cargo.fit g.V.Cargo.tag g.V.Cargo.parked (keeps_slot g.D.Disciplined.discipline.algorithm) _ l.seat
+    c.into_parts.ensures.seat (sym (ap keeps_slot algorithm) ∙ l.hand) c.requires.rests
 
 pub returns-clause-told : goal.returns-clause-told
 returns-clause-told g c =
-    let leave = c.args.leave in
-    let algorithm = own_algorithm _ _ _ _ leave.seat.table_id leave.seat.me.0 c.requires.of in
-    subst (λ s. IsTold s.me.0) (sym c.into_parts.ensures.seat)
-    (left_told g.D.Disciplined.discipline.algorithm leave.seat.me.0 (leave.leaves ∙ ap phase_left algorithm) leave.silent)
+    let l = c.args.leave in
+    let algorithm = own_algorithm _ _ _ _ l.seat.table_id l.seat.me.0 c.requires.of in
+    seat_told g.D.Disciplined.discipline.algorithm _ l.seat c.into_parts.ensures.seat (l.leaves ∙ ap phase_left algorithm) l.silent
