@@ -27,8 +27,9 @@ module _ {V : Type 0} (fit : V → Type 0) (tag_of : V → Tag) (parked : V → 
   -- with what a token is made
   kept_stays : (b : Bool) (v : View) (hand : List (ℕ × Option V)) → HasKept fit tag_of parked b v hand
       → MayStay fit tag_of parked v hand
-  kept_stays false v hand kept = subst (MayStay fit tag_of parked v) (sym kept) tt
-  kept_stays true v hand kept = subst (MayStay fit tag_of parked v) (sym kept.1) (kept.0, refl, kept.2)
+  kept_stays false v hand kept = subst (λ (h : List (ℕ × Option V)). MayStay fit tag_of parked v h) (sym kept) tt
+  kept_stays true v hand kept =
+      subst (λ (h : List (ℕ × Option V)). MayStay fit tag_of parked v h) (sym kept.1) (kept.0, refl, kept.2)
 
   pub kept_full : (b : Bool) (v : View) (hand : List (ℕ × Option V)) → HasKept fit tag_of parked b v hand → b ≡ is_full hand
   kept_full false v hand kept = sym (ap is_full kept)
