@@ -54,10 +54,3 @@ pub record MaySit (has : Context → Type 0) (level : ℕ) (tag : Tag) (sound : 
 pub record HasSat (cohorts : List CohortState) (before after : Desk CallerState) : Type 0 where
   pub number_is : after.number ≡ before.number
   pub desk_is : IsDesk number_of tag_of cohorts after
-
--- The desks to which threads were sent have come back: they are as many, and of each came what may
-pub record HaveSat {D : Type 0} (was_open : Vec D Global → Type 0) (sat : D → D → Type 0) (desks : Vec D Global) : Type 0 where
-  pub before : Vec D Global
-  pub open_is : was_open before
-  pub many : length desks.items ≡ length before.items
-  pub each : (i : ℕ) (d e : D) → slice_get before.items i ≡ Some d → slice_get desks.items i ≡ Some e → sat d e

@@ -4,19 +4,15 @@
 //! on one, takes the lock apart, and gives what they leave.
 #![tactic(auto)]
 
-mod commanded;
-mod given;
 mod manner;
 mod marked;
 mod marked_runs;
 mod parts;
 mod plain;
-mod rising;
 mod runs;
 mod seated;
 mod shapes;
 mod shared_runs;
-mod under;
 
 pub use manner::{Manner, Sharing};
 pub use marked_runs::run_marked;

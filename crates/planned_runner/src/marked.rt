@@ -2,21 +2,21 @@
 ghost use Rattle.std.specs.Prelude.{◌≡◌, ◌≤◌, ℕ, [], length, map, slice_get, vec_capacity, IfErr, IfOk, Some};
 ghost use Rattle.keep_local.specs.Shapes.{callers_of};
 ghost use Rattle.clof_compose.specs.Courses.{course_of};
-ghost use Rattle.cohort_runner.specs.Runs.{HaveSat};
+ghost use Rattle.lock_rising.specs.Ready.{AreBack, IsSet};
 ghost use Rattle.fresh_runner.specs.Crews.{AreEmptied, IsFreshCrew};
 ghost use Rattle.fresh_runner.specs.Jobs.{IsFreshJob, IsFreshServed};
 ghost use Rattle.fresh_runner.specs.Ready.{IsFreshDealt};
-ghost use Rattle.planned_runner.specs.Runs.{AreDealt, IsLeftMarked, IsSet};
+ghost use Rattle.planned_runner.specs.Runs.{AreDealt, IsLeftMarked};
 ghost use Rattle.planned_runner.specs.declared.marked.FreshBrought.{FreshBrought as TheBrought};
 
-use crate::commanded::{Commanded, Dealt, Served};
-use clof_compose::{Composed, Resting};
+use clof_compose::{Composed, Resting, Root};
 use fresh_root::Seen;
 use fresh_runner::{
     FreshBook, FreshCrew, FreshJob, FreshPrepared, Lists, Marked, close_fresh, fresh_crew_of,
     prepare_fresh, serve_fresh,
 };
 use keep_local::Share;
+use lock_rising::{Dealt, OnThread, UnderLock};
 use out_of_memory::OutOfMemory;
 use placed_runner::{Gate, Section};
 use std::alloc::Global;
@@ -37,15 +37,18 @@ pub(crate) struct FreshLists<Q> {
     pub(crate) stopped: Vec<bool>,
 }
 
-impl<'a, Q: Resting> Served<Q, (), FreshJob<'a, Q>> for FreshBook<'a> {
+/// Callers who give their commands each in a thread of its own, and keep receipts of their turns.
+pub(crate) struct Receipted;
+
+impl<'a, Q: Resting, G: Gate> OnThread<FreshBook<'a>, Q, (), FreshJob<'a, Q>, G> for Receipted {
     // the job is that of a caller of this lock
-    ghost may = { λ has level tag sound _ j. sound × (level ≡ 0) × ((number : ℕ) × IsFreshJob Q.rest has level tag number j) };
+    ghost may = { λ _ has level tag sound _ j. sound × (level ≡ 0) × ((number : ℕ) × IsFreshJob Q.rest has level tag number j) };
 
     // and it comes back as its caller brings it
-    ghost did = { λ has level tag _ j k. (number : ℕ) → IsFreshJob Q.rest has level tag number j
+    ghost did = { λ _ has level tag _ j k. (number : ℕ) → IsFreshJob Q.rest has level tag number j
         → IsFreshServed Q.rest has level tag number k };
 
-    fn serve<C: Composed<FreshBook<'a>, Pass = Q>, G: Gate, R: Wait>(
+    fn serve<C: Composed<FreshBook<'a>, Pass = Q>, R: Wait>(
         rt: &R,
         lock: &C,
         gate: &G,
@@ -56,26 +59,34 @@ impl<'a, Q: Resting> Served<Q, (), FreshJob<'a, Q>> for FreshBook<'a> {
     }
 }
 
-impl<'s, 'a, Q: Resting> Commanded<Q, (), FreshJob<'a, Q>, FreshBrought<'s, 'a>, Marked<'a>>
-    for FreshBook<'a> {
+impl<'s, 'a, Q: Resting, G: Gate> UnderLock<
+    FreshBook<'a>,
+    Q,
+    (),
+    FreshJob<'a, Q>,
+    FreshBrought<'s, 'a>,
+    Marked<'a>,
+    G,
+> for Receipted {
     type Aside = FreshLists<Q>;
 
     type Crew = FreshCrew<Q>;
 
-    ghost dealt = { λ course brought. IsFreshDealt course (map (λ section. section.bytes.now) brought.sections.now) brought.shares.items
+    ghost dealt = { λ _ course brought. IsFreshDealt course (map (λ section. section.bytes.now) brought.sections.now) brought.shares.items
         brought.seens.items };
 
     ghost is_open = { λ has level count tag _ jobs aside. AreDealt (IsFreshJob Q.rest has level tag) count
         (AreEmptied count aside.lists × (aside.stopped.items ≡ []) × (count ≤ vec_capacity aside.stopped)) jobs.items };
 
-    ghost is_crew = { IsFreshCrew Q.rest };
+    ghost is_crew = { λ _. IsFreshCrew Q.rest };
 
-    ghost left = { IsLeftMarked };
+    ghost left = { λ _ tag. IsLeftMarked (course_of tag) };
 
     fn deal<C: Composed<FreshBook<'a>, Pass = Q>, R: Wait>(
         _rt: &R,
         alloc: Global,
         lock: &C,
+        _gate: &G,
         passes: Vec<Q>,
         brought: FreshBrought<'s, 'a>,
     ) -> Result<Dealt<(), FreshJob<'a, Q>, FreshLists<Q>>, FreshCrew<Q>>
@@ -110,7 +121,7 @@ impl<'s, 'a, Q: Resting> Commanded<Q, (), FreshJob<'a, Q>, FreshBrought<'s, 'a>,
         }
     }
 
-    fn gather<C: Composed<FreshBook<'a>, Pass = Q>, G: Gate, R: Wait>(
+    fn gather<C: Composed<FreshBook<'a>, Pass = Q>, R: Wait>(
         _rt: &R,
         lock: &C,
         _gate: &G,
@@ -120,7 +131,7 @@ impl<'s, 'a, Q: Resting> Commanded<Q, (), FreshJob<'a, Q>, FreshBrought<'s, 'a>,
     ) -> FreshCrew<Q>
         requires sound { C.sound lock.now }
         requires lowest { C.level lock.now ≡ 0 }
-        requires did { HaveSat (λ before. AreDealt (IsFreshJob Q.rest (C.has lock.now) (C.level lock.now) (C.tag lock.now))
+        requires did { AreBack (λ before. AreDealt (IsFreshJob Q.rest (C.has lock.now) (C.level lock.now) (C.tag lock.now))
             (C.count lock.now) (AreEmptied (C.count lock.now) aside.lists × (aside.stopped.items ≡ [])
             × (C.count lock.now ≤ vec_capacity aside.stopped)) before.items)
             (λ j k. (number : ℕ) → IsFreshJob Q.rest (C.has lock.now) (C.level lock.now) (C.tag lock.now) number j
@@ -130,8 +141,10 @@ impl<'s, 'a, Q: Resting> Commanded<Q, (), FreshJob<'a, Q>, FreshBrought<'s, 'a>,
         fresh_crew_of(lock, jobs, aside.lists, aside.stopped)
     }
 
-    fn close<C: Composed<FreshBook<'a>, Pass = Q> + Drop>(
+    fn close<C: Composed<FreshBook<'a>, Pass = Q> + Drop, R: Wait>(
+        _rt: &R,
         lock: C,
+        _gate: &G,
         crew: FreshCrew<Q>,
     ) -> Result<Marked<'a>, OutOfMemory>
         requires sound { C.sound lock }
@@ -142,5 +155,9 @@ impl<'s, 'a, Q: Resting> Commanded<Q, (), FreshJob<'a, Q>, FreshBrought<'s, 'a>,
         ensures { IfOk result (IsLeftMarked (course_of (C.tag lock))) }
     {
         close_fresh(lock, crew)
+    }
+
+    fn refused(_gate: &G, _root: Root<FreshBook<'a>>) -> Result<Marked<'a>, OutOfMemory> {
+        Err(OutOfMemory)
     }
 }

@@ -6,9 +6,7 @@ ghost use Rattle.placed_runner.specs.Sections.{caller_limit};
 ghost use Rattle.threaded_runner.specs.Finished.{IsFinished};
 ghost use Rattle.fresh_runner.specs.Marked.{AreMarked};
 
-use crate::given::Given;
-use crate::marked::FreshBrought;
-use crate::rising::{run_deep, run_flat};
+use crate::marked::{FreshBrought, Receipted};
 use crate::shapes::copied;
 use clof_compose::TopPass;
 use fresh_runner::{
@@ -16,6 +14,7 @@ use fresh_runner::{
 };
 use keep_local::Shape;
 use lock_levels::{LowPass, Plan};
+use lock_rising::{Given, rise, rise_flat};
 use lock_rules::Pass;
 use out_of_memory::OutOfMemory;
 use placed_runner::{Gate, Section};
@@ -60,28 +59,30 @@ pub fn run_marked<'a, R: Threads + Wait + Sync, G: Gate + Sync>(
         plan,
         shape,
         brought,
-        gate,
+        shared: gate,
     };
     let top = plan.kinds.as_slice().len() - 1;
     if top == 0 {
-        run_flat::<
+        rise_flat::<
+            FreshBook<'a>,
             (),
             FreshJob<'a, TopPass<Pass>>,
             FreshBrought<'_, 'a>,
             Marked<'a>,
-            FreshBook<'a>,
-            R,
             G,
+            Receipted,
+            R,
         >(given, root)
     } else {
-        run_deep::<
+        rise::<
+            FreshBook<'a>,
             (),
             FreshJob<'a, LowPass>,
             FreshBrought<'_, 'a>,
             Marked<'a>,
-            FreshBook<'a>,
-            R,
             G,
+            Receipted,
+            R,
         >(given, root, top as u32)
     }
 }

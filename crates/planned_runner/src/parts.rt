@@ -1,13 +1,14 @@
 //! The parts in which a run lies while threads serve its callers.
 ghost use Rattle.std.specs.Prelude.{◌≡◌, ℕ, slice_get, Some};
 ghost use Rattle.cohort_runner.specs.Rolls.{contexts_of};
-ghost use Rattle.cohort_runner.specs.Runs.{HasSat, HaveSat, IsOpen, MaySit, run_of};
+ghost use Rattle.cohort_runner.specs.Runs.{HasSat, IsOpen, MaySit, run_of};
+ghost use Rattle.lock_rising.specs.Ready.{AreBack};
 
-use crate::commanded::Dealt;
 use crate::seated::Room;
 use clof_compose::{Composed, Resting};
 use cohort_desks::{Desk, Hall};
 use cohort_runner::{Aside, Caller, Floor, Run};
+use lock_rising::Dealt;
 use threaded_runner::Book;
 
 /// The parts of an open run: what all threads have before them, a desk for each thread, and what is put aside until they have ended.
@@ -51,7 +52,7 @@ pub(crate) fn joined<'a, C: Composed<Book<'a>>>(
     desks: Vec<Desk<Caller<'a, C::Pass>>>,
     aside: Aside<'a, C::Pass>,
 ) -> Run<'a, C::Pass>
-    requires opened { HaveSat (λ before. IsOpen C.Pass.rest (C.has _lock.now) (C.level _lock.now) (C.count _lock.now) (C.tag _lock.now)
+    requires opened { AreBack (λ before. IsOpen C.Pass.rest (C.has _lock.now) (C.level _lock.now) (C.count _lock.now) (C.tag _lock.now)
         (run_of floor before aside)) (HasSat floor.cohorts.items) desks }
     ensures { IsOpen C.Pass.rest (C.has _lock.now) (C.level _lock.now) (C.count _lock.now) (C.tag _lock.now) result }
 {

@@ -2,16 +2,16 @@
 ghost use Rattle.std.specs.Prelude.{◌≡◌, ◌≤◌, ℕ, [], length, map, slice_get, IfErr, IfOk, Some};
 ghost use Rattle.keep_local.specs.Shapes.{callers_of};
 ghost use Rattle.clof_compose.specs.Courses.{course_of};
-ghost use Rattle.cohort_runner.specs.Runs.{HaveSat};
+ghost use Rattle.lock_rising.specs.Ready.{AreBack, IsSet};
 ghost use Rattle.threaded_runner.specs.Crews.{HasRoom, IsCrew};
 ghost use Rattle.threaded_runner.specs.Jobs.{IsJob, IsServed};
 ghost use Rattle.threaded_runner.specs.Ready.{IsDealt};
-ghost use Rattle.planned_runner.specs.Runs.{AreDealt, IsLeft, IsSet};
+ghost use Rattle.planned_runner.specs.Runs.{AreDealt, IsLeft};
 ghost use Rattle.planned_runner.specs.declared.plain.Brought.{Brought as TheBrought};
 
-use crate::commanded::{Commanded, Dealt, Served};
-use clof_compose::{Composed, Resting};
+use clof_compose::{Composed, Resting, Root};
 use keep_local::Share;
+use lock_rising::{Dealt, OnThread, UnderLock};
 use out_of_memory::OutOfMemory;
 use placed_runner::{Gate, Section};
 use std::alloc::Global;
@@ -35,14 +35,18 @@ pub(crate) struct Lists<Q> {
     pub(crate) stopped: Vec<bool>,
 }
 
-impl<'a, Q: Resting> Served<Q, (), Job<'a, Q>> for Book<'a> {
+/// Callers who give their commands each in a thread of its own, or all in a walk.
+pub(crate) struct Plain;
+
+impl<'a, Q: Resting, G: Gate> OnThread<Book<'a>, Q, (), Job<'a, Q>, G> for Plain {
     // the job is that of a caller of this lock
-    ghost may = { λ has level tag sound _ j. sound × (level ≡ 0) × ((number : ℕ) × IsJob Q.rest has level tag number j) };
+    ghost may = { λ _ has level tag sound _ j. sound × (level ≡ 0) × ((number : ℕ) × IsJob Q.rest has level tag number j) };
 
     // and it comes back as its caller brings it
-    ghost did = { λ has level tag _ j k. (number : ℕ) → IsJob Q.rest has level tag number j → IsServed Q.rest has level tag number k };
+    ghost did = { λ _ has level tag _ j k. (number : ℕ) → IsJob Q.rest has level tag number j
+        → IsServed Q.rest has level tag number k };
 
-    fn serve<C: Composed<Book<'a>, Pass = Q>, G: Gate, R: Wait>(
+    fn serve<C: Composed<Book<'a>, Pass = Q>, R: Wait>(
         rt: &R,
         lock: &C,
         gate: &G,
@@ -53,24 +57,33 @@ impl<'a, Q: Resting> Served<Q, (), Job<'a, Q>> for Book<'a> {
     }
 }
 
-impl<'s, 'a, Q: Resting> Commanded<Q, (), Job<'a, Q>, Brought<'s, 'a>, Finished<'a>> for Book<'a> {
+impl<'s, 'a, Q: Resting, G: Gate> UnderLock<
+    Book<'a>,
+    Q,
+    (),
+    Job<'a, Q>,
+    Brought<'s, 'a>,
+    Finished<'a>,
+    G,
+> for Plain {
     type Aside = Lists<Q>;
 
     type Crew = Crew<Q>;
 
-    ghost dealt = { λ course brought. IsDealt course (map (λ section. section.bytes.now) brought.sections.now) brought.shares.items };
+    ghost dealt = { λ _ course brought. IsDealt course (map (λ section. section.bytes.now) brought.sections.now) brought.shares.items };
 
     ghost is_open = { λ has level count tag _ jobs aside. AreDealt (IsJob Q.rest has level tag) count
         (HasRoom count aside.passes aside.shares aside.stopped) jobs.items };
 
-    ghost is_crew = { IsCrew Q.rest };
+    ghost is_crew = { λ _. IsCrew Q.rest };
 
-    ghost left = { IsLeft };
+    ghost left = { λ _ tag. IsLeft (course_of tag) };
 
     fn deal<C: Composed<Book<'a>, Pass = Q>, R: Wait>(
         rt: &R,
         alloc: Global,
         lock: &C,
+        _gate: &G,
         passes: Vec<Q>,
         brought: Brought<'s, 'a>,
     ) -> Result<Dealt<(), Job<'a, Q>, Lists<Q>>, Crew<Q>>
@@ -111,7 +124,7 @@ impl<'s, 'a, Q: Resting> Commanded<Q, (), Job<'a, Q>, Brought<'s, 'a>, Finished<
         }
     }
 
-    fn gather<C: Composed<Book<'a>, Pass = Q>, G: Gate, R: Wait>(
+    fn gather<C: Composed<Book<'a>, Pass = Q>, R: Wait>(
         _rt: &R,
         lock: &C,
         _gate: &G,
@@ -121,7 +134,7 @@ impl<'s, 'a, Q: Resting> Commanded<Q, (), Job<'a, Q>, Brought<'s, 'a>, Finished<
     ) -> Crew<Q>
         requires sound { C.sound lock.now }
         requires lowest { C.level lock.now ≡ 0 }
-        requires did { HaveSat (λ before. AreDealt (IsJob Q.rest (C.has lock.now) (C.level lock.now) (C.tag lock.now)) (C.count lock.now)
+        requires did { AreBack (λ before. AreDealt (IsJob Q.rest (C.has lock.now) (C.level lock.now) (C.tag lock.now)) (C.count lock.now)
             (HasRoom (C.count lock.now) aside.passes aside.shares aside.stopped) before.items)
             (λ j k. (number : ℕ) → IsJob Q.rest (C.has lock.now) (C.level lock.now) (C.tag lock.now) number j
             → IsServed Q.rest (C.has lock.now) (C.level lock.now) (C.tag lock.now) number k) jobs }
@@ -130,8 +143,10 @@ impl<'s, 'a, Q: Resting> Commanded<Q, (), Job<'a, Q>, Brought<'s, 'a>, Finished<
         crew_of(lock, jobs, aside.passes, aside.shares, aside.stopped)
     }
 
-    fn close<C: Composed<Book<'a>, Pass = Q> + Drop>(
+    fn close<C: Composed<Book<'a>, Pass = Q> + Drop, R: Wait>(
+        _rt: &R,
         lock: C,
+        _gate: &G,
         crew: Crew<Q>,
     ) -> Result<Finished<'a>, OutOfMemory>
         requires sound { C.sound lock }
@@ -142,5 +157,9 @@ impl<'s, 'a, Q: Resting> Commanded<Q, (), Job<'a, Q>, Brought<'s, 'a>, Finished<
         ensures { IfOk result (IsLeft (course_of (C.tag lock))) }
     {
         close_run(lock, crew)
+    }
+
+    fn refused(_gate: &G, _root: Root<Book<'a>>) -> Result<Finished<'a>, OutOfMemory> {
+        Err(OutOfMemory)
     }
 }

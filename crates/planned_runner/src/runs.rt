@@ -4,15 +4,14 @@ ghost use Rattle.keep_local.specs.Shapes.{IsWellFormed, callers_of, top_of};
 ghost use Rattle.placed_runner.specs.Sections.{caller_limit};
 ghost use Rattle.threaded_runner.specs.Finished.{IsFinished};
 
-use crate::given::Given;
 use crate::manner::Manner;
-use crate::plain::Brought;
-use crate::rising::{run_deep, run_flat};
+use crate::plain::{Brought, Plain};
 use crate::shapes::copied;
 use crate::shared_runs::run_shared;
 use clof_compose::TopPass;
 use keep_local::Shape;
 use lock_levels::{LowPass, Plan};
+use lock_rising::{Given, rise, rise_flat};
 use lock_rules::Pass;
 use out_of_memory::OutOfMemory;
 use placed_runner::{Gate, Section};
@@ -84,15 +83,22 @@ fn run_own<'a, R: Threads + Wait + Sync, G: Gate + Sync>(
         plan,
         shape,
         brought,
-        gate,
+        shared: gate,
     };
     let top = plan.kinds.as_slice().len() - 1;
     if top == 0 {
-        run_flat::<(), Job<'a, TopPass<Pass>>, Brought<'_, 'a>, Finished<'a>, Book<'a>, R, G>(
-            given, root,
-        )
+        rise_flat::<
+            Book<'a>,
+            (),
+            Job<'a, TopPass<Pass>>,
+            Brought<'_, 'a>,
+            Finished<'a>,
+            G,
+            Plain,
+            R,
+        >(given, root)
     } else {
-        run_deep::<(), Job<'a, LowPass>, Brought<'_, 'a>, Finished<'a>, Book<'a>, R, G>(
+        rise::<Book<'a>, (), Job<'a, LowPass>, Brought<'_, 'a>, Finished<'a>, G, Plain, R>(
             given, root, top as u32,
         )
     }

@@ -3,19 +3,20 @@ ghost use Rattle.std.specs.Prelude.{◌≡◌, ◌<◌, ℕ, length, map, slice_
 ghost use Rattle.keep_local.specs.Shapes.{callers_of};
 ghost use Rattle.clof_compose.specs.Courses.{course_of};
 ghost use Rattle.cohort_runner.specs.Rolls.{contexts_of};
-ghost use Rattle.cohort_runner.specs.Runs.{HasSat, HaveSat, IsOpen, MaySit, run_of};
+ghost use Rattle.cohort_runner.specs.Runs.{HasSat, IsOpen, MaySit, run_of};
+ghost use Rattle.lock_rising.specs.Ready.{AreBack, IsSet};
 ghost use Rattle.threaded_runner.specs.Crews.{IsCrew};
 ghost use Rattle.threaded_runner.specs.Ready.{IsDealt};
-ghost use Rattle.planned_runner.specs.Runs.{IsLeft, IsSet};
+ghost use Rattle.planned_runner.specs.Runs.{IsLeft};
 ghost use Rattle.planned_runner.specs.declared.seated.Waiting.{Waiting as TheWaiting};
 
-use crate::commanded::{Commanded, Dealt, Served};
 use crate::manner::Sharing;
 use crate::parts::{joined, parted};
-use clof_compose::{Composed, Resting};
+use clof_compose::{Composed, Resting, Root};
 use cohort_desks::Desk;
 use cohort_runner::{Aside, Caller, Floor, end_run, open_run, serve_desk};
 use keep_local::Share;
+use lock_rising::{Dealt, OnThread, UnderLock};
 use out_of_memory::OutOfMemory;
 use placed_runner::{Gate, Section};
 use std::alloc::Global;
@@ -38,15 +39,19 @@ pub(crate) struct Room<'a, Q: Resting> {
     pub(crate) quantum: u32,
 }
 
-impl<'a, Q: Resting> Served<Q, Room<'a, Q>, Desk<Caller<'a, Q>>> for Book<'a> {
+/// Callers who wait for threads that serve them in turn.
+pub(crate) struct Seated;
+
+impl<'a, Q: Resting, G: Gate> OnThread<Book<'a>, Q, Room<'a, Q>, Desk<Caller<'a, Q>>, G>
+    for Seated {
     // a thread may sit at this desk
-    ghost may = { λ has level tag sound room desk. MaySit has level tag sound (contexts_of Q.rest room.floor.roll.told.value.items)
+    ghost may = { λ _ has level tag sound room desk. MaySit has level tag sound (contexts_of Q.rest room.floor.roll.told.value.items)
         room.floor.cohorts.items desk };
 
     // and it is left as it was, for the next one
-    ghost did = { λ _ _ _ room before after. HasSat room.floor.cohorts.items before after };
+    ghost did = { λ _ _ _ _ room before after. HasSat room.floor.cohorts.items before after };
 
-    fn serve<C: Composed<Book<'a>, Pass = Q>, G: Gate, R: Wait>(
+    fn serve<C: Composed<Book<'a>, Pass = Q>, R: Wait>(
         rt: &R,
         lock: &C,
         gate: &G,
@@ -66,30 +71,33 @@ impl<'a, Q: Resting> Served<Q, Room<'a, Q>, Desk<Caller<'a, Q>>> for Book<'a> {
     }
 }
 
-impl<'s, 'a, Q: Resting> Commanded<
+impl<'s, 'a, Q: Resting, G: Gate> UnderLock<
+    Book<'a>,
     Q,
     Room<'a, Q>,
     Desk<Caller<'a, Q>>,
     Waiting<'s, 'a>,
     Finished<'a>,
-> for Book<'a> {
+    G,
+> for Seated {
     type Aside = Aside<'a, Q>;
 
     type Crew = Crew<Q>;
 
-    ghost dealt = { λ course w. IsDealt course (map (λ section. section.bytes.now) w.sections.now) w.shares.items
+    ghost dealt = { λ _ course w. IsDealt course (map (λ section. section.bytes.now) w.sections.now) w.shares.items
         × (length w.homes.items ≡ length w.sections.now) };
 
     ghost is_open = { λ has level count tag room desks aside. IsOpen Q.rest has level count tag (run_of room.floor desks aside) };
 
-    ghost is_crew = { IsCrew Q.rest };
+    ghost is_crew = { λ _. IsCrew Q.rest };
 
-    ghost left = { IsLeft };
+    ghost left = { λ _ tag. IsLeft (course_of tag) };
 
     fn deal<C: Composed<Book<'a>, Pass = Q>, R: Wait>(
         rt: &R,
         alloc: Global,
         lock: &C,
+        _gate: &G,
         passes: Vec<Q>,
         waiting: Waiting<'s, 'a>,
     ) -> Result<Dealt<Room<'a, Q>, Desk<Caller<'a, Q>>, Aside<'a, Q>>, Crew<Q>>
@@ -116,7 +124,7 @@ impl<'s, 'a, Q: Resting> Commanded<
         }
     }
 
-    fn gather<C: Composed<Book<'a>, Pass = Q>, G: Gate, R: Wait>(
+    fn gather<C: Composed<Book<'a>, Pass = Q>, R: Wait>(
         rt: &R,
         lock: &C,
         gate: &G,
@@ -126,15 +134,17 @@ impl<'s, 'a, Q: Resting> Commanded<
     ) -> Crew<Q>
         requires sound { C.sound lock.now }
         requires lowest { C.level lock.now ≡ 0 }
-        requires did { HaveSat (λ before. IsOpen Q.rest (C.has lock.now) (C.level lock.now) (C.count lock.now) (C.tag lock.now)
+        requires did { AreBack (λ before. IsOpen Q.rest (C.has lock.now) (C.level lock.now) (C.count lock.now) (C.tag lock.now)
             (run_of room.floor before aside)) (HasSat room.floor.cohorts.items) desks }
         ensures { IsCrew Q.rest (C.has lock.now) (C.level lock.now) (C.count lock.now) (C.tag lock.now) result }
     {
         end_run(rt, lock, gate, joined(lock, room.floor, desks, aside))
     }
 
-    fn close<C: Composed<Book<'a>, Pass = Q> + Drop>(
+    fn close<C: Composed<Book<'a>, Pass = Q> + Drop, R: Wait>(
+        _rt: &R,
         lock: C,
+        _gate: &G,
         crew: Crew<Q>,
     ) -> Result<Finished<'a>, OutOfMemory>
         requires sound { C.sound lock }
@@ -145,5 +155,9 @@ impl<'s, 'a, Q: Resting> Commanded<
         ensures { IfOk result (IsLeft (course_of (C.tag lock))) }
     {
         close_run(lock, crew)
+    }
+
+    fn refused(_gate: &G, _root: Root<Book<'a>>) -> Result<Finished<'a>, OutOfMemory> {
+        Err(OutOfMemory)
     }
 }

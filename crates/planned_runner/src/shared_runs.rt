@@ -4,16 +4,15 @@ ghost use Rattle.keep_local.specs.Shapes.{IsWellFormed, callers_of, top_of};
 ghost use Rattle.placed_runner.specs.Sections.{caller_limit};
 ghost use Rattle.threaded_runner.specs.Finished.{IsFinished};
 
-use crate::given::Given;
 use crate::manner::Sharing;
-use crate::rising::{run_deep, run_flat};
-use crate::seated::{Room, Waiting};
+use crate::seated::{Room, Seated, Waiting};
 use crate::shapes::{copied, homes};
 use clof_compose::TopPass;
 use cohort_desks::Desk;
 use cohort_runner::Caller;
 use keep_local::Shape;
 use lock_levels::{LowPass, Plan, low_passes_may_be_sent, top_passes_may_be_sent};
+use lock_rising::{Given, rise, rise_flat};
 use lock_rules::Pass;
 use out_of_memory::OutOfMemory;
 use placed_runner::{Gate, Section};
@@ -58,28 +57,30 @@ pub(crate) fn run_shared<'a, R: Threads + Wait + Sync, G: Gate + Sync>(
         plan,
         shape,
         brought,
-        gate,
+        shared: gate,
     };
     let top = plan.kinds.as_slice().len() - 1;
     if top == 0 {
-        run_flat::<
+        rise_flat::<
+            Book<'a>,
             Room<'a, TopPass<Pass>>,
             Desk<Caller<'a, TopPass<Pass>>>,
             Waiting<'_, 'a>,
             Finished<'a>,
-            Book<'a>,
-            R,
             G,
+            Seated,
+            R,
         >(given, root)
     } else {
-        run_deep::<
+        rise::<
+            Book<'a>,
             Room<'a, LowPass>,
             Desk<Caller<'a, LowPass>>,
             Waiting<'_, 'a>,
             Finished<'a>,
-            Book<'a>,
-            R,
             G,
+            Seated,
+            R,
         >(given, root, top as u32)
     }
 }

@@ -4,8 +4,8 @@ use Rattle.lock_levels.proofs.Levels.{shape_named}
 use Rattle.threaded_runner.specs.Books.{book_tag}
 use Rattle.planned_runner.proofs.runs.run_own.Goals as goal
 
-pub run_flat-requires-clause-may : goal.run_flat-requires-clause-may
-run_flat-requires-clause-may g c κs within =
+pub rise_flat-requires-clause-may : goal.rise_flat-requires-clause-may
+rise_flat-requires-clause-may g c κs within =
     let same : c.in_ok-root.root.trail.shape ≡ c.args.shape.now = ap (λ t. t.shape) c.in_ok-root.ensures.trail ∙ c.in_ok-copied.ensures in
     record {
       formed = c.requires.formed;
@@ -15,8 +15,8 @@ run_flat-requires-clause-may g c κs within =
       dealt_is = c.in_ok-root.ensures.dealt;
     }
 
-pub run_deep-requires-clause-may : goal.run_deep-requires-clause-may
-run_deep-requires-clause-may g c κs within =
+pub rise-requires-clause-may : goal.rise-requires-clause-may
+rise-requires-clause-may g c κs within =
     let same : c.in_ok-root.root.trail.shape ≡ c.args.shape.now = ap (λ t. t.shape) c.in_ok-root.ensures.trail ∙ c.in_ok-copied.ensures in
     record {
       formed = c.requires.formed;
@@ -29,11 +29,11 @@ run_deep-requires-clause-may g c κs within =
 pub returns-then-top-eq0-clause-shape : goal.returns-then-top-eq0-clause-shape
 returns-then-top-eq0-clause-shape g c =
     let same : c.in_ok-root.root.trail.shape ≡ c.args.shape.now = ap (λ t. t.shape) c.in_ok-root.ensures.trail ∙ c.in_ok-copied.ensures in
-    IfOk-weaker c.run_flat.result _ _ (λ left is. is.shape_is ∙ shape_named book_tag c.in_ok-root.root c.args.shape.now same)
-    c.run_flat.ensures
+    IfOk-weaker c.rise_flat.result _ _ (λ left is. is.shape_is ∙ shape_named book_tag c.in_ok-root.root c.args.shape.now same)
+    c.rise_flat.ensures
 
 pub returns-else-top-eq0-clause-shape : goal.returns-else-top-eq0-clause-shape
 returns-else-top-eq0-clause-shape g c =
     let same : c.in_ok-root.root.trail.shape ≡ c.args.shape.now = ap (λ t. t.shape) c.in_ok-root.ensures.trail ∙ c.in_ok-copied.ensures in
-    IfOk-weaker c.run_deep.result _ _ (λ left is. is.shape_is ∙ shape_named book_tag c.in_ok-root.root c.args.shape.now same)
-    c.run_deep.ensures
+    IfOk-weaker c.rise.result _ _ (λ left is. is.shape_is ∙ shape_named book_tag c.in_ok-root.root c.args.shape.now same)
+    c.rise.ensures

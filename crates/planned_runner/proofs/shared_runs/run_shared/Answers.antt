@@ -20,8 +20,8 @@ use Rattle.threaded_runner.specs.Books.{book_tag}
 use Rattle.planned_runner.proofs.Crossing.{room_shared}
 use Rattle.planned_runner.proofs.shared_runs.run_shared.Goals as goal
 
-pub run_flat-requires-clause-may : goal.run_flat-requires-clause-may
-run_flat-requires-clause-may g c κs within =
+pub rise_flat-requires-clause-may : goal.rise_flat-requires-clause-may
+rise_flat-requires-clause-may g c κs within =
     let same : c.in_ok-root.root.trail.shape ≡ c.args.shape.now = ap (λ t. t.shape) c.in_ok-root.ensures.trail ∙ c.in_ok-copied.ensures in
     let at_home : length c.in_ok-homes.field-0.items ≡ length c.args.sections.now =
     ap length c.in_ok-homes.ensures ∙ length-map c.args.shape.now.paths (λ path. slice_index path 0) ∙ c.requires.callers in
@@ -33,8 +33,8 @@ run_flat-requires-clause-may g c κs within =
       dealt_is = (c.in_ok-root.ensures.dealt, at_home);
     }
 
-pub run_deep-requires-clause-may : goal.run_deep-requires-clause-may
-run_deep-requires-clause-may g c κs within =
+pub rise-requires-clause-may : goal.rise-requires-clause-may
+rise-requires-clause-may g c κs within =
     let same : c.in_ok-root.root.trail.shape ≡ c.args.shape.now = ap (λ t. t.shape) c.in_ok-root.ensures.trail ∙ c.in_ok-copied.ensures in
     let at_home : length c.in_ok-homes.field-0.items ≡ length c.args.sections.now =
     ap length c.in_ok-homes.ensures ∙ length-map c.args.shape.now.paths (λ path. slice_index path 0) ∙ c.requires.callers in
@@ -53,36 +53,36 @@ top_ghosts = top_resting.ghosts the_pass_row placed.ghosts top_resting.no_dict t
 abbrev low_ghosts : resting.Ghosts (the_low_row the_pass_row).Denot
 low_ghosts = low_resting.ghosts the_pass_row placed.ghosts low_resting.no_dict low_resting.no_dict
 
-pub run_flat-requires-send-J : goal.run_flat-requires-send-J
-run_flat-requires-send-J g c κs within =
+pub rise_flat-requires-send-J : goal.rise_flat-requires-send-J
+rise_flat-requires-send-J g c κs within =
     let row = the_top_row the_pass_row in
     let caller = caller_sent (record { mir = named 1; lft = κs.1.0 }) row top_ghosts c.top_passes_may_be_sent.ensures in
     param_send _ _ (arg_send _ no _ (desk_sent _ (numbered.ghosts row top_ghosts numbered.no_dict numbered.no_dict) caller))
 
-pub run_flat-requires-sync-K : goal.run_flat-requires-sync-K
-run_flat-requires-sync-K g c κs within =
+pub rise_flat-requires-sync-K : goal.rise_flat-requires-sync-K
+rise_flat-requires-sync-K g c κs within =
     param_sync _ _ (arg_sync _ no _
     (room_shared (record { mir = named 1; lft = κs.1.0 }) (the_top_row the_pass_row) top_ghosts c.top_passes_may_be_sent.ensures))
 
-pub run_deep-requires-send-J : goal.run_deep-requires-send-J
-run_deep-requires-send-J g c κs within =
+pub rise-requires-send-J : goal.rise-requires-send-J
+rise-requires-send-J g c κs within =
     let row = the_low_row the_pass_row in
     let caller = caller_sent (record { mir = named 1; lft = κs.1.0 }) row low_ghosts c.low_passes_may_be_sent.ensures in
     param_send _ _ (arg_send _ no _ (desk_sent _ (numbered.ghosts row low_ghosts numbered.no_dict numbered.no_dict) caller))
 
-pub run_deep-requires-sync-K : goal.run_deep-requires-sync-K
-run_deep-requires-sync-K g c κs within =
+pub rise-requires-sync-K : goal.rise-requires-sync-K
+rise-requires-sync-K g c κs within =
     param_sync _ _ (arg_sync _ no _
     (room_shared (record { mir = named 1; lft = κs.1.0 }) (the_low_row the_pass_row) low_ghosts c.low_passes_may_be_sent.ensures))
 
 pub returns-then-top-eq0-clause-shape : goal.returns-then-top-eq0-clause-shape
 returns-then-top-eq0-clause-shape g c =
     let same : c.in_ok-root.root.trail.shape ≡ c.args.shape.now = ap (λ t. t.shape) c.in_ok-root.ensures.trail ∙ c.in_ok-copied.ensures in
-    IfOk-weaker c.run_flat.result _ _ (λ left is. is.shape_is ∙ shape_named book_tag c.in_ok-root.root c.args.shape.now same)
-    c.run_flat.ensures
+    IfOk-weaker c.rise_flat.result _ _ (λ left is. is.shape_is ∙ shape_named book_tag c.in_ok-root.root c.args.shape.now same)
+    c.rise_flat.ensures
 
 pub returns-else-top-eq0-clause-shape : goal.returns-else-top-eq0-clause-shape
 returns-else-top-eq0-clause-shape g c =
     let same : c.in_ok-root.root.trail.shape ≡ c.args.shape.now = ap (λ t. t.shape) c.in_ok-root.ensures.trail ∙ c.in_ok-copied.ensures in
-    IfOk-weaker c.run_deep.result _ _ (λ left is. is.shape_is ∙ shape_named book_tag c.in_ok-root.root c.args.shape.now same)
-    c.run_deep.ensures
+    IfOk-weaker c.rise.result _ _ (λ left is. is.shape_is ∙ shape_named book_tag c.in_ok-root.root c.args.shape.now same)
+    c.rise.ensures

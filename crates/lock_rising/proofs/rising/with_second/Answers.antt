@@ -1,7 +1,7 @@
 use Rattle.std.proofs.Common.{◌≡◌, ◌+◌, ◌-◌, arith}
 use Rattle.lock_levels.proofs.Raised.{risen}
 use Rattle.lock_levels.proofs.MadeKinds.{kinds_from}
-use Rattle.planned_runner.proofs.rising.with_second.Goals as goal
+use Rattle.lock_rising.proofs.rising.with_second.Goals as goal
 
 pub with_third-requires-clause-raised : goal.with_third-requires-clause-raised
 with_third-requires-clause-raised g c κs within =

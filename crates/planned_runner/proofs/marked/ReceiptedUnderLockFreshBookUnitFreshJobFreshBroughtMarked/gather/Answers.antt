@@ -1,6 +1,6 @@
 use Rattle.std.proofs.Common.{refl, rules, ◌∙◌}
 use Rattle.planned_runner.proofs.Served.{all_served}
-use Rattle.planned_runner.proofs.marked.FreshBookCommandedUnitFreshJobFreshBroughtMarked.gather.Goals as goal
+use Rattle.planned_runner.proofs.marked.ReceiptedUnderLockFreshBookUnitFreshJobFreshBroughtMarked.gather.Goals as goal
 
 pub fresh_crew_of-requires : goal.fresh_crew_of-requires
 fresh_crew_of-requires g c κs =

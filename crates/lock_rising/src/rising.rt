@@ -1,65 +1,67 @@
-//! The levels of a run's lock, made from the top down.
+//! The levels of a lock, made from the top down.
 //!
 //! Each function adds one level below a lock of any type and hands on what it made. So none of them has a type of more than one level to
 //! compare, and what the checker makes of five levels is five times what it makes of one.
 ghost use Rattle.std.specs.Prelude.{◌≡◌, ◌+◌, ◌<◌, ◌≤◌, length, IfOk};
 ghost use Rattle.keep_local.specs.Shapes.{callers_of, top_of};
-ghost use Rattle.clof_compose.specs.Courses.{course_of};
 ghost use Rattle.clof_compose.specs.Roots.{IsFit, root_tag};
 ghost use Rattle.lock_levels.specs.Raised.{IsRaised};
-ghost use Rattle.planned_runner.specs.Runs.{MayRun};
+ghost use Rattle.lock_rising.specs.Ready.{MayRise};
 
-use crate::commanded::Commanded;
 use crate::given::Given;
 use crate::under::run_under;
-use clof_compose::{Composed, Resting, Root, TopPass};
+use crate::under_lock::UnderLock;
+use clof_compose::{Composed, Payload, Resting, Root, TopPass};
 use lock_levels::{
     HasKinds, LevelOver, LowPass, TopOf, add_below, kind_at, low_passes_are_shared, make_top_of,
     top_passes_are_shared,
 };
 use lock_rules::{Pass, passes_are_shared};
 use out_of_memory::OutOfMemory;
-use placed_runner::Gate;
 use std::sync::Wait;
 use std::thread::Threads;
 
-/// A run under a lock of one level.
-pub(crate) fn run_flat<
+/// Makes a lock of one level around a root, and has its callers work under it. A lock that is refused for want of memory ends the work,
+/// which gets the root.
+pub fn rise_flat<
     'r,
+    P: Payload + Send + Sync,
     K: Sync,
     J: Send + Drop,
     B: Drop,
     F,
-    P: Commanded<TopPass<Pass>, K, J, B, F> + Send + Sync,
+    G: Sync,
+    W: UnderLock<P, TopPass<Pass>, K, J, B, F, G> + Send + Sync,
     R: Threads + Wait + Sync,
-    G: Gate + Sync,
 >(given: Given<'r, B, R, G>, root: Root<P>) -> Result<F, OutOfMemory>
     requires top { top_of given.shape.now ≡ 0 }
     requires callers { 0 < callers_of given.shape.now }
     requires fit { IsFit P.calls root }
     requires shape { root.trail.shape ≡ given.shape.now }
-    requires may { MayRun (root_tag P.tag root) given.shape.now given.plan.now.kinds P.dealt given.brought }
-    ensures { IfOk result (P.left (course_of (root_tag P.tag root))) }
+    requires may { MayRise (root_tag P.tag root) given.shape.now given.plan.now.kinds (W.dealt given.shared.now) given.brought }
+    ensures { IfOk result (W.left given.entry.shared.now (root_tag P.tag root)) }
 {
     passes_are_shared();
     match make_top_of::<P>(given.alloc, given.plan, root, given.shape, 0) {
         Ok((lock, passes)) => {
-            run_under::<TopPass<Pass>, K, J, B, F, P, R, TopOf<P>, G>(given, lock, passes)
+            run_under::<P, TopPass<Pass>, K, J, B, F, G, W, TopOf<P>, R>(given, lock, passes)
         }
-        Err(_) => Err(OutOfMemory),
+        Err(refused) => W::refused(given.shared, refused.value),
     }
 }
 
-/// A run under a lock of two to five levels.
-pub(crate) fn run_deep<
+/// Makes a lock of two to five levels around a root, and has its callers work under it. A lock that is refused for want of memory ends the
+/// work, which gets the root, or one that is as fit and has its tag.
+pub fn rise<
     'r,
+    P: Payload + Send + Sync,
     K: Sync,
     J: Send + Drop,
     B: Drop,
     F,
-    P: Commanded<LowPass, K, J, B, F> + Send + Sync,
+    G: Sync,
+    W: UnderLock<P, LowPass, K, J, B, F, G> + Send + Sync,
     R: Threads + Wait + Sync,
-    G: Gate + Sync,
 >(given: Given<'r, B, R, G>, root: Root<P>, top: u32) -> Result<F, OutOfMemory>
     requires top { top_of given.shape.now ≡ top }
     requires some { 0 < top }
@@ -67,30 +69,31 @@ pub(crate) fn run_deep<
     requires callers { 0 < callers_of given.shape.now }
     requires fit { IsFit P.calls root }
     requires shape { root.trail.shape ≡ given.shape.now }
-    requires may { MayRun (root_tag P.tag root) given.shape.now given.plan.now.kinds P.dealt given.brought }
-    ensures { IfOk result (P.left (course_of (root_tag P.tag root))) }
+    requires may { MayRise (root_tag P.tag root) given.shape.now given.plan.now.kinds (W.dealt given.shared.now) given.brought }
+    ensures { IfOk result (W.left given.entry.shared.now (root_tag P.tag root)) }
 {
     passes_are_shared();
     top_passes_are_shared();
     match make_top_of::<P>(given.alloc, given.plan, root, given.shape, top) {
         Ok((lock, passes)) => {
-            with_second::<K, J, B, F, P, TopOf<P>, R, G>(given, lock, passes, top - 1)
+            with_second::<P, K, J, B, F, G, W, TopOf<P>, R>(given, lock, passes, top - 1)
         }
-        Err(_) => Err(OutOfMemory),
+        Err(refused) => W::refused(given.shared, refused.value),
     }
 }
 
-// A run under a lock with a second level below this one, and with as many more as lie below it.
+// Work under a lock with a second level below this one, and with as many more as lie below it.
 fn with_second<
     'r,
+    P: Payload + Send + Sync,
     K: Sync,
     J: Send + Drop,
     B: Drop,
     F,
-    P: Commanded<LowPass, K, J, B, F> + Send + Sync,
+    G: Sync,
+    W: UnderLock<P, LowPass, K, J, B, F, G> + Send + Sync,
     H: HasKinds<P> + Sync + Drop,
     R: Threads + Wait + Sync,
-    G: Gate + Sync,
 >(given: Given<'r, B, R, G>, high: H, passes: Vec<H::Pass>, level: u32) -> Result<F, OutOfMemory>
 where
     H::Pass: Send + Sync,
@@ -100,10 +103,10 @@ where
     requires raised { IsRaised H.Pass.rest (H.has high) (H.sound high) (H.level high) (H.count high) (H.tag high) given.shape.now
         (level + 1) (H.tag high) passes.items }
     requires kinds { H.has_kinds high given.plan.now.kinds (level + 1) }
-    requires may { MayRun (H.tag high) given.shape.now given.plan.now.kinds P.dealt given.brought }
+    requires may { MayRise (H.tag high) given.shape.now given.plan.now.kinds (W.dealt given.shared.now) given.brought }
     requires level { level < top_of given.shape.now }
     requires most { level < 4 }
-    ensures { IfOk result (P.left (course_of (H.tag high))) }
+    ensures { IfOk result (W.left given.entry.shared.now (H.tag high)) }
 {
     passes_are_shared();
     low_passes_are_shared();
@@ -111,26 +114,29 @@ where
     match add_below::<P, H>(given.alloc, kind, given.shape, level, high, passes) {
         Ok((lock, passes)) => {
             if level == 0 {
-                run_under::<LowPass, K, J, B, F, P, R, LevelOver<P, H>, G>(given, lock, passes)
+                run_under::<P, LowPass, K, J, B, F, G, W, LevelOver<P, H>, R>(given, lock, passes)
             } else {
-                with_third::<K, J, B, F, P, LevelOver<P, H>, R, G>(given, lock, passes, level - 1)
+                with_third::<P, K, J, B, F, G, W, LevelOver<P, H>, R>(
+                    given, lock, passes, level - 1,
+                )
             }
         }
-        Err(_) => Err(OutOfMemory),
+        Err(refused) => W::refused(given.shared, refused.value),
     }
 }
 
 // The same with a third level.
 fn with_third<
     'r,
+    P: Payload + Send + Sync,
     K: Sync,
     J: Send + Drop,
     B: Drop,
     F,
-    P: Commanded<LowPass, K, J, B, F> + Send + Sync,
+    G: Sync,
+    W: UnderLock<P, LowPass, K, J, B, F, G> + Send + Sync,
     H: HasKinds<P> + Sync + Drop,
     R: Threads + Wait + Sync,
-    G: Gate + Sync,
 >(given: Given<'r, B, R, G>, high: H, passes: Vec<H::Pass>, level: u32) -> Result<F, OutOfMemory>
 where
     H::Pass: Send + Sync,
@@ -140,10 +146,10 @@ where
     requires raised { IsRaised H.Pass.rest (H.has high) (H.sound high) (H.level high) (H.count high) (H.tag high) given.shape.now
         (level + 1) (H.tag high) passes.items }
     requires kinds { H.has_kinds high given.plan.now.kinds (level + 1) }
-    requires may { MayRun (H.tag high) given.shape.now given.plan.now.kinds P.dealt given.brought }
+    requires may { MayRise (H.tag high) given.shape.now given.plan.now.kinds (W.dealt given.shared.now) given.brought }
     requires level { level < top_of given.shape.now }
     requires most { level < 3 }
-    ensures { IfOk result (P.left (course_of (H.tag high))) }
+    ensures { IfOk result (W.left given.entry.shared.now (H.tag high)) }
 {
     passes_are_shared();
     low_passes_are_shared();
@@ -151,26 +157,29 @@ where
     match add_below::<P, H>(given.alloc, kind, given.shape, level, high, passes) {
         Ok((lock, passes)) => {
             if level == 0 {
-                run_under::<LowPass, K, J, B, F, P, R, LevelOver<P, H>, G>(given, lock, passes)
+                run_under::<P, LowPass, K, J, B, F, G, W, LevelOver<P, H>, R>(given, lock, passes)
             } else {
-                with_fourth::<K, J, B, F, P, LevelOver<P, H>, R, G>(given, lock, passes, level - 1)
+                with_fourth::<P, K, J, B, F, G, W, LevelOver<P, H>, R>(
+                    given, lock, passes, level - 1,
+                )
             }
         }
-        Err(_) => Err(OutOfMemory),
+        Err(refused) => W::refused(given.shared, refused.value),
     }
 }
 
 // The same with a fourth level.
 fn with_fourth<
     'r,
+    P: Payload + Send + Sync,
     K: Sync,
     J: Send + Drop,
     B: Drop,
     F,
-    P: Commanded<LowPass, K, J, B, F> + Send + Sync,
+    G: Sync,
+    W: UnderLock<P, LowPass, K, J, B, F, G> + Send + Sync,
     H: HasKinds<P> + Sync + Drop,
     R: Threads + Wait + Sync,
-    G: Gate + Sync,
 >(given: Given<'r, B, R, G>, high: H, passes: Vec<H::Pass>, level: u32) -> Result<F, OutOfMemory>
 where
     H::Pass: Send + Sync,
@@ -180,10 +189,10 @@ where
     requires raised { IsRaised H.Pass.rest (H.has high) (H.sound high) (H.level high) (H.count high) (H.tag high) given.shape.now
         (level + 1) (H.tag high) passes.items }
     requires kinds { H.has_kinds high given.plan.now.kinds (level + 1) }
-    requires may { MayRun (H.tag high) given.shape.now given.plan.now.kinds P.dealt given.brought }
+    requires may { MayRise (H.tag high) given.shape.now given.plan.now.kinds (W.dealt given.shared.now) given.brought }
     requires level { level < top_of given.shape.now }
     requires most { level < 2 }
-    ensures { IfOk result (P.left (course_of (H.tag high))) }
+    ensures { IfOk result (W.left given.entry.shared.now (H.tag high)) }
 {
     passes_are_shared();
     low_passes_are_shared();
@@ -191,26 +200,27 @@ where
     match add_below::<P, H>(given.alloc, kind, given.shape, level, high, passes) {
         Ok((lock, passes)) => {
             if level == 0 {
-                run_under::<LowPass, K, J, B, F, P, R, LevelOver<P, H>, G>(given, lock, passes)
+                run_under::<P, LowPass, K, J, B, F, G, W, LevelOver<P, H>, R>(given, lock, passes)
             } else {
-                with_fifth::<K, J, B, F, P, LevelOver<P, H>, R, G>(given, lock, passes)
+                with_fifth::<P, K, J, B, F, G, W, LevelOver<P, H>, R>(given, lock, passes)
             }
         }
-        Err(_) => Err(OutOfMemory),
+        Err(refused) => W::refused(given.shared, refused.value),
     }
 }
 
 // The same with a fifth level, which is the lowest.
 fn with_fifth<
     'r,
+    P: Payload + Send + Sync,
     K: Sync,
     J: Send + Drop,
     B: Drop,
     F,
-    P: Commanded<LowPass, K, J, B, F> + Send + Sync,
+    G: Sync,
+    W: UnderLock<P, LowPass, K, J, B, F, G> + Send + Sync,
     H: HasKinds<P> + Sync + Drop,
     R: Threads + Wait + Sync,
-    G: Gate + Sync,
 >(given: Given<'r, B, R, G>, high: H, passes: Vec<H::Pass>) -> Result<F, OutOfMemory>
 where
     H::Pass: Send + Sync,
@@ -220,17 +230,17 @@ where
     requires raised { IsRaised H.Pass.rest (H.has high) (H.sound high) (H.level high) (H.count high) (H.tag high) given.shape.now
         1 (H.tag high) passes.items }
     requires kinds { H.has_kinds high given.plan.now.kinds 1 }
-    requires may { MayRun (H.tag high) given.shape.now given.plan.now.kinds P.dealt given.brought }
+    requires may { MayRise (H.tag high) given.shape.now given.plan.now.kinds (W.dealt given.shared.now) given.brought }
     requires top { 0 < top_of given.shape.now }
-    ensures { IfOk result (P.left (course_of (H.tag high))) }
+    ensures { IfOk result (W.left given.entry.shared.now (H.tag high)) }
 {
     passes_are_shared();
     low_passes_are_shared();
     let kind = kind_at(given.plan, 0);
     match add_below::<P, H>(given.alloc, kind, given.shape, 0, high, passes) {
         Ok((lock, passes)) => {
-            run_under::<LowPass, K, J, B, F, P, R, LevelOver<P, H>, G>(given, lock, passes)
+            run_under::<P, LowPass, K, J, B, F, G, W, LevelOver<P, H>, R>(given, lock, passes)
         }
-        Err(_) => Err(OutOfMemory),
+        Err(refused) => W::refused(given.shared, refused.value),
     }
 }

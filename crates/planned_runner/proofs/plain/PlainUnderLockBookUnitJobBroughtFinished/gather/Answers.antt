@@ -1,6 +1,6 @@
 use Rattle.std.proofs.Common.{refl, ◌∙◌}
 use Rattle.planned_runner.proofs.Served.{all_served}
-use Rattle.planned_runner.proofs.plain.BookCommandedUnitJobBroughtFinished.gather.Goals as goal
+use Rattle.planned_runner.proofs.plain.PlainUnderLockBookUnitJobBroughtFinished.gather.Goals as goal
 
 pub crew_of-requires : goal.crew_of-requires
 crew_of-requires g c κs =

@@ -1,4 +1,4 @@
-use Rattle.planned_runner.proofs.under.run_threads.Goals as goal
+use Rattle.lock_rising.proofs.under.run_threads.Goals as goal
 
 pub gather-requires-clause-did : goal.gather-requires-clause-did
 gather-requires-clause-did g c = record {
