@@ -1,3 +1,2 @@
-pub mod Raised
 pub mod Shifts
 pub mod Starts

@@ -1,7 +1,5 @@
 //! What a trial is given.
-use keep_local::{Shape, Share};
-use lock_levels::Plan;
-use std::alloc::Global;
+use keep_local::Share;
 
 /// What callers do with a lock.
 #[derive(Clone, Copy)]
@@ -14,14 +12,9 @@ pub enum Trial<'a> {
     Close,
 }
 
-/// What a trial has beside its root and its lock.
+/// What the callers of a trial bring: the share of each, in order, and what they do.
 #[derive(Drop)]
-pub(crate) struct Given<'r, R> {
-    pub(crate) rt: &'r R,
-    pub(crate) alloc: Global,
-    pub(crate) plan: &'r Plan,
-    pub(crate) shape: &'r Shape,
-    /// The share of each caller.
+pub(crate) struct Brought<'t> {
     pub(crate) shares: Vec<Share>,
-    pub(crate) trial: Trial<'r>,
+    pub(crate) trial: Trial<'t>,
 }

@@ -2,13 +2,15 @@
 //! thread or hold it in threads of their own, or it is closed again at once.
 #![tactic(auto)]
 
+mod crew;
+mod ending;
 mod given;
+mod jobs;
 mod outcome;
 mod rising;
 mod start;
 mod trials;
 mod tried;
-mod under;
 
 pub use given::Trial;
 pub use outcome::{End, Outcome};

@@ -3,13 +3,14 @@ ghost use Rattle.std.specs.Prelude.{◌≡◌, ◌+◌, ◌^◌, ◌<◌, length
 ghost use Rattle.keep_local.specs.Shapes.{IsWellFormed, callers_of, top_of};
 ghost use Rattle.clof_compose.specs.Roots.{IsFit};
 
-use crate::given::{Given, Trial};
+use crate::given::{Brought, Trial};
 use crate::outcome::Outcome;
 use crate::rising::{try_deep, try_flat};
 use crate::start::{Start, make_start};
 use keep_local::Shape;
 use level_harness::Roll;
 use lock_levels::LockKind;
+use lock_rising::Given;
 use std::alloc::Global;
 use std::sync::Wait;
 use std::thread::Threads;
@@ -48,18 +49,19 @@ pub fn try_lock<R: Threads + Wait + Sync>(
         root,
         shares,
     } = start;
+    let nothing = ();
     let given = Given {
         rt,
         alloc,
         plan: &plan,
         shape: &shape,
-        shares,
-        trial,
+        brought: Brought { shares, trial },
+        shared: &nothing,
     };
     let top = kinds.len() - 1;
     if top == 0 {
-        try_flat::<Roll, R>(given, root)
+        try_flat::<R>(given, root)
     } else {
-        try_deep::<Roll, R>(given, root, top as u32)
+        try_deep::<R>(given, root, top as u32)
     }
 }

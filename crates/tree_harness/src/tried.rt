@@ -1,136 +1,135 @@
-//! What a trial does with a lock over a payload, whatever lock that is.
-ghost use Rattle.std.specs.Prelude.{◌≡◌, ◌≤◌, ℕ, [], length, slice_get, vec_capacity, IfSome, Some};
-ghost use Rattle.clof_compose.specs.Courses.{course_of};
-ghost use Rattle.clof_compose.specs.Passes.{AreAll};
+//! What the callers of a trial do under a lock over a roll.
+ghost use Rattle.std.specs.Prelude.{◌≡◌, ℕ, slice_get, IfErr, IfOk, Some};
 ghost use Rattle.clof_compose.specs.Roots.{IsFit, root_tag};
-ghost use Rattle.level_harness.specs.Jobs.{IsEnded, IsJob};
 ghost use Rattle.level_harness.specs.Rooms.{roll_tag};
-ghost use Rattle.tree_harness.specs.Ready.{IsReady};
+ghost use Rattle.lock_rising.specs.Ready.{AreBack, IsSet};
+ghost use Rattle.tree_harness.specs.Crews.{AreOpen, IsCrew};
+ghost use Rattle.tree_harness.specs.Ready.{IsBrought, IsLeft};
 ghost use Rattle.tree_harness.specs.Shifts.{HasWorked, MayWork};
 
+use crate::crew::{Crew, Walkers};
+use crate::ending::{ended, walked};
+use crate::given::{Brought, Trial};
+use crate::jobs::{deal_jobs, gathered};
 use crate::outcome::{End, Outcome};
-use clof_compose::{Composed, Payload, Resting, Root};
-use keep_local::Share;
-use level_harness::{Job, Roll, Walked, close_ended, deal, hold_all, walk};
+use clof_compose::{Composed, Resting, Root};
+use level_harness::{Job, Roll, hold_all};
+use lock_rising::{Dealt, OnThread, UnderLock};
+use out_of_memory::OutOfMemory;
 use std::alloc::Global;
 use std::sync::Wait;
 
-/// The jobs of all callers, and an empty list with room for their passes.
-#[derive(Drop)]
-pub(crate) struct Dealt<Q> {
-    pub(crate) jobs: Vec<Job<Q>>,
-    pub(crate) passes: Vec<Q>,
-}
+/// Callers who walk, who each make their turns in a thread of its own, or who do nothing.
+pub(crate) struct Tried;
 
-/// A payload over whose locks trials are made, of callers with passes Q.
-///
-/// The functions that make a lock, have its callers walk and send them to threads know their payload by this trait alone, since what the
-/// checker makes of a lock's type it compares quickly only over a payload that is a parameter.
-pub(crate) trait Tried<Q: Resting>: Payload {
-    /// A caller makes all the turns that it has left.
-    fn serve<C: Composed<Self, Pass = Q>, R: Wait>(rt: &R, lock: &C, job: Job<Q>) -> Job<Q>
-        requires { MayWork Q.rest (C.has lock.now) (C.level lock.now) (C.tag lock.now) (C.sound lock.now) job }
-        ensures { HasWorked Q.rest job result };
+impl<Q: Resting> OnThread<Roll, Q, (), Job<Q>, ()> for Tried {
+    // the pass and the share are those of one caller of this lock, which has room for all calls
+    ghost may = { λ _ has level tag sound _ j. MayWork Q.rest has level tag sound j };
 
-    /// All callers walk, those that are named first, and the lock is taken apart.
-    fn walk<C: Composed<Self, Pass = Q> + Drop, R: Wait>(
+    // and the same come back, with all turns made
+    ghost did = { λ _ _ _ _ _. HasWorked Q.rest };
+
+    fn serve<C: Composed<Roll, Pass = Q>, R: Wait>(
         rt: &R,
-        alloc: Global,
-        lock: C,
-        passes: Vec<Q>,
-        shares: Vec<Share>,
-        order: &[usize],
-    ) -> Option<Outcome<Self>>
-        requires { IsReady Q.rest (C.has lock) (C.sound lock) (C.level lock) (C.count lock) (C.tag lock) passes.items shares.items }
-        ensures fit { IfSome result (λ o. IsFit Self.calls o.root) }
-        ensures tagged { IfSome result (λ o. root_tag Self.tag o.root ≡ C.tag lock) };
-
-    /// Makes the jobs of all callers.
-    fn deal<C: Composed<Self, Pass = Q>>(
-        alloc: Global,
         lock: &C,
-        passes: Vec<Q>,
-        shares: Vec<Share>,
-    ) -> Option<Dealt<Q>>
-        requires { IsReady Q.rest (C.has lock.now) (C.sound lock.now) (C.level lock.now) (C.count lock.now) (C.tag lock.now) passes.items
-            shares.items }
-        ensures each { IfSome result (λ d. (k : ℕ) (j : _) → slice_get d.jobs.items k ≡ Some j → IsJob Q.rest (C.has lock.now)
-            (C.level lock.now) (C.tag lock.now) k j) }
-        ensures many { IfSome result (λ d. length d.jobs.items ≡ C.count lock.now) }
-        ensures empty { IfSome result (λ d. d.passes.items ≡ []) }
-        ensures room { IfSome result (λ d. C.count lock.now ≤ vec_capacity d.passes) };
-
-    /// Takes the lock apart, once all callers have made their turns.
-    fn finish<C: Composed<Self, Pass = Q> + Drop>(lock: C, dealt: Dealt<Q>) -> Option<Root<Self>>
-        requires sound { C.sound lock }
-        requires many { length dealt.jobs.items ≡ C.count lock }
-        requires each { (k : ℕ) (j : _) → slice_get dealt.jobs.items k ≡ Some j → IsEnded Q.rest (C.has lock) (C.level lock)
-            (C.tag lock) k j }
-        requires empty { dealt.passes.items ≡ [] }
-        requires room { C.count lock ≤ vec_capacity dealt.passes }
-        ensures fit { IfSome result (IsFit Self.calls) }
-        ensures tagged { IfSome result (λ r. root_tag Self.tag r ≡ C.tag lock) };
-}
-
-impl<Q: Resting> Tried<Q> for Roll {
-    fn serve<C: Composed<Roll, Pass = Q>, R: Wait>(rt: &R, lock: &C, job: Job<Q>) -> Job<Q>
+        _shared: &(),
+        _floor: &(),
+        job: Job<Q>,
+    ) -> Job<Q>
         requires { MayWork Q.rest (C.has lock.now) (C.level lock.now) (C.tag lock.now) (C.sound lock.now) job }
         ensures { HasWorked Q.rest job result }
     {
         hold_all(rt, lock, job)
     }
+}
 
-    fn walk<C: Composed<Roll, Pass = Q> + Drop, R: Wait>(
-        rt: &R,
-        alloc: Global,
-        lock: C,
-        passes: Vec<Q>,
-        shares: Vec<Share>,
-        order: &[usize],
-    ) -> Option<Outcome<Roll>>
-        requires { IsReady Q.rest (C.has lock) (C.sound lock) (C.level lock) (C.count lock) (C.tag lock) passes.items shares.items }
-        ensures fit { IfSome result (λ o. IsFit (λ r. r.callers.items) o.root) }
-        ensures tagged { IfSome result (λ o. root_tag roll_tag o.root ≡ C.tag lock) }
-    {
-        match walk(rt, alloc, lock, passes, shares, order) {
-            Some(Walked { root, stood, told }) => Some(Outcome {
-                root,
-                end: End::Walked { stood, told },
-            }),
-            None => None,
-        }
-    }
+impl<'t, Q: Resting> UnderLock<Roll, Q, (), Job<Q>, Brought<'t>, Outcome<Roll>, ()> for Tried {
+    type Aside = Vec<Q>;
 
-    fn deal<C: Composed<Roll, Pass = Q>>(
+    type Crew = Crew<'t, Q>;
+
+    ghost dealt = { λ _. IsBrought };
+
+    ghost is_open = { λ has level count tag _ jobs passes. AreOpen Q.rest has level count tag jobs.items passes };
+
+    ghost is_crew = { λ _. IsCrew Q.rest };
+
+    ghost left = { λ _. IsLeft };
+
+    fn deal<C: Composed<Roll, Pass = Q>, R: Wait>(
+        _rt: &R,
         alloc: Global,
         lock: &C,
+        _shared: &(),
         passes: Vec<Q>,
-        shares: Vec<Share>,
-    ) -> Option<Dealt<Q>>
-        requires { IsReady Q.rest (C.has lock.now) (C.sound lock.now) (C.level lock.now) (C.count lock.now) (C.tag lock.now) passes.items
-            shares.items }
-        ensures each { IfSome result (λ d. (k : ℕ) (j : _) → slice_get d.jobs.items k ≡ Some j → IsJob Q.rest (C.has lock.now)
-            (C.level lock.now) (C.tag lock.now) k j) }
-        ensures many { IfSome result (λ d. length d.jobs.items ≡ C.count lock.now) }
-        ensures empty { IfSome result (λ d. d.passes.items ≡ []) }
-        ensures room { IfSome result (λ d. C.count lock.now ≤ vec_capacity d.passes) }
+        brought: Brought<'t>,
+    ) -> Result<Dealt<(), Job<Q>, Vec<Q>>, Crew<'t, Q>>
+        requires set { IsSet Q.rest (C.has lock.now) (C.sound lock.now) (C.level lock.now) (C.count lock.now) (C.tag lock.now) IsBrought
+            brought passes.items }
+        ensures opened { IfOk result (λ made. AreOpen Q.rest (C.has lock.now) (C.level lock.now) (C.count lock.now) (C.tag lock.now)
+            made.jobs.items made.aside) }
+        ensures may { IfOk result (λ made. (k : ℕ) (j : _) → slice_get made.jobs.items k ≡ Some j → MayWork Q.rest (C.has lock.now)
+            (C.level lock.now) (C.tag lock.now) (C.sound lock.now) j) }
+        ensures crew { IfErr result (IsCrew Q.rest (C.has lock.now) (C.level lock.now) (C.count lock.now) (C.tag lock.now)) }
     {
-        match deal(alloc, lock, passes, shares) {
-            Some((jobs, passes)) => Some(Dealt { jobs, passes }),
-            None => None,
+        let Brought { shares, trial } = brought;
+        match trial {
+            Trial::Walk(order) => Err(Crew::Walk(Walkers {
+                alloc,
+                passes,
+                shares,
+                order,
+            })),
+            Trial::Hold => deal_jobs(alloc, lock, passes, shares),
+            Trial::Close => Err(Crew::Idle(passes)),
         }
     }
 
-    fn finish<C: Composed<Roll, Pass = Q> + Drop>(lock: C, dealt: Dealt<Q>) -> Option<Root<Roll>>
-        requires sound { C.sound lock }
-        requires many { length dealt.jobs.items ≡ C.count lock }
-        requires each { (k : ℕ) (j : _) → slice_get dealt.jobs.items k ≡ Some j → IsEnded Q.rest (C.has lock) (C.level lock)
-            (C.tag lock) k j }
-        requires empty { dealt.passes.items ≡ [] }
-        requires room { C.count lock ≤ vec_capacity dealt.passes }
-        ensures fit { IfSome result (IsFit (λ r. r.callers.items)) }
-        ensures tagged { IfSome result (λ r. root_tag roll_tag r ≡ C.tag lock) }
+    fn gather<C: Composed<Roll, Pass = Q>, R: Wait>(
+        _rt: &R,
+        lock: &C,
+        _shared: &(),
+        _floor: (),
+        jobs: Vec<Job<Q>>,
+        passes: Vec<Q>,
+    ) -> Crew<'t, Q>
+        requires sound { C.sound lock.now }
+        requires lowest { C.level lock.now ≡ 0 }
+        requires did { AreBack (λ before. AreOpen Q.rest (C.has lock.now) (C.level lock.now) (C.count lock.now) (C.tag lock.now)
+            before.items passes) (HasWorked Q.rest) jobs }
+        ensures { IsCrew Q.rest (C.has lock.now) (C.level lock.now) (C.count lock.now) (C.tag lock.now) result }
     {
-        close_ended(lock, Some((dealt.jobs, dealt.passes)))
+        gathered(lock, jobs, passes)
+    }
+
+    fn close<C: Composed<Roll, Pass = Q> + Drop, R: Wait>(
+        rt: &R,
+        lock: C,
+        _shared: &(),
+        crew: Crew<'t, Q>,
+    ) -> Result<Outcome<Roll>, OutOfMemory>
+        requires sound { C.sound lock }
+        requires crew { IsCrew Q.rest (C.has lock) (C.level lock) (C.count lock) (C.tag lock) crew }
+        ensures { IfOk result (IsLeft (C.tag lock)) }
+    {
+        match crew {
+            Crew::Walk(walkers) => walked(rt, lock, walkers),
+            Crew::Held(held) => ended(lock, held),
+            Crew::Idle(passes) => Ok(Outcome {
+                root: lock.close(passes),
+                end: End::Done,
+            }),
+            Crew::Lost => Err(OutOfMemory),
+        }
+    }
+
+    fn refused(_shared: &(), root: Root<Roll>) -> Result<Outcome<Roll>, OutOfMemory>
+        requires fit { IsFit (λ r. r.callers.items) root }
+        ensures { IfOk result (IsLeft (root_tag roll_tag root)) }
+    {
+        Ok(Outcome {
+            root,
+            end: End::Refused,
+        })
     }
 }
