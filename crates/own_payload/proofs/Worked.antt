@@ -13,7 +13,7 @@ use Rattle.clof_compose.specs.Courses.{course_of}
 use Rattle.clof_compose.specs.Meanings.{Rest}
 use Rattle.clof_compose.specs.Passes.{AreAll, IsNumber}
 use Rattle.clof_compose.specs.Shares.{IsShareIn}
-use Rattle.own_payload.specs.Jobs.{EachEnded, EachMadeAll, HasServed, IsJob, MayWork}
+use Rattle.own_payload.specs.Jobs.{EachEnded, EachMadeAll, HasServed, IsEnded, IsJob, MayWork}
 use Rattle.own_payload.specs.declared.jobs.Job.{Job}
 
 -- what stands in a list that was made of another stands for an item of that
@@ -34,12 +34,7 @@ module _ {P : Type 0} (rest : P → Rest) (has : Context → Type 0) (level : �
   }
 
   module _ (stops : ℕ → Type 0) where
-    -- the job of a caller that has made all its turns, unless it may stop
-    pub record IsEnded (k : ℕ) (j : Job P) : Type 0 where
-      pub job : IsJob rest has level tag k j
-      pub made : ¬ stops k → j.share.made ≡ j.share.quota
-
-    ended : (k : ℕ) (j j' : Job P) → IsJob rest has level tag k j → HasServed rest stops j j' → IsEnded k j'
+    ended : (k : ℕ) (j j' : Job P) → IsJob rest has level tag k j → HasServed rest stops j j' → IsEnded rest stops has level tag k j'
     ended k j j' is served =
         let share = served.share in
         let caller : j.share.caller ≡ k = is.share_is.caller_is in record {
@@ -55,40 +50,43 @@ module _ {P : Type 0} (rest : P → Rest) (has : Context → Type 0) (level : �
           made = λ on. served.ended (subst (λ (n : ℕ). ¬ stops n) (sym caller) on) ∙ sym (ap (λ (s : ShareState). s.quota) share);
         }
 
-    module _ (jobs done : List (Job P)) (count : ℕ) (all : length jobs ≡ count) (many : length done ≡ length jobs)
-        (each : (k : ℕ) (j : Job P) → slice_get jobs k ≡ Some j → IsJob rest has level tag k j)
-        (served : (k : ℕ) (j j' : Job P) → slice_get jobs k ≡ Some j → slice_get done k ≡ Some j' → HasServed rest stops j j') where
-      all_ended : (k : ℕ) (j' : Job P) → slice_get done k ≡ Some j' → IsEnded k j'
-      all_ended k j' e =
-          let within = slice_get_within done k j' e in
-          let at : slice_get jobs k ≡ Some (get_or jobs k j') = slice_get-get_or jobs k j' (omega (arith, within, many)) in
-          ended k (get_or jobs k j') j' (each k (get_or jobs k j') at) (served k (get_or jobs k j') j' at e)
+    -- each job that comes back is that of its caller, which has made all its turns, unless it may stop
+    pub all_ended : (jobs done : List (Job P)) → length done ≡ length jobs
+        → ((k : ℕ) (j : Job P) → slice_get jobs k ≡ Some j → IsJob rest has level tag k j)
+        → ((k : ℕ) (j j' : Job P) → slice_get jobs k ≡ Some j → slice_get done k ≡ Some j' → HasServed rest stops j j')
+        → (k : ℕ) (j' : Job P) → slice_get done k ≡ Some j' → IsEnded rest stops has level tag k j'
+    all_ended jobs done many each served k j' e =
+        let within = slice_get_within done k j' e in
+        let at : slice_get jobs k ≡ Some (get_or jobs k j') = slice_get-get_or jobs k j' (omega (arith, within, many)) in
+        ended k (get_or jobs k j') j' (each k (get_or jobs k j') at) (served k (get_or jobs k j') j' at e)
 
+    module _ (done : List (Job P)) (count : ℕ) (many : length done ≡ count)
+        (each : (k : ℕ) (j : Job P) → slice_get done k ≡ Some j → IsEnded rest stops has level tag k j) where
       -- the passes that come back are all passes
       pub passes_back : (passes : List P) → passes ≡ map (λ (j : Job P). j.pass) done
           → AreAll (λ p. (rest p).context) has level tag count passes
       passes_back passes are = record {
-        all = ap length are ∙ length-map done (λ (j : Job P). j.pass) ∙ many ∙ all;
+        all = ap length are ∙ length-map done (λ (j : Job P). j.pass) ∙ many;
         each = λ k p e.
             let found = stands_for (λ (j : Job P). j.pass) done k p (ap (λ (l : List P). slice_get l k) (sym are) ∙ e) in
-            subst (λ q. IsNumber has level tag k (rest q).context) found.2 (all_ended k found.0 found.1).job.pass_is;
+            subst (λ q. IsNumber has level tag k (rest q).context) found.2 (each k found.0 found.1).job.pass_is;
       }
 
       module _ (shares : List ShareState) (are : shares ≡ map (λ (j : Job P). j.share) done) where
         pub shares_many : length shares ≡ count
-        shares_many = ap length are ∙ length-map done (λ (j : Job P). j.share) ∙ many ∙ all
+        shares_many = ap length are ∙ length-map done (λ (j : Job P). j.share) ∙ many
 
         -- the shares are those of the callers
         pub shares_back : (k : ℕ) (s : ShareState) → slice_get shares k ≡ Some s → IsShareIn (course_of tag) k s
         shares_back k s e =
             let found = stands_for (λ (j : Job P). j.share) done k s (ap (λ (l : List ShareState). slice_get l k) (sym are) ∙ e) in
-            subst (IsShareIn (course_of tag) k) found.2 (all_ended k found.0 found.1).job.share_is
+            subst (IsShareIn (course_of tag) k) found.2 (each k found.0 found.1).job.share_is
 
         -- and have made all their turns, but for those of callers that may stop
         pub shares_made : (k : ℕ) (s : ShareState) → slice_get shares k ≡ Some s → ¬ stops k → s.made ≡ s.quota
         shares_made k s e =
             let found = stands_for (λ (j : Job P). j.share) done k s (ap (λ (l : List ShareState). slice_get l k) (sym are) ∙ e) in
-            subst (λ (t : ShareState). ¬ stops k → t.made ≡ t.quota) found.2 (all_ended k found.0 found.1).made
+            subst (λ (t : ShareState). ¬ stops k → t.made ≡ t.quota) found.2 (each k found.0 found.1).made
 
 blank : ShareState
 blank = record {

@@ -29,6 +29,11 @@ module _ {P : Type 0} (rest : P → Rest) where
     pub share : after.share ≡ record before.share { made = after.share.made }
     pub ended : ¬ stops before.share.caller → after.share.made ≡ before.share.quota
 
+  -- the job is that of the caller with this number, which has made all its turns, unless it may stop
+  pub record IsEnded (stops : ℕ → Type 0) (has : Context → Type 0) (level : ℕ) (tag : Tag) (number : ℕ) (j : Job P) : Type 0 where
+    pub job : IsJob has level tag number j
+    pub made : ¬ stops number → j.share.made ≡ j.share.quota
+
 -- the lists are empty, and have room for so many
 pub record AreEmpty {P : Type 0} (room : ℕ) (lists : Lists P) : Type 0 where
   pub passes : lists.passes.items ≡ []

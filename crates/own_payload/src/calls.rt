@@ -17,6 +17,8 @@ impl Model for Calls {
 // It owns nothing.
 unsafe impl Send for Calls {}
 
+unsafe impl Sync for Calls {}
+
 impl Calls {
     /// No calls.
     pub fn new() -> Calls

@@ -1,9 +1,10 @@
 //! A run of all callers, each in a thread of its own.
-ghost use Rattle.std.specs.Prelude.{◌≡◌, ℕ, slice_get, All, IfSome, Some};
+ghost use Rattle.std.specs.Prelude.{◌≡◌, ℕ, length, slice_get, All, IfSome, Some};
 ghost use Rattle.lock_rules.specs.Tag.{leaf};
 ghost use Rattle.keep_local.specs.States.{IsShareOf};
+ghost use Rattle.clof_compose.specs.Courses.{course_of};
 ghost use Rattle.clof_compose.specs.Roots.{IsFit, root_tag};
-ghost use Rattle.own_payload.specs.Jobs.{EachEnded, HasServed, MayWork};
+ghost use Rattle.own_payload.specs.Jobs.{AreEmpty, EachEnded, HasServed, IsEnded, MayWork};
 ghost use Rattle.own_payload.specs.Ready.{IsReady};
 
 use crate::holding::serve_caller;
@@ -73,9 +74,30 @@ where
         value: PhantomData,
     };
     let jobs = by_all(rt, &shift, jobs);
+    Some(close_ended(lock, jobs, lists, server))
+}
+
+/// Takes a lock apart whose callers have all ended, and gives its root: its trail and the shares show each other how many turns each
+/// caller has made. The lists are the emptied ones that `deal` gave.
+pub fn close_ended<T: Drop, C: Composed<Noted<T>> + Drop, S: Serves<T>>(
+    lock: C,
+    jobs: Vec<Job<C::Pass>>,
+    lists: Lists<C::Pass>,
+    _server: &S,
+) -> Root<Noted<T>>
+    requires sound { C.sound lock }
+    requires quotas { C.count lock ≡ length (course_of (C.tag lock)).quotas }
+    requires many { length jobs.items ≡ C.count lock }
+    requires each { (k : ℕ) (j : _) → slice_get jobs.items k ≡ Some j → IsEnded C.Pass.rest (S.stops _server.now) (C.has lock)
+        (C.level lock) (C.tag lock) k j }
+    requires emptied { AreEmpty (C.count lock) lists }
+    ensures fit { IsFit (λ n. n.calls.callers) result }
+    ensures tagged { root_tag (λ _. leaf 0) result ≡ C.tag lock }
+    ensures ended { EachEnded (S.stops _server.now) result.trail }
+{
     let Lists { passes, shares } = gather(jobs, lists);
     let root = lock.close(passes);
-    Some(agreed(root, shares))
+    agreed(root, shares)
 }
 
 // The same root: its trail and the shares show each other how many turns each caller has made.
