@@ -5,8 +5,9 @@
 //! with a trail that keeps no turns in memory.
 #![tactic(auto)]
 
-mod given;
+mod jobs;
 mod rising;
 mod runs;
+mod tasked;
 
 pub use runs::{run, serve};

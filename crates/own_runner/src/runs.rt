@@ -4,14 +4,15 @@ ghost use Rattle.lock_rules.specs.Tag.{leaf};
 ghost use Rattle.keep_local.specs.Shapes.{IsWellFormed, callers_of, top_of};
 ghost use Rattle.keep_local.specs.States.{free_quotas};
 ghost use Rattle.clof_compose.specs.Roots.{IsFit, root_tag};
+ghost use Rattle.lock_rising.specs.Ready.{MayRise};
 ghost use Rattle.own_payload.specs.Jobs.{EachEnded, EachMadeAll};
-ghost use Rattle.own_runner.specs.Runs.{MayRun};
+ghost use Rattle.own_runner.specs.Runs.{AreBrought};
 
-use crate::given::Given;
 use crate::rising::{run_deep, run_flat};
 use clof_compose::Root;
-use keep_local::Shape;
+use keep_local::{Shape, Share};
 use lock_levels::Plan;
+use lock_rising::Given;
 use own_payload::{Always, Noted, Serves, new_root, new_unrecorded_root};
 use std::alloc::Global;
 use std::sync::Wait;
@@ -52,8 +53,8 @@ pub fn run<T: Send + Sync + Drop, F: Fn(&mut T, u32) + Sync, R: Threads + Wait +
         alloc,
         plan,
         shape,
-        shares,
-        server: &server,
+        brought: shares,
+        shared: &server,
     };
     run_given::<T, Always<'_, F>, R>(given, root)
 }
@@ -92,15 +93,15 @@ where
         alloc,
         plan,
         shape,
-        shares,
-        server,
+        brought: shares,
+        shared: server,
     };
     run_given::<T, S, R>(given, root)
 }
 
 // A run around a root, under a lock of as many levels as the plan has.
 fn run_given<'r, T: Send + Sync + Drop, S: Serves<T> + Sync, R: Threads + Wait + Sync>(
-    given: Given<'r, S, R>,
+    given: Given<'r, Vec<Share>, R, S>,
     root: Root<Noted<T>>,
 ) -> Option<Root<Noted<T>>>
 where
@@ -111,11 +112,11 @@ where
     requires callers { 0 < callers_of given.shape.now }
     requires fit { IsFit (λ n. n.calls.callers) root }
     requires shape { root.trail.shape ≡ given.shape.now }
-    requires may { MayRun (root_tag (λ _. leaf 0) root) given.shape.now given.plan.now.kinds given.shares.items }
-    requires asked { (caller : ℕ) → S.may given.server.now caller }
+    requires may { MayRise (root_tag (λ _. leaf 0) root) given.shape.now given.plan.now.kinds AreBrought given.brought }
+    requires asked { (caller : ℕ) → S.may given.shared.now caller }
     ensures fit { IfSome result (IsFit (λ n. n.calls.callers)) }
     ensures tagged { IfSome result (λ r. root_tag (λ _. leaf 0) r ≡ root_tag (λ _. leaf 0) root) }
-    ensures ended { IfSome result (λ r. EachEnded (S.stops given.entry.server.now) r.trail) }
+    ensures ended { IfSome result (λ r. EachEnded (S.stops given.entry.shared.now) r.trail) }
 {
     let top = given.plan.kinds.as_slice().len() - 1;
     if top == 0 {

@@ -1,5 +1,5 @@
 use Rattle.own_payload.proofs.Worked.{all_made}
-use Rattle.own_runner.proofs.Raised.{if_some, may_run, of_quotas, of_recorded, of_shape}
+use Rattle.own_runner.proofs.Roots.{if_some, may_run, of_quotas, of_recorded, of_shape}
 use Rattle.own_runner.proofs.runs.run.Goals as goal
 
 pub run_given-requires-clause-may : goal.run_given-requires-clause-may

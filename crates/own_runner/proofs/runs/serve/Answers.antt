@@ -1,7 +1,7 @@
 use Rattle.std.proofs.lemmas.List.{length-replicate}
 use Rattle.keep_local.specs.Shapes.{callers_of}
 use Rattle.keep_local.specs.States.{free_quota, free_quotas}
-use Rattle.own_runner.proofs.Raised.{may_run, of_quotas, of_recorded, of_shape}
+use Rattle.own_runner.proofs.Roots.{may_run, of_quotas, of_recorded, of_shape}
 use Rattle.own_runner.proofs.runs.serve.Goals as goal
 
 pub run_given-requires-clause-may : goal.run_given-requires-clause-may

@@ -1,42 +1,20 @@
--- A lock that has all of its levels, and what a run leaves.
-use Rattle.std.proofs.Common.{◌≡◌, ℕ, ◌+◌, ◌<◌, ◌^◌, Bool, List, length, ap, refl, sym, ◌∙◌, subst, Option, Some, None}
+-- The root that a lock is made around, and the one that a run leaves.
+use Rattle.std.proofs.Common.{◌≡◌, ℕ, ◌+◌, ◌<◌, ◌^◌, Bool, List, length, ap, refl, sym, ◌∙◌, Option, Some, None}
 use Rattle.std.specs.Prelude.{IfSome}
+use Rattle.std.specs.declared.alloc.Global.{Global}
+use Rattle.std.specs.declared.vec.Vec.{Vec}
 use Rattle.lock_rules.specs.Tag.{Tag, leaf}
 use Rattle.keep_local.specs.declared.shape.Shape.{Shape}
 use Rattle.keep_local.specs.Shapes.{IsWellFormed, callers_of, top_of}
 use Rattle.keep_local.specs.States.{ShareState, new_shares}
 use Rattle.lock_plan.specs.declared.kind.LockKind.{LockKind}
-use Rattle.lock_levels.specs.Raised.{IsRaised}
-use Rattle.clof_compose.specs.Contexts.{Context}
 use Rattle.clof_compose.specs.Courses.{Course, course_of}
-use Rattle.clof_compose.specs.Meanings.{Rest}
 use Rattle.clof_compose.specs.Roots.{root_tag}
 use Rattle.clof_compose.specs.declared.root.Root.{Root}
 use Rattle.clof_compose.proofs.Tops.{course_is}
-use Rattle.own_payload.specs.Ready.{IsReady}
+use Rattle.lock_rising.specs.Ready.{MayRise}
 use Rattle.own_payload.specs.declared.noted.Noted.{Noted}
-use Rattle.own_runner.specs.Runs.{MayRun}
-
-module _ {P : Type 0} {rest : P → Rest} {has : Context → Type 0} {sound : Type 0} {level count : ℕ} {tag : Tag} {shape : Shape}
-    {high : Tag} {passes : List P} (lowest : ℕ) (raised : IsRaised rest has sound level count tag shape lowest high passes) where
-  module _ {kinds : List LockKind} {shares : List ShareState} (may : MayRun high shape kinds shares) where
-    -- which is the one that the run needs
-    pub may_still : MayRun tag shape kinds shares
-    may_still = subst (λ (t : Tag). MayRun t shape kinds shares) (sym raised.tag_is) may
-
-    -- and with its lowest level it is ready
-    pub made_ready : lowest ≡ 0 → IsReady rest has sound level count tag passes shares
-    made_ready is =
-        let own = may_still in
-        let whole = subst (λ (n : ℕ). IsRaised rest has sound level count tag shape n high passes) is raised in
-        record {
-          sound_is = whole.sound_is;
-          lowest = whole.level_is;
-          many = whole.contexts.lowest refl ∙ sym (ap callers_of own.shape_is);
-          all = whole.all;
-          quotas = own.quotas ∙ sym (ap callers_of own.shape_is);
-          dealt = own.dealt;
-        }
+use Rattle.own_runner.specs.Runs.{AreBrought}
 
 module _ {T : Type 0} (root : Root (Noted T)) (t : Tag) (same : root_tag (λ _. leaf 0) root ≡ t) where
   -- whether a root's trail is recorded, its shape and its quotas are what its tag names
@@ -70,17 +48,21 @@ module _ {T : Type 0} (root : Root (Noted T)) (left : Option (Root (Noted T)))
       (λ r same. quotas_named r _ same ∙ sym (quotas_named root _ refl) ∙ is) tagged
 
 -- a new root with all its shares is one that a run can have
-pub may_run : {T : Type 0} (root : Root (Noted T)) (shape : Shape) (quotas : List ℕ) (kinds : List LockKind) (shares : List ShareState)
-    → IsWellFormed shape → callers_of shape < 2 ^ 32 → length kinds ≡ top_of shape + 1 → length quotas ≡ callers_of shape
-    → root.trail.shape ≡ shape → root.trail.quotas ≡ quotas
-    → shares ≡ new_shares (course_of (root_tag (λ _. leaf 0) root)).name quotas → MayRun (root_tag (λ _. leaf 0) root) shape kinds shares
+pub may_run : {T : Type 0} (root : Root (Noted T)) (shape : Shape) (quotas : List ℕ) (kinds : List LockKind)
+    (shares : Vec ShareState Global) → IsWellFormed shape → callers_of shape < 2 ^ 32 → length kinds ≡ top_of shape + 1
+    → length quotas ≡ callers_of shape → root.trail.shape ≡ shape → root.trail.quotas ≡ quotas
+    → shares.items ≡ new_shares (course_of (root_tag (λ _. leaf 0) root)).name quotas
+    → MayRise (root_tag (λ _. leaf 0) root) shape kinds AreBrought shares
 may_run root shape quotas kinds shares formed few each many of_shape of_quotas dealt =
     let named = sym (quotas_named root _ refl) ∙ of_quotas in
+    let shaped = sym (shape_named root _ refl) ∙ of_shape in
     record {
       formed = formed;
       few = few;
-      shape_is = sym (shape_named root _ refl) ∙ of_shape;
+      shape_is = shaped;
       kinds_each = each;
-      quotas = ap length named ∙ many;
-      dealt = dealt ∙ (λ i. new_shares (course_of (root_tag (λ _. leaf 0) root)).name (sym named i));
+      dealt_is = record {
+        quotas = ap length named ∙ many ∙ sym (ap callers_of shaped);
+        dealt = dealt ∙ (λ i. new_shares (course_of (root_tag (λ _. leaf 0) root)).name (sym named i));
+      };
     }

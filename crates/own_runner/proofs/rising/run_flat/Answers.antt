@@ -1,0 +1,12 @@
+use Rattle.own_runner.proofs.rising.run_flat.Goals as goal
+
+pub rise_flat-requires-clause-may : goal.rise_flat-requires-clause-may
+rise_flat-requires-clause-may g c κs within =
+    let may = c.requires.may in
+    record {
+      formed = may.formed;
+      few = may.few;
+      shape_is = may.shape_is;
+      kinds_each = may.kinds_each;
+      dealt_is = (may.dealt_is, c.requires.asked);
+    }
