@@ -3,7 +3,7 @@ use Rattle.std.proofs.Common.{◌≡◌, ℕ, ◌+◌, ◌<◌, ◌≤◌, Bool,
 use Rattle.std.proofs.lemmas.Bool.{and_right, le-leb, lt-leb}
 use Rattle.cpu_set.specs.Sets.{has}
 use Rattle.cpu_set.specs.Texts.{numbers_from}
-use Rattle.cpu_set.proofs.SetLaws.{has-filter, has_first, has_later}
+use Rattle.cpu_set.specs.SetLaws.{has-filter, has_first, has_later}
 
 and_yes : (b : Bool) → (b && true) ≡ b
 and_yes true = refl

@@ -7,7 +7,7 @@ use Rattle.std.specs.List.{range_with_len, list_any, Contains}
 use Rattle.std.proofs.lemmas.Bool.{false_from_ne_true, false≢true}
 use Rattle.std.proofs.lemmas.List.Elements.{All-cons, All-nil}
 use Rattle.cpu_set.specs.Sets.{IsSet, has, numbers_where, union}
-use Rattle.cpu_set.proofs.SetLaws.{has-numbers_below, numbers_below-same, numbers_where-has, Decides-has}
+use Rattle.cpu_set.specs.SetLaws.{has-numbers_below, numbers_below-same, numbers_where-has, Decides-has}
 use Rattle.calc_query.proofs.Ranges.{any_more}
 
 or_none : (b : Bool) → (b || false) ≡ b

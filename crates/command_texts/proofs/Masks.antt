@@ -3,7 +3,7 @@ use Rattle.std.proofs.Common.{◌≡◌, ◌<◌, ◌+◌, ℕ, List, [], ◌∷
 use Rattle.std.specs.Prelude.{slice_get}
 use Rattle.std.proofs.lemmas.List.Elements.{All-cons, All-nil}
 use Rattle.cpu_set.specs.Sets.{IsSet, union}
-use Rattle.cpu_set.proofs.SetLaws.{numbers_where-has}
+use Rattle.cpu_set.specs.SetLaws.{numbers_where-has}
 
 pub first_below : (set : List ℕ) (n : ℕ) → IsSet set → Some n ≡ slice_get set 0 → n < 4096
 first_below [] n is first = cc

@@ -44,7 +44,7 @@ use Rattle.std.proofs.Math.Nat.{pow-suc, div-eq_of_lt-le}
 use Rattle.std.proofs.lemmas.Nat.{leading_top}
 use Rattle.std.proofs.lemmas.Nat.Bits.{bit_at-trailing_zeros, bit_at_above}
 use Rattle.cpu_set.specs.Sets.{has, IsSet}
-use Rattle.cpu_set.proofs.SetLaws.{Rises, Rises-from_increasing, has_below, has_first, has_later, filter_in, filter_out}
+use Rattle.cpu_set.specs.SetLaws.{Rises, Rises-from_increasing, has_below, has_first, has_later, filter_in, filter_out}
 use Rattle.cpu_set.specs.Texts.{numbers_from, highest}
 
 later_none : (x n : ℕ) (xs : List ℕ) → has (x ∷ xs) n ≡ false → has xs n ≡ false

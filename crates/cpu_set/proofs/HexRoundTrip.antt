@@ -69,9 +69,9 @@ use Rattle.std.proofs.lemmas.Nat.Bits.{bit_at-zero}
 use Rattle.std.proofs.lemmas.Str.{digit_value-digit_char}
 use Rattle.cpu_set.specs.declared.fault.SetFault.TheVariants.{Form, TooLarge, Infinite}
 use Rattle.cpu_set.specs.Sets.{has, IsSet}
-use Rattle.cpu_set.proofs.SetLaws.{numbers_below-same, numbers_where-has, has-past}
+use Rattle.cpu_set.specs.SetLaws.{numbers_below-same, numbers_where-has, has-past}
 use Rattle.cpu_set.specs.Bits.{word_of}
-use Rattle.cpu_set.proofs.WordLaws.{word_of-below, is_bit-word_of}
+use Rattle.cpu_set.specs.WordLaws.{word_of-below, is_bit-word_of}
 use Rattle.cpu_set.specs.Texts.{hex_digits, hex_text, word_text, places_down, highest}
 use Rattle.byte_text.specs.Numerals.{is_numeral}
 use Rattle.byte_text.proofs.NumeralLaws.{Decides-is_numeral}

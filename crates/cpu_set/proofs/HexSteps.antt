@@ -48,7 +48,7 @@ use Rattle.byte_text.specs.declared.numerals.Numeral.TheVariants.{Number, TooLar
 use Rattle.byte_text.specs.Numerals.{Reads, is_numeral}
 use Rattle.byte_text.proofs.NumeralLaws.{Decides-is_numeral}
 use Rattle.cpu_set.specs.Sets.{has, numbers_where, IsSet}
-use Rattle.cpu_set.proofs.SetLaws.{has-numbers_below, numbers_below-same, IsSet-numbers_where, numbers_where-has}
+use Rattle.cpu_set.specs.SetLaws.{has-numbers_below, numbers_below-same, IsSet-numbers_where, numbers_where-has}
 use Rattle.cpu_set.specs.Readings.{parts_of, leftmost, without_prefix, word_value, is_word, hex_rule, word_at, is_in_hex}
 use Rattle.cpu_set.proofs.PartLemmas.{parts_left, spanned, spanned-parts_of, length-parts_of, leftmost-good}
 use Rattle.cpu_set.proofs.SetSteps.{or_false, same_le}

@@ -11,9 +11,7 @@ pub mod PartLemmas
 pub mod ReadLaws
 pub mod RunLaws
 pub mod Searches
-pub mod SetLaws
 pub mod SetSteps
 pub mod TasksetText
 pub mod Weights
-pub mod WordLaws
 pub mod TestLaws

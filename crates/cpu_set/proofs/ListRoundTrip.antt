@@ -41,7 +41,7 @@ use Rattle.byte_text.specs.declared.numerals.Numeral.TheVariants.{Number}
 use Rattle.byte_text.specs.Cuts.{IsCutAt}
 use Rattle.byte_text.specs.Numerals.{Reads}
 use Rattle.cpu_set.specs.Sets.{has, IsSet}
-use Rattle.cpu_set.proofs.SetLaws.{numbers_below-same, numbers_where-has}
+use Rattle.cpu_set.specs.SetLaws.{numbers_below-same, numbers_where-has}
 use Rattle.cpu_set.specs.Texts.{runs_of, onto_runs, run_text, list_text}
 use Rattle.cpu_set.specs.Readings.{items_of, leftmost, list_rule, covers, is_in_list, low_value, high_value, ReadsList}
 use Rattle.cpu_set.proofs.HexRoundTrip.{NoComma, parts_of-join}

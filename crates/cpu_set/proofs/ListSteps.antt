@@ -81,7 +81,7 @@ use Rattle.cpu_set.specs.Readings.{
   ReadsList,
 }
 use Rattle.cpu_set.specs.Sets.{has, numbers_where, IsSet}
-use Rattle.cpu_set.proofs.SetLaws.{has-numbers_below, numbers_below-same, IsSet-numbers_where, numbers_where-has}
+use Rattle.cpu_set.specs.SetLaws.{has-numbers_below, numbers_below-same, IsSet-numbers_where, numbers_where-has}
 use Rattle.cpu_set.proofs.PartLemmas.{parts_left, none_is, spanned, spanned-parts_of, leftmost-good}
 use Rattle.cpu_set.proofs.SetSteps.{and_true, or_false, or_assoc}
 

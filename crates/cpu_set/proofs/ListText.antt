@@ -37,7 +37,7 @@ use Rattle.std.proofs.lemmas.Bool.{eq-eqb, ne_eqb, and_parts, leb-true, false≢
 use Rattle.std.proofs.lemmas.Fmt.{decimal_digit, decimal_step, decimal_nonempty, length-decimal-le}
 use Rattle.std.proofs.lemmas.List.{length-append}
 use Rattle.cpu_set.specs.Sets.{has, IsSet}
-use Rattle.cpu_set.proofs.SetLaws.{has-filter, has_first, has-past, Decides-has}
+use Rattle.cpu_set.specs.SetLaws.{has-filter, has_first, has-past, Decides-has}
 use Rattle.cpu_set.specs.Texts.{numbers_from, runs_of, onto_runs, run_text, list_text}
 use Rattle.cpu_set.proofs.Ends.{numbers_from-found, numbers_from-zero}
 use Rattle.cpu_set.proofs.HexText.{join_first, flat_map-map}

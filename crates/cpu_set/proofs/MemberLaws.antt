@@ -5,7 +5,7 @@ use Rattle.std.specs.List.{Contains}
 use Rattle.std.proofs.lemmas.Bool.{cases_lt, false≢true}
 use Rattle.std.proofs.lemmas.Bool.Decides.{same_from_decides, Decides-like, Decides-and, Decides-or, Decides-not}
 use Rattle.cpu_set.specs.Sets.{has, numbers_where, IsSet}
-use Rattle.cpu_set.proofs.SetLaws.{has-numbers_below, has-numbers_below_past, IsSet-numbers_where, same_set, Decides-has, has-past}
+use Rattle.cpu_set.specs.SetLaws.{has-numbers_below, has-numbers_below_past, IsSet-numbers_where, same_set, Decides-has, has-past}
 use Rattle.cpu_set.specs.Laws.{HasJust, SameByMembers, CombinesSets}
 
 numbers-HasJust : (test : ℕ → Bool) (n : ℕ) → Contains (numbers_where test) n ↔ ((n < 4096) × IsTrue (test n))

@@ -2,7 +2,7 @@
 use Rattle.std.proofs.Common.{◌≡◌, ℕ, List, Option, Some, None, refl, sym, ◌∙◌, ◌⊎◌, inl, inr}
 use Rattle.cpu_set.specs.declared.fault.SetFault.{SetFault}
 use Rattle.cpu_set.specs.Sets.{numbers_where}
-use Rattle.cpu_set.proofs.SetLaws.{IsSet-numbers_where}
+use Rattle.cpu_set.specs.SetLaws.{IsSet-numbers_where}
 use Rattle.cpu_set.specs.Readings.{hex_fault, is_in_hex, ReadsHex, HexRefused, list_fault, is_in_list, ReadsList, ListRefused}
 use Rattle.cpu_set.specs.Laws.{ExactlyOne, ReadsSets}
 

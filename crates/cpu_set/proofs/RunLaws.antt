@@ -30,7 +30,7 @@ use Rattle.std.specs.List.{AllByRecursion, AllAdjacentBelow, flat_map, range_wit
 use Rattle.std.proofs.lemmas.Bool.{eqb-true, eqb-false}
 use Rattle.std.proofs.lemmas.List.Elements.{All-from_recursion}
 use Rattle.cpu_set.specs.Sets.{IsSet}
-use Rattle.cpu_set.proofs.SetLaws.{Rises}
+use Rattle.cpu_set.specs.SetLaws.{Rises}
 use Rattle.cpu_set.specs.Texts.{onto_runs, runs_of}
 use Rattle.cpu_set.specs.Laws.{AreMaximalRuns}
 use Rattle.cpu_set.proofs.Ends.{rising}

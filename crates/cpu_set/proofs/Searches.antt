@@ -52,9 +52,9 @@ use Rattle.std.proofs.lemmas.Nat.{and_le_l}
 use Rattle.std.proofs.lemmas.Nat.Bits.{ones_shl, bit_at-zero}
 use Rattle.cpu_set.specs.Sets.{has, IsSet}
 use Rattle.cpu_set.specs.Tests.{meets, is_inside}
-use Rattle.cpu_set.proofs.SetLaws.{has-past, Decides-has}
+use Rattle.cpu_set.specs.SetLaws.{has-past, Decides-has}
 use Rattle.cpu_set.specs.Bits.{is_bit_of, AreWords, set_of_words}
-use Rattle.cpu_set.proofs.WordLaws.{is_bit_of-at, test_from_bit}
+use Rattle.cpu_set.specs.WordLaws.{is_bit_of-at, test_from_bit}
 use Rattle.cpu_set.specs.Texts.{numbers_from, highest}
 use Rattle.cpu_set.proofs.Ends.{
   LowestBit-trailing_zeros,

@@ -73,7 +73,7 @@ use Rattle.std.proofs.lemmas.Nat.Bits.{
 use Rattle.std.specs.Bool.{Decides}
 use Rattle.std.proofs.lemmas.Nat.{shl_whole, or_lt, xor_lt, and_le_l}
 use Rattle.cpu_set.specs.Sets.{has, numbers_below, numbers_where, IsSet, union, minus, meet, xor}
-use Rattle.cpu_set.proofs.SetLaws.{
+use Rattle.cpu_set.specs.SetLaws.{
   has-numbers_below,
   numbers_below-same,
   IsSet-numbers_where,
@@ -83,7 +83,7 @@ use Rattle.cpu_set.proofs.SetLaws.{
   has-past,
 }
 use Rattle.cpu_set.specs.Bits.{is_bit_of, AreWords, set_of_words, word_of}
-use Rattle.cpu_set.proofs.WordLaws.{word_of-set_of_words}
+use Rattle.cpu_set.specs.WordLaws.{word_of-set_of_words}
 
 zero_at : (places place : ℕ) → get_or {A = ℕ} (replicate places 0) place 0 ≡ 0
 zero_at zero place = refl

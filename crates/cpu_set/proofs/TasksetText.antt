@@ -44,7 +44,7 @@ use Rattle.std.proofs.lemmas.Nat.{pow-add, pow_pos}
 use Rattle.std.proofs.lemmas.Nat.Bits.{bit_at_cat_low, bit_at_above, bit_at-zero}
 use Rattle.cpu_set.specs.Sets.{has, IsSet}
 use Rattle.cpu_set.specs.Bits.{word_of, mask_of}
-use Rattle.cpu_set.proofs.WordLaws.{is_bit-number_with_bits, number_with_bits-below, is_bit-word_of, same_from_tests}
+use Rattle.cpu_set.specs.WordLaws.{is_bit-number_with_bits, number_with_bits-below, is_bit-word_of, same_from_tests}
 use Rattle.cpu_set.specs.Texts.{hex_digits, hex_number, taskset_text, highest}
 use Rattle.cpu_set.proofs.Ends.{highest-among, highest-above}
 use Rattle.cpu_set.proofs.HexText.{hex_digits-none, hex_digits-suc, pow_of_16, nibble, DigitsSoFar, digits_end}

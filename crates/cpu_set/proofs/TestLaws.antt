@@ -16,7 +16,7 @@ use Rattle.std.proofs.lemmas.Bool.{
 }
 use Rattle.cpu_set.specs.Sets.{has, numbers_where}
 use Rattle.cpu_set.specs.Tests.{meets, is_inside}
-use Rattle.cpu_set.proofs.SetLaws.{has-numbers_below, has-numbers_below_past}
+use Rattle.cpu_set.specs.SetLaws.{has-numbers_below, has-numbers_below_past}
 
 -- tests that pass together are one test
 pub same_tests : (one other : Bool) → (one ≡ true → other ≡ true) → (other ≡ true → one ≡ true) → one ≡ other

@@ -38,7 +38,7 @@ use Rattle.std.proofs.lemmas.List.FromFn.{length-range_with_len}
 use Rattle.std.proofs.lemmas.Nat.Bits.{bit_at_lowest, bit_at-suc}
 use Rattle.cpu_set.specs.Sets.{numbers_below}
 use Rattle.cpu_set.specs.Bits.{is_bit_of, AreWords, set_of_words}
-use Rattle.cpu_set.proofs.WordLaws.{is_bit_of-at, bit_from_test}
+use Rattle.cpu_set.specs.WordLaws.{is_bit_of-at, bit_from_test}
 use Rattle.cpu_set.proofs.SetSteps.{narrow_word}
 
 at_most_one : (passes : Bool) → cond passes 1 0 ≤ 1

@@ -52,7 +52,7 @@ impl Model for CpuSet {
     ghost use Rattle.std.specs.Prelude.{ℕ, List};
     ghost use Rattle.std.proofs.Common.{ap};
     ghost use Rattle.cpu_set.specs.Bits.{AreWords, set_of_words, words_of_set};
-    ghost use Rattle.cpu_set.proofs.WordLaws.{words_of_set_of_words};
+    ghost use Rattle.cpu_set.specs.WordLaws.{words_of_set_of_words};
 
     ghost Value = { List ℕ };
 

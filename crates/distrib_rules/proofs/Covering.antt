@@ -8,7 +8,7 @@ use Rattle.std.proofs.lemmas.List.{reverse-append}
 use Rattle.std.proofs.lemmas.List.Folds.{list_any-append}
 use Rattle.std.proofs.lemmas.List.Sums.{sum_by-cons}
 use Rattle.cpu_set.specs.Sets.{has, union}
-use Rattle.cpu_set.proofs.SetLaws.{has-numbers_below}
+use Rattle.cpu_set.specs.SetLaws.{has-numbers_below}
 use Rattle.synth_text.specs.declared.description.Description.{Description}
 use Rattle.topo_tree.specs.Objects.{count_at, arity_at}
 use Rattle.topo_tree.specs.Building.{IsBuilt}

@@ -5,7 +5,7 @@ use Rattle.std.specs.Option.{option_and_then}
 use Rattle.std.proofs.lemmas.Option.{slice_get_within, get_or_from_slice_get}
 use Rattle.std.proofs.lemmas.List.Elements.{All-get_or}
 use Rattle.cpu_set.specs.Sets.{numbers_below}
-use Rattle.cpu_set.proofs.SetLaws.{numbers_below_within}
+use Rattle.cpu_set.specs.SetLaws.{numbers_below_within}
 use Rattle.synth_text.specs.declared.kind.Kind.{Kind}
 use Rattle.synth_text.specs.declared.kind.Kind.TheVariants.{Machine, Package, Die, Group, L5, L4, L3, L2, L1d, L1i, Core, Pu, NumaNode}
 use Rattle.synth_text.specs.declared.name.Name.{Name}

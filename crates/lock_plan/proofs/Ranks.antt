@@ -20,8 +20,8 @@ use Rattle.std.proofs.lemmas.List.Kept.{Contains-dedup_nat, Contains-from_dedup}
 use Rattle.std.proofs.lemmas.List.Sorted.{All-permutation, Contains-permutation, IsPermutation-sym}
 use Rattle.std.proofs.lemmas.Map.Keys.{IsStrictlyIncreasing-dedup}
 use Rattle.cpu_set.specs.Sets.{has, numbers_below}
-use Rattle.cpu_set.proofs.SetLaws.{Decides-has, has-numbers_below, numbers_below_ascends, numbers_below_within, numbers_below-has}
-use Rattle.cpu_set.proofs.SetLaws.{numbers_below-same}
+use Rattle.cpu_set.specs.SetLaws.{Decides-has, has-numbers_below, numbers_below_ascends, numbers_below_within, numbers_below-has}
+use Rattle.cpu_set.specs.SetLaws.{numbers_below-same}
 use Rattle.synth_text.specs.declared.description.Description.{Description}
 use Rattle.synth_text.specs.Rules.{pu_count}
 use Rattle.synth_text.specs.Sound.{IsSound}

@@ -64,7 +64,7 @@ use Rattle.std.proofs.lemmas.List.{get_or-drop, length-drop, take_more}
 use Rattle.cpu_set.specs.Sets.{has, numbers_below}
 use Rattle.cpu_set.specs.Tests.{meets, is_inside}
 use Rattle.cpu_set.proofs.TestLaws.{same_tests, passes-has, inside-at, inside-by, meets-none}
-use Rattle.cpu_set.proofs.SetLaws.{has-numbers_below}
+use Rattle.cpu_set.specs.SetLaws.{has-numbers_below}
 use Rattle.topo_tree.specs.Numbers.{is_bad}
 use Rattle.topo_tree.proofs.Covered.{AreGood, set_between}
 

@@ -1,7 +1,7 @@
 -- Depths of a kind, by their order.
 use Rattle.std.proofs.Common.{◌≡◌, ℕ, suc, ◌+◌, ◌-◌, ◌<◌, Bool, true, false, List, ◌∷◌, refl, ap, ◌∙◌, arith}
 use Rattle.std.specs.List.{range_with_len, filter, slice_get}
-use Rattle.cpu_set.proofs.SetLaws.{filter_in, filter_out}
+use Rattle.cpu_set.specs.SetLaws.{filter_in, filter_out}
 
 -- what a range that isn't empty begins with
 range_first : (depth count : ℕ) → depth < count

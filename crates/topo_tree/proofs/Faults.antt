@@ -42,7 +42,7 @@ use Rattle.std.proofs.lemmas.Bool.{cases_lt, ne_eqb}
 use Rattle.std.proofs.lemmas.Bool.Decides.{nat_tests, same_from_decides}
 use Rattle.std.proofs.lemmas.List.FromFn.{take-map-range_with_len, get_or-map-range_with_len, length-map-range_with_len}
 use Rattle.cpu_set.specs.Sets.{has, numbers_where}
-use Rattle.cpu_set.proofs.SetLaws.{has-numbers_below, Decides-has}
+use Rattle.cpu_set.specs.SetLaws.{has-numbers_below, Decides-has}
 use Rattle.synth_text.specs.declared.description.Indexes.{Indexes}
 use Rattle.synth_text.specs.declared.description.Indexes.TheVariants as indexes
 use Rattle.topo_tree.specs.declared.fault.BuildFault.TheVariants as faults

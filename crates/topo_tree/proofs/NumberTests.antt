@@ -4,7 +4,7 @@ use Rattle.std.specs.List.{All, Contains, list_any}
 use Rattle.std.proofs.lemmas.Bool.{eq-eqb, false≢true, or_left, or_right, or_cases}
 use Rattle.std.proofs.lemmas.List.{take_all}
 use Rattle.cpu_set.specs.Sets.{has, numbers_where}
-use Rattle.cpu_set.proofs.SetLaws.{has-numbers_below, Decides-has}
+use Rattle.cpu_set.specs.SetLaws.{has-numbers_below, Decides-has}
 use Rattle.cpu_set.specs.Tests.{meets, is_inside}
 use Rattle.cpu_set.proofs.TestLaws.{same_tests, passes-has, inside-at, inside-by, meets-by}
 use Rattle.topo_tree.proofs.CoverLaws.{has_take}

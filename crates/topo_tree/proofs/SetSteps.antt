@@ -24,7 +24,7 @@ use Rattle.std.proofs.Common.{
 }
 use Rattle.std.proofs.lemmas.List.{take_more}
 use Rattle.cpu_set.specs.Sets.{has, numbers_where, union}
-use Rattle.cpu_set.proofs.SetLaws.{has-numbers_below, numbers_below-same, numbers_where-has}
+use Rattle.cpu_set.specs.SetLaws.{has-numbers_below, numbers_below-same, numbers_where-has}
 
 or_assoc : (a b c : Bool) → ((a || b) || c) ≡ (a || (b || c))
 or_assoc true b c = refl

@@ -2,7 +2,7 @@ use Rattle.std.proofs.Common.{◌≡◌, ℕ, ◌+◌, Bool, ◌&&◌, sym, ap, 
 use Rattle.std.specs.List.{range_with_len}
 use Rattle.std.proofs.lemmas.Bool.{and_left}
 use Rattle.cpu_set.specs.Sets.{has, numbers_where, union}
-use Rattle.cpu_set.proofs.SetLaws.{has-numbers_below}
+use Rattle.cpu_set.specs.SetLaws.{has-numbers_below}
 use Rattle.topo_tree.specs.Coverage.{set_of}
 use Rattle.calc_query.specs.Candidates.{candidates}
 use Rattle.calc_query.specs.Selection.{is_picked_among, selected_inside}

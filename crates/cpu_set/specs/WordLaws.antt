@@ -39,7 +39,7 @@ use Rattle.std.proofs.lemmas.List.Elements.{All-get_or}
 use Rattle.std.proofs.lemmas.List.FromFn.{sum_by-map-range_with_len_more, fill_by_all}
 use Rattle.std.proofs.lemmas.Nat.Bits.{bit_at_cat_low, bit_at_cat_high, bit_at-lt, bit_at_lowest, same_from_bits_below}
 use Rattle.cpu_set.specs.Sets.{has}
-use Rattle.cpu_set.proofs.SetLaws.{has-numbers_below}
+use Rattle.cpu_set.specs.SetLaws.{has-numbers_below}
 use Rattle.cpu_set.specs.Bits.{number_with_bits, word_of, is_bit_of, AreWords, set_of_words, first_words_of_set, words_of_set}
 
 -- a bit is 1 or 0
