@@ -9,5 +9,4 @@ pub mod Counting
 pub mod Kinds
 pub mod KeptKinds
 pub mod Words
-pub mod Witnesses
 pub mod Calls

@@ -5,11 +5,10 @@ ghost use Rattle.lock_rules.specs.Views.{lock_name};
 ghost use Rattle.lock_rules.specs.declared.view.Waiters.{Waiters};
 ghost use Rattle.lock_tables.specs.Laws.{RuleIsBasic};
 ghost use Rattle.lock_tables.specs.Rule.{Discipline};
-ghost use Rattle.lock_tables.specs.Witnesses.{witnessed};
 ghost use Rattle.lock_tables.specs.Words.{words_key, words_table};
 
 use crate::lock_words::LockWords;
-use crate::rule::{Disciplined, rule_is_basic};
+use crate::rule::Disciplined;
 use crate::witness::Witness;
 use lock_rules::{Basic, Cargo, Held, Leave, Pass, Queue};
 
@@ -18,8 +17,8 @@ pub trait Learner<V: Cargo>: Sized {
     // What it learns of a lock whose table is under the rule of this discipline, and that learns of waiters in this way.
     ghost learns: { Self → Discipline → TableId → Waiters → Type 0 };
 
-    fn learn<D: Disciplined>(self, witness: Witness<'_, V, D>)
-        ensures { learns self D.discipline (words_table (witnessed witness)) (words_key (witnessed witness)).waiters };
+    fn learn<W: Witness<V>>(self, witness: &W)
+        ensures { learns self W.discipline (W.table witness.now) (W.choice witness.now) };
 }
 
 impl<V: Cargo, D: Disciplined> LockWords<V, D> {
@@ -27,7 +26,7 @@ impl<V: Cargo, D: Disciplined> LockWords<V, D> {
     pub fn show<L: Learner<V>>(&self, learner: L)
         ensures { L.learns learner D.discipline (words_table self.now) (words_key self.now).waiters }
     {
-        learner.learn(Witness { words: self });
+        learner.learn(self);
     }
 }
 
@@ -66,8 +65,9 @@ struct Points;
 impl<V: Cargo> Learner<V> for Points {
     ghost learns = { λ _ d _ _. RuleIsBasic d V.fit V.tag V.parked };
 
-    fn learn<D: Disciplined>(self, witness: Witness<'_, V, D>) {
-        let _ = witness;
-        rule_is_basic::<V, D>();
+    fn learn<W: Witness<V>>(self, witness: &W)
+        ensures { RuleIsBasic W.discipline V.fit V.tag V.parked }
+    {
+        witness.is_basic();
     }
 }

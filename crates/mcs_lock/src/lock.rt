@@ -236,7 +236,9 @@ impl<V: Cargo> Ruled<V> for Mcs<V> {
 
     ghost waiters = { λ l. (words_key l.words).waiters };
 
-    fn show<L: Learner<V>>(&self, learner: L) {
+    fn show<L: Learner<V>>(&self, learner: L)
+        ensures { L.learns learner mcs_discipline (words_table self.now.words) (words_key self.now.words).waiters }
+    {
         self.words.show(learner);
     }
 
