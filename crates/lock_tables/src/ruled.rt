@@ -22,7 +22,7 @@ pub trait Learner<V: Cargo>: Sized {
 }
 
 impl<V: Cargo, D: Disciplined> LockWords<V, D> {
-    /// Shows a witness of these words.
+    /// Shows these words as a witness.
     pub fn show<L: Learner<V>>(&self, learner: L)
         ensures { L.learns learner D.discipline (words_table self.now) (words_key self.now).waiters }
     {
@@ -42,8 +42,8 @@ pub trait Ruled<V: Cargo>: Basic<V, Pass = Pass, Queue = Queue, Held = Held<V>, 
 
     ghost waiters: { Self → Waiters };
 
-    /// Shows a witness of its words. A lock that doesn't know its learner can keep the clause in one way alone: it has words whose table is
-    /// this one and whose algorithm has this discipline, and shows their witness.
+    /// Shows its words. A lock that doesn't know its learner can keep the clause in one way alone: it has words whose table is this one and
+    /// whose algorithm has this discipline, and shows them.
     fn show<L: Learner<V>>(&self, learner: L)
         ensures { L.learns learner (discipline self.now) (table self.now) (waiters self.now) };
 
