@@ -20,8 +20,14 @@ impl<V: Cargo> Ruled<V> for AnyLock<V> {
     ghost waiters = { λ l. by_kind ⟦<Ticket<V> as Ruled<V>>⟧.waiters ⟦<Mcs<V> as Ruled<V>>⟧.waiters ⟦<Clh<V> as Ruled<V>>⟧.waiters
         ⟦<Hemlock<V> as Ruled<V>>⟧.waiters l.lock };
 
-    /// The witness is that of the words of the lock inside.
-    fn show<L: Learner<V>>(&self, learner: L) {
+    /// The witness is the words of the lock inside.
+    fn show<L: Learner<V>>(&self, learner: L)
+        ensures { L.learns learner (discipline_of self.now.lock)
+            (by_kind ⟦<Ticket<V> as Ruled<V>>⟧.table ⟦<Mcs<V> as Ruled<V>>⟧.table ⟦<Clh<V> as Ruled<V>>⟧.table
+            ⟦<Hemlock<V> as Ruled<V>>⟧.table self.now.lock)
+            (by_kind ⟦<Ticket<V> as Ruled<V>>⟧.waiters ⟦<Mcs<V> as Ruled<V>>⟧.waiters ⟦<Clh<V> as Ruled<V>>⟧.waiters
+            ⟦<Hemlock<V> as Ruled<V>>⟧.waiters self.now.lock) }
+    {
         match &self.lock {
             Kinds::Ticket(lock) => lock.show(learner),
             Kinds::Mcs(lock) => lock.show(learner),
