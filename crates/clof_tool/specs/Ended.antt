@@ -79,7 +79,8 @@ abbrev pub IsComplete : List (String Global) → Reads → Reads → Writes → 
 IsComplete words source source_now out out_now status =
     (asked : Asked) → Says words asked → ((wanted : Status) → WordsRefused asked wanted → ⊥)
     → (ReadsInput asked → IsAccepted asked source.left) → (ReadsInput asked → Rose source.faults source_now.faults → ⊥)
-    → (Rose out.faults out_now.faults → ⊥) → (Rose out.stalls out_now.stalls → ⊥) → UnlessMemory statuses.OutOfMemory status (status ≡ statuses.Ok)
+    → (Rose out.faults out_now.faults → ⊥) → (Rose out.stalls out_now.stalls → ⊥)
+    → UnlessMemory statuses.OutOfMemory status (status ≡ statuses.Ok)
 
 -- how a call on words ends
 pub record Ended (words : List (String Global)) (source source_now : Reads) (out out_now err err_now : Writes) (status : Status)
