@@ -3,7 +3,6 @@ mod calc;
 mod distrib;
 mod options;
 mod plan;
-mod reading;
 mod set;
 mod topo;
 
@@ -119,14 +118,14 @@ fn tells_each_fault(rt: HostRuntime) -> Result<(), Fail> {
         let told = format!(in rt.alloc(); "{fault}")?;
         assert_eq!(rt; told.as_str(), wanted);
     }
-    let told = format!(in rt.alloc(); "{OutOfMemory}")?;
-    assert_eq!(rt; told.as_str(), "out of memory");
     Ok(())
 }
 
 // Want of memory has a line too, which no words call forth.
 #[test]
 fn tells_of_wanted_memory(rt: HostRuntime) -> Result<(), Fail> {
+    let told = format!(in rt.alloc(); "{OutOfMemory}")?;
+    assert_eq!(rt; told.as_str(), "out of memory");
     let told = line_of(&Status::OutOfMemory);
     assert_eq!(rt; Status::OutOfMemory.code(), 7);
     assert_eq!(rt; told.as_str(), "clof: out of memory\n");

@@ -117,7 +117,10 @@ where
                 run_under::<P, LowPass, K, J, B, F, G, W, LevelOver<P, H>, R>(given, lock, passes)
             } else {
                 with_third::<P, K, J, B, F, G, W, LevelOver<P, H>, R>(
-                    given, lock, passes, level - 1,
+                    given,
+                    lock,
+                    passes,
+                    level - 1,
                 )
             }
         }
@@ -160,7 +163,10 @@ where
                 run_under::<P, LowPass, K, J, B, F, G, W, LevelOver<P, H>, R>(given, lock, passes)
             } else {
                 with_fourth::<P, K, J, B, F, G, W, LevelOver<P, H>, R>(
-                    given, lock, passes, level - 1,
+                    given,
+                    lock,
+                    passes,
+                    level - 1,
                 )
             }
         }

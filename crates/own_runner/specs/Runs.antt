@@ -34,7 +34,7 @@ module _ {P : Type 0} (rest : P → Rest) where
 
   -- and each has made all its turns, unless it may stop
   pub record HaveEnded (stops : ℕ → Type 0) (has : Context → Type 0) (level count : ℕ) (tag : Tag) (jobs : List (Job P)) (lists : Lists P)
-    : Type 0 where
+      : Type 0 where
     pub quotas : count ≡ length (course_of tag).quotas
     pub many : length jobs ≡ count
     pub each : (k : ℕ) (j : Job P) → slice_get jobs k ≡ Some j → IsEnded rest stops has level tag k j

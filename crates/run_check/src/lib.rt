@@ -11,7 +11,6 @@ mod turns;
 mod verdict;
 
 pub use checking::check;
-
 pub use laws::one_verdict;
 pub use pair::read_pair;
 pub use run_faults::CheckFault;

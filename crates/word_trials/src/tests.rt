@@ -1,4 +1,4 @@
-//! Words, read.
+//! Words, read: what lists of words ask for, and those that are a usage error.
 use command_words::{Asked, Checking, Depths, Question, Running, WordsFault, read_words};
 use std::alloc::Global;
 use std::process::Abort;
