@@ -32,9 +32,10 @@ pub struct Plan {
 
 impl Plan {
     /// The plan that three texts describe for a topology. `levels` is a comma list of names of layers, the lowest level first; a name of
-    /// NUMANode stands for the depth that carries the memory. `locks` is a list of `tkt`, `mcs`, `clh` and `hem` joined by dashes, the
-    /// lowest level's first; where it is absent, each level has MCS. `keeps` is one decimal number for every level below the top, or as
-    /// many as there are such levels, joined by commas. Texts are refused for the first rule that they break (`PlanFault`).
+    /// NUMANode stands for the depth that carries the memory. `locks` is a list of names of kinds (`tkt`, `mcs`, `clh`, `hem`, and
+    /// `tktc`, `mcsc`, `clhc`, `hemc` for those that count their waiters) joined by dashes, the lowest level's first; where it is absent,
+    /// each level has MCS. `keeps` is one decimal number for every level below the top, or as many as there are such levels, joined by
+    /// commas. Texts are refused for the first rule that they break (`PlanFault`).
     pub fn read<T: AsTree>(
         alloc: Global,
         topology: &T,
