@@ -1,5 +1,7 @@
 //! What callers do under a lock around a value: each takes its tasks and holds the lock for each, in a thread of its own.
 ghost use Rattle.std.specs.Prelude.{◌≡◌, ℕ, slice_get, IfErr, IfOk, IfSome, Some};
+ghost use Rattle.lock_rules.specs.Tag.{leaf};
+ghost use Rattle.clof_compose.specs.Roots.{IsFit, root_tag};
 ghost use Rattle.lock_rising.specs.Ready.{AreBack, IsSet};
 ghost use Rattle.own_payload.specs.Jobs.{HasServed, MayWork};
 ghost use Rattle.own_runner.specs.Runs.{AreBrought, AreOpen, HaveEnded, IsLeft};
@@ -114,7 +116,10 @@ impl<T: Drop, Q: Resting, S: Serves<T>> UnderLock<
         }
     }
 
-    fn refused(_server: &S, _root: Root<Noted<T>>) -> Result<Root<Noted<T>>, OutOfMemory> {
+    fn refused(server: &S, root: Root<Noted<T>>) -> Result<Root<Noted<T>>, OutOfMemory>
+        requires fit { IsFit (λ n. n.calls.callers) root }
+        ensures { IfOk result (IsLeft (S.stops server.now) (root_tag (λ _. leaf 0) root)) }
+    {
         Err(OutOfMemory)
     }
 }

@@ -2,7 +2,9 @@
 ghost use Rattle.std.specs.Prelude.{◌≡◌, ◌≤◌, ℕ, [], length, map, slice_get, vec_capacity, IfErr, IfOk, Some};
 ghost use Rattle.keep_local.specs.Shapes.{callers_of};
 ghost use Rattle.clof_compose.specs.Courses.{course_of};
+ghost use Rattle.clof_compose.specs.Roots.{IsFit, root_tag};
 ghost use Rattle.lock_rising.specs.Ready.{AreBack, IsSet};
+ghost use Rattle.fresh_runner.specs.Books.{fresh_book_calls, fresh_book_tag};
 ghost use Rattle.fresh_runner.specs.Crews.{AreEmptied, IsFreshCrew};
 ghost use Rattle.fresh_runner.specs.Jobs.{IsFreshJob, IsFreshServed};
 ghost use Rattle.fresh_runner.specs.Ready.{IsFreshDealt};
@@ -157,7 +159,10 @@ impl<'s, 'a, Q: Resting, G: Gate> UnderLock<
         close_fresh(lock, crew)
     }
 
-    fn refused(_gate: &G, _root: Root<FreshBook<'a>>) -> Result<Marked<'a>, OutOfMemory> {
+    fn refused(_gate: &G, root: Root<FreshBook<'a>>) -> Result<Marked<'a>, OutOfMemory>
+        requires fit { IsFit fresh_book_calls root }
+        ensures { IfOk result (IsLeftMarked (course_of (root_tag fresh_book_tag root))) }
+    {
         Err(OutOfMemory)
     }
 }

@@ -2,7 +2,9 @@
 ghost use Rattle.std.specs.Prelude.{◌≡◌, ◌≤◌, ℕ, [], length, map, slice_get, IfErr, IfOk, Some};
 ghost use Rattle.keep_local.specs.Shapes.{callers_of};
 ghost use Rattle.clof_compose.specs.Courses.{course_of};
+ghost use Rattle.clof_compose.specs.Roots.{IsFit, root_tag};
 ghost use Rattle.lock_rising.specs.Ready.{AreBack, IsSet};
+ghost use Rattle.threaded_runner.specs.Books.{book_calls, book_tag};
 ghost use Rattle.threaded_runner.specs.Crews.{HasRoom, IsCrew};
 ghost use Rattle.threaded_runner.specs.Jobs.{IsJob, IsServed};
 ghost use Rattle.threaded_runner.specs.Ready.{IsDealt};
@@ -159,7 +161,10 @@ impl<'s, 'a, Q: Resting, G: Gate> UnderLock<
         close_run(lock, crew)
     }
 
-    fn refused(_gate: &G, _root: Root<Book<'a>>) -> Result<Finished<'a>, OutOfMemory> {
+    fn refused(_gate: &G, root: Root<Book<'a>>) -> Result<Finished<'a>, OutOfMemory>
+        requires fit { IsFit book_calls root }
+        ensures { IfOk result (IsLeft (course_of (root_tag book_tag root))) }
+    {
         Err(OutOfMemory)
     }
 }
