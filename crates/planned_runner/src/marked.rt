@@ -161,7 +161,7 @@ impl<'s, 'a, Q: Resting, G: Gate> UnderLock<
 
     fn refused(_gate: &G, root: Root<FreshBook<'a>>) -> Result<Marked<'a>, OutOfMemory>
         requires fit { IsFit fresh_book_calls root }
-        ensures { IfOk result (IsLeftMarked (course_of (root_tag fresh_book_tag root))) }
+        ensures { IfOk result (IsLeftMarked (course_of (root_tag fresh_book_tag root.entry))) }
     {
         Err(OutOfMemory)
     }

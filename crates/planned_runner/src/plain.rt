@@ -163,7 +163,7 @@ impl<'s, 'a, Q: Resting, G: Gate> UnderLock<
 
     fn refused(_gate: &G, root: Root<Book<'a>>) -> Result<Finished<'a>, OutOfMemory>
         requires fit { IsFit book_calls root }
-        ensures { IfOk result (IsLeft (course_of (root_tag book_tag root))) }
+        ensures { IfOk result (IsLeft (course_of (root_tag book_tag root.entry))) }
     {
         Err(OutOfMemory)
     }
