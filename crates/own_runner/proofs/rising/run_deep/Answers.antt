@@ -1,6 +1,6 @@
 use denote.Exit.{no}
 use denote.Param.Send.{arg_sync, param_sync}
-use Rattle.own_payload.proofs.noted.Noted.TheSendSync.{the_sync}
+use Rattle.own_runner.proofs.Shared.{noted_shared}
 use Rattle.own_runner.proofs.rising.run_deep.Goals as goal
 
 pub rise-requires-clause-may : goal.rise-requires-clause-may
@@ -15,4 +15,4 @@ rise-requires-clause-may g c κs within =
     }
 
 pub rise-requires-sync-P : goal.rise-requires-sync-P
-rise-requires-sync-P g c κs within = param_sync _ _ (arg_sync _ no _ (the_sync g.row.T c.type_bounds.sync-T))
+rise-requires-sync-P g c κs within = param_sync _ _ (arg_sync _ no _ (noted_shared _ c.type_bounds.sync-T))

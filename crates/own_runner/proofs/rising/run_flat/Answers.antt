@@ -1,6 +1,6 @@
 use denote.Exit.{no}
 use denote.Param.Send.{arg_sync, param_sync}
-use Rattle.own_payload.proofs.noted.Noted.TheSendSync.{the_sync}
+use Rattle.own_runner.proofs.Shared.{noted_shared}
 use Rattle.own_runner.proofs.rising.run_flat.Goals as goal
 
 pub rise_flat-requires-clause-may : goal.rise_flat-requires-clause-may
@@ -15,4 +15,4 @@ rise_flat-requires-clause-may g c κs within =
     }
 
 pub rise_flat-requires-sync-P : goal.rise_flat-requires-sync-P
-rise_flat-requires-sync-P g c κs within = param_sync _ _ (arg_sync _ no _ (the_sync g.row.T c.type_bounds.sync-T))
+rise_flat-requires-sync-P g c κs within = param_sync _ _ (arg_sync _ no _ (noted_shared _ c.type_bounds.sync-T))
