@@ -297,6 +297,54 @@ fn keeps_an_item_whose_new_value_is_too_large(rt: HostRuntime) -> Result<(), Fai
     Ok(())
 }
 
+// So many spaces.
+fn spaces(alloc: Global, count: usize) -> Result<Vec<u8>, OutOfMemory> {
+    Ok(vec![in alloc; b' '; count]?)
+}
+
+#[test]
+fn reads_lines_of_any_length(rt: HostRuntime) -> Result<(), Fail> {
+    let alloc = rt.alloc();
+    let mut section = Vec::from_slice(alloc, b"set")?;
+    section.extend_from_slice(&spaces(alloc, 3_000)?)?;
+    section.extend_from_slice(b"k 0 0 1\r\na\r\ntouch k")?;
+    section.extend_from_slice(&spaces(alloc, 70_000)?)?;
+    section.extend_from_slice(b"0\r\nget k")?;
+    section.extend_from_slice(&spaces(alloc, 5_000)?)?;
+    section.extend_from_slice(b"\r\n")?;
+    let answered = is_answered(
+        alloc,
+        &section,
+        b"STORED\r\nTOUCHED\r\nVALUE k 0 1\r\na\r\nEND\r\n",
+    )?;
+    assert!(rt; answered);
+    Ok(())
+}
+
+// A first item, then so many others, and what became of the first.
+fn behind_many(alloc: Global, count: u32) -> Result<Vec<u8>, Fail> {
+    let mut section = Vec::from_slice(alloc, b"set k 5 0 1\r\na\r\n")?;
+    for number in 0..count {
+        let line = format!(in alloc; "set k{number} 0 0 8 noreply\r\nabcdefgh\r\n")?;
+        section.extend_from_slice(line.as_bytes())?;
+    }
+    section.extend_from_slice(b"gets k\r\n")?;
+    Ok(section)
+}
+
+#[test]
+fn keeps_an_item_that_nobody_removes(rt: HostRuntime) -> Result<(), Fail> {
+    let alloc = rt.alloc();
+    let section = behind_many(alloc, 5_000)?;
+    let answered = is_answered(
+        alloc,
+        &section,
+        b"STORED\r\nVALUE k 5 1 1\r\na\r\nEND\r\n",
+    )?;
+    assert!(rt; answered);
+    Ok(())
+}
+
 #[test]
 fn goes_to_a_thread_and_back(rt: HostRuntime) -> Result<(), Fail> {
     let journal = applied(rt.alloc(), b"set k 0 0 1\r\na\r\n")?;

@@ -114,7 +114,7 @@ fn four_threads_hold_in_turn(rt: HostRuntime) {
 
 #[test]
 fn passes_are_made_or_the_value_comes_back(rt: HostRuntime) {
-    for passes in [1, 4096] {
+    for passes in [1, 7, 4096] {
         match Ticket::make(rt.alloc(), Waiters::Queue, passes, Parcel::new(START)) {
             Ok((lock, list)) => {
                 assert!(rt; list.len() == passes as usize);
