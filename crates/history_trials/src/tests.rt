@@ -336,11 +336,7 @@ fn behind_many(alloc: Global, count: u32) -> Result<Vec<u8>, Fail> {
 fn keeps_an_item_that_nobody_removes(rt: HostRuntime) -> Result<(), Fail> {
     let alloc = rt.alloc();
     let section = behind_many(alloc, 5_000)?;
-    let answered = is_answered(
-        alloc,
-        &section,
-        b"STORED\r\nVALUE k 5 1 1\r\na\r\nEND\r\n",
-    )?;
+    let answered = is_answered(alloc, &section, b"STORED\r\nVALUE k 5 1 1\r\na\r\nEND\r\n")?;
     assert!(rt; answered);
     Ok(())
 }
