@@ -1,5 +1,6 @@
 //! What the callers of a lock whose trail keeps no turns do, whatever lock that is.
 ghost use Rattle.std.specs.Prelude.{◌≡◌, ℕ, slice_get, IfErr, IfOk, IfSome, Some};
+ghost use Rattle.clof_compose.specs.Roots.{IsFit};
 ghost use Rattle.lock_rising.specs.Ready.{AreBack, IsSet};
 ghost use Rattle.own_payload.specs.Jobs.{HasServed, MayWork};
 ghost use Rattle.own_runner.specs.Runs.{AreBrought, AreOpen, HaveEnded};
@@ -110,7 +111,10 @@ impl<Q: Resting> UnderLock<Noted<u64>, Q, (), Job<Q>, Vec<Share>, u64, Task> for
         }
     }
 
-    fn refused(_task: &Task, _root: Root<Noted<u64>>) -> Result<u64, OutOfMemory> {
+    fn refused(_task: &Task, _root: Root<Noted<u64>>) -> Result<u64, OutOfMemory>
+        requires fit { IsFit (λ n. n.calls.callers) _root }
+        ensures { IfOk result (λ _. Unit {0}) }
+    {
         Err(OutOfMemory)
     }
 }
