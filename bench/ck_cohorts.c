@@ -1,6 +1,7 @@
 /*
  * Holds of the cohort lock of Concurrency Kit (Debian's libck-dev), a ticket lock a cohort under a ticket lock: each thread takes it as
- * often as asked and, as the holders of plan_bench do, notes its number behind those of the holds before. Threads fall into cohorts of the
+ * often as asked and, as the holders of plan_bench do where their trail keeps its turns, notes its number behind those of the holds before.
+ * With the word `count` it adds one to a number in place of that, as they do where their trail keeps none. Threads fall into cohorts of the
  * same size, in order. It prints the number of cohorts, of threads, and of what was noted. With 0 cohorts the lock is one ticket lock.
  *
  *   cc -O2 -pthread -o ck_cohorts ck_cohorts.c && ./ck_cohorts 2 4 1000000 10
@@ -11,6 +12,7 @@
 #include <stdint.h>
 #include <stdio.h>
 #include <stdlib.h>
+#include <string.h>
 
 #define LINE 128
 #define MOST 64
@@ -30,7 +32,11 @@ static struct caller { cohort_lock *cohort; uint32_t number; } __attribute__((al
 
 static uint64_t holds;
 
-static void note(uint32_t number) { roll.callers[roll.count++] = number; }
+static void note(uint32_t number)
+{
+    if (roll.callers != NULL) roll.callers[roll.count] = number;
+    roll.count++;
+}
 
 static void *by_cohort(void *argument)
 {
@@ -57,14 +63,15 @@ static void *by_ticket(void *argument)
 int main(int argc, char **argv)
 {
     pthread_t thread[MOST];
-    int cohorts = argc == 5 ? atoi(argv[1]) : -1, threads = argc == 5 ? atoi(argv[2]) : 0;
+    bool counts = argc == 6 && strcmp(argv[5], "count") == 0;
+    int cohorts = argc == 5 || counts ? atoi(argv[1]) : -1, threads = argc == 5 || counts ? atoi(argv[2]) : 0;
     if (cohorts < 0 || cohorts > MOST || threads < 1 || threads > MOST || (cohorts > 0 && threads % cohorts != 0)) {
-        fprintf(stderr, "usage: ck_cohorts COHORTS THREADS HOLDS KEEP\n");
+        fprintf(stderr, "usage: ck_cohorts COHORTS THREADS HOLDS KEEP [count]\n");
         return 2;
     }
     holds = strtoull(argv[3], NULL, 10);
-    roll.callers = calloc(holds * threads, sizeof *roll.callers);
-    if (roll.callers == NULL) {
+    if (!counts) roll.callers = calloc(holds * threads, sizeof *roll.callers);
+    if (!counts && roll.callers == NULL) {
         fprintf(stderr, "ck_cohorts: there is no memory for the callers\n");
         return 1;
     }

@@ -1,19 +1,20 @@
 #!/usr/bin/env python3
-"""Draws the table that bench/cohorts.sh prints, as bars in an SVG: a group of bars for each row, a bar for each number of threads, and
-beside each bar its number.
+"""Draws the first table that bench/cohorts.sh prints, as bars in an SVG: a group of bars for each row, a bar for each number of threads,
+and beside each bar its number.
 
   bench/cohorts.sh > table && bench/cohorts_picture.py < table > docs/cohorts.svg
 """
 import html
+import itertools
 import sys
 
-LEFT, WIDTH, BAR, GAP, HEAD = 150, 520, 14, 12, 64
+LEFT, WIDTH, BAR, GAP, HEAD = 170, 520, 14, 12, 64
 COLOURS = ["#9ecae1", "#4292c6", "#084594"]
 
 
 def read(lines):
     """The line on the machine, the heads of the columns, and the rows: a name and its numbers."""
-    machine, heads, *rows = [line.rstrip("\n") for line in lines if line.strip()]
+    machine, heads, *rows = [line.rstrip("\n") for line in itertools.takewhile(str.strip, lines)]
     columns = [head.strip() for head in heads.replace("ns a hold", "").split("  ") if head.strip()]
     table = []
     for row in rows:

@@ -25,7 +25,7 @@ RETURNED = b"Error: there was no memory for the lock; its root came back with 0 
 
 def tried(locks, program, library):
     """How many calls were refused, how many runs wanted memory, and how many had the root back; or why one ended otherwise."""
-    row = Row(locks, [locks, "1", "2", "3"], b"", None)
+    row = Row(locks, [locks, "1", "2", "3", "recorded"], b"", None)
     number = wanting = returned = 0
     while True:
         number += 1
@@ -33,7 +33,7 @@ def tried(locks, program, library):
         if status == 1 and not text and errors:
             wanting += 1
             returned += errors == RETURNED
-        elif (status, text, errors) != (0, f"{locks} 1 2 6 6\n".encode(), b""):
+        elif (status, text, errors) != (0, f"{locks} 1 2 recorded 6 6\n".encode(), b""):
             return f"with call {number} refused: status {status}, standard error {errors[:200]!r}, standard output {text[:200]!r}"
         if not is_made:
             break

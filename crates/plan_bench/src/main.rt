@@ -2,18 +2,27 @@
 //! bench/ takes the time.
 //!
 //! The words are the kinds of the levels, the lowest first, as of `clof run --locks`; how many turns in a row a node keeps the lock above
-//! for; the number of threads; and how often each thread holds the lock. The threads stand two by two under a node of the lowest level.
+//! for; the number of threads; how often each thread holds the lock; and one or more ways to hold it, joined by dashes: with a trail that
+//! keeps its turns in memory (`recorded`), with one that keeps none (`free`), and with one that keeps none by callers who begin and poll
+//! (`polled`). The threads stand two by two under a node of the lowest level.
 #![tactic(auto)]
 
-mod holds;
+mod entering;
+mod holding;
+mod jobs;
 mod kinds;
 mod quotas;
+mod recorded;
+mod repeated;
+mod rising;
+mod shapes;
+mod unrecorded;
+mod ways;
 
-use crate::holds::hold;
 use crate::kinds::read_kinds;
+use crate::ways::{counts, way_named};
 use anyhow::{Context, bail};
 use std::env;
-use tree_harness::{End, Outcome};
 
 fn main(rt: HostRuntime) -> anyhow::Result<()> {
     let mut words = env::args(&rt)?;
@@ -25,26 +34,16 @@ fn main(rt: HostRuntime) -> anyhow::Result<()> {
         .parse()?;
     let threads: usize = words.next().context("say how many threads")?.parse()?;
     let holds: u32 = words.next().context("say how many holds")?.parse()?;
+    let ways = words.next().context("say how the lock is held")?;
     let alloc = rt.alloc();
     let kinds = read_kinds(alloc, &locks).context("the kinds are tkt, mcs, clh and hem")?;
     if threads != 1 && threads != 2 && threads != 4 {
         bail!("name 1, 2 or 4 threads");
     }
-    let Outcome { root, end } = hold(&rt, alloc, &kinds, keep, threads, holds).context(
-        "there was no memory, or these are too many levels or holds",
-    )?;
-    let (trail, roll) = root.into_parts();
-    let turns = if trail.is_recorded() {
-        trail.turns().len()
-    } else {
-        0
-    };
-    let calls = roll.callers.get().len();
-    match end {
-        End::Walked { .. } | End::Done => println!(rt; "{locks} {keep} {threads} {turns} {calls}")?,
-        End::Refused => bail!(
-            "there was no memory for the lock; its root came back with {turns} turns and {calls} calls"
-        ),
+    for word in ways.split('-') {
+        let way = way_named(word).context("the ways are recorded, free and polled")?;
+        let (turns, calls) = counts(&rt, alloc, way, &kinds, keep, threads, holds)?;
+        println!(rt; "{locks} {keep} {threads} {word} {turns} {calls}")?;
     }
     Ok(())
 }

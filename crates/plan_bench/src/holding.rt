@@ -1,0 +1,73 @@
+//! Holds of one caller, who counts them.
+ghost use Rattle.std.specs.Prelude.{◌≡◌, ◌+◌, ◌∷◌, [], ◌++◌};
+ghost use Rattle.clof_compose.specs.Calls.{MayTurn};
+ghost use Rattle.clof_compose.specs.Courses.{course_of};
+ghost use Rattle.own_payload.specs.Jobs.{HasServed, MayWork};
+
+use crate::entering::{Entering, enter};
+use clof_compose::{Composed, Resting, Root, Standing};
+use keep_local::Share;
+use own_payload::{Job, Noted};
+use std::sync::Wait;
+
+/// What each caller of a lock does: how often it holds, and how it comes to hold.
+#[derive(Clone, Copy)]
+pub(crate) struct Task {
+    pub(crate) holds: u32,
+    pub(crate) entering: Entering,
+}
+
+/// Holds the lock as often as the task says, or until the share allows no further turn.
+pub(crate) fn hold_often<C: Composed<Noted<u64>>, R: Wait>(
+    rt: &R,
+    lock: &C,
+    task: Task,
+    job: Job<C::Pass>,
+) -> Job<C::Pass>
+    requires { MayWork C.Pass.rest (C.has lock.now) (C.sound lock.now) (C.level lock.now) (C.tag lock.now) job }
+    ensures { HasServed C.Pass.rest (λ _. Unit {0}) job result }
+{
+    let Job {
+        mut pass,
+        mut share,
+    } = job;
+    let mut left = task.holds;
+    for _ in share.turns_made()..share.turns_allowed() {
+        if left == 0 {
+            return Job { pass, share };
+        }
+        left -= 1;
+        pass = hold(rt, lock, task.entering, pass, &mut share);
+    }
+    Job { pass, share }
+}
+
+// Holds the lock once, and counts the hold.
+fn hold<C: Composed<Noted<u64>>, R: Wait>(
+    rt: &R,
+    lock: &C,
+    entering: Entering,
+    pass: C::Pass,
+    share: &mut Share,
+) -> C::Pass
+    requires sound { C.sound lock.now }
+    requires own { C.has lock.now (C.Pass.rest pass).context }
+    requires lowest { C.level lock.now ≡ 0 }
+    requires share { MayTurn (course_of (C.tag lock.now)) 0 (C.Pass.rest pass).context.number share.old }
+    ensures pass { (C.Pass.rest result).context ≡ (C.Pass.rest pass).context }
+    ensures made { share.new ≡ record share.old { made = share.old.made + 1 } }
+{
+    let mut held = enter(rt, lock, entering, pass, share);
+    call(held.root(), share.caller());
+    lock.release(rt, held)
+}
+
+// Notes the holder's call, and counts it.
+fn call(root: &mut Root<Noted<u64>>, caller: u32)
+    ensures trail { root.new.trail ≡ root.old.trail }
+    ensures noted { root.new.payload.calls.callers ≡ root.old.payload.calls.callers ++ caller ∷ [] }
+{
+    let noted = root.payload_mut();
+    noted.note(caller);
+    noted.value = noted.value.wrapping_add(1);
+}
