@@ -25,6 +25,7 @@ pub(crate) type InHand<P, H> = Holds<Own<P, <H as Composed<P>>::Pass, <H as Comp
 
 /// Takes the high lock for a node's holder: where it was kept, a turn is opened that climbed to this level, and else the node's pass
 /// goes up.
+#[inline(always)]
 pub(crate) fn take_high<P: Payload, H: Composed<P>>(
     high: &H,
     mut low: InHand<P, H>,

@@ -62,6 +62,7 @@ impl<
 
     ghost named = { λ l c sound own. level_named (H.name l.high) c sound own };
 
+    #[inline(always)]
     fn begin(
         &self,
         pass: LevelPass<B::Pass>,
@@ -77,6 +78,7 @@ impl<
         }
     }
 
+    #[inline(always)]
     fn poll(
         &self,
         queue: LevelQueue<P, B::Queue, H::Pass, H::Held, H::Queue>,

@@ -19,6 +19,7 @@ use keep_local::Share;
 use lock_rules::{Payload, Queueing, Step};
 
 /// Goes up to the high lock with the value of a node in hand. The answer is the level's token.
+#[inline(always)]
 pub(crate) fn go_up<P: Payload, H: Composed<P>, Q: Queueing>(
     high: &H,
     low: InHand<P, H>,

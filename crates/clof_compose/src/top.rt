@@ -47,6 +47,7 @@ impl<P: Payload, B: Basic<Root<P>, Held = Held<Root<P>>>> Composed<P> for Top<B,
 
     ghost named = { λ t c _ own. top_named t.level (B.name t.low) (B.tag t.low) c own };
 
+    #[inline(always)]
     fn begin(
         &self,
         pass: TopPass<B::Pass>,
@@ -66,6 +67,7 @@ impl<P: Payload, B: Basic<Root<P>, Held = Held<Root<P>>>> Composed<P> for Top<B,
         }
     }
 
+    #[inline(always)]
     fn poll(
         &self,
         queue: TopQueue<B::Queue>,

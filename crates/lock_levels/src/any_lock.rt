@@ -126,6 +126,7 @@ impl<V: Cargo> Basic<V> for AnyLock<V> {
     }
 
     /// In a Ticket and a CLH lock the answer is always `Not`, and in the others only where the swap found another.
+    #[inline(always)]
     fn begin(&self, pass: Pass) -> Step<Queue, Held<V>>
         requires own { IsOf (by_kind ⟦<Ticket<V> as Basic<V>>⟧.name ⟦<Mcs<V> as Basic<V>>⟧.name ⟦<Clh<V> as Basic<V>>⟧.name
             ⟦<Hemlock<V> as Basic<V>>⟧.name self.now.lock) (by_kind ⟦<Ticket<V> as Basic<V>>⟧.tag ⟦<Mcs<V> as Basic<V>>⟧.tag
@@ -148,6 +149,7 @@ impl<V: Cargo> Basic<V> for AnyLock<V> {
         }
     }
 
+    #[inline(always)]
     fn poll(&self, queue: Queue) -> Step<Queue, Held<V>> {
         match &self.lock {
             Kinds::Ticket(lock) => lock.poll(queue),
@@ -157,6 +159,7 @@ impl<V: Cargo> Basic<V> for AnyLock<V> {
         }
     }
 
+    #[inline(always)]
     fn waiter(&self, held: &mut Held<V>) -> bool {
         match &self.lock {
             Kinds::Ticket(lock) => lock.waiter(held),
@@ -167,6 +170,7 @@ impl<V: Cargo> Basic<V> for AnyLock<V> {
     }
 
     /// In a Ticket and a CLH lock the answer is never `Not`, and in an MCS lock only where the exchange of the tail found another.
+    #[inline(always)]
     fn begin_release(&self, held: Held<V>) -> Step<Leave<V>, Pass>
         requires own { IsOf (by_kind ⟦<Ticket<V> as Basic<V>>⟧.name ⟦<Mcs<V> as Basic<V>>⟧.name ⟦<Clh<V> as Basic<V>>⟧.name
             ⟦<Hemlock<V> as Basic<V>>⟧.name self.now.lock) (by_kind ⟦<Ticket<V> as Basic<V>>⟧.tag ⟦<Mcs<V> as Basic<V>>⟧.tag
