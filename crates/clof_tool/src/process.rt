@@ -36,16 +36,50 @@ impl Process<StdSource<Stdin>, StdSink<Stdout>, StdSink<Stderr>> {
         ensures output { IsUnwritten (writes writer_held writer_room writer_faults writer_stalls (output_of result)) }
         ensures errors { IsUnwritten (writes writer_held writer_room writer_faults writer_stalls (errors_of result)) }
     {
-        Process {
-            words: words(rt),
-            input: StdSource::new(rt.stdin()),
-            output: StdSink::new(rt.stdout()),
-            errors: StdSink::new(rt.stderr()),
-        }
+        Process::over(
+            words(rt),
+            StdSource::new(rt.stdin()),
+            StdSink::new(rt.stdout()),
+            StdSink::new(rt.stderr()),
+        )
     }
 }
 
 impl<S: Source, K: Sink, E: Sink> Process<S, K, E> {
+    /// A process with these words, or the error for which they can't be had, and these streams.
+    pub fn over(
+        words: io::Result<Vec<String>>,
+        input: S,
+        output: K,
+        errors: E,
+    ) -> Process<S, K, E>
+        ensures words { words_of_process result ≡ words }
+        ensures input { input_of result ≡ input }
+        ensures output { output_of result ≡ output }
+        ensures errors { errors_of result ≡ errors }
+    {
+        Process {
+            words,
+            input,
+            output,
+            errors,
+        }
+    }
+
+    /// Where its output went.
+    pub fn output(&self) -> &K
+        ensures { result.now ≡ output_of self.now }
+    {
+        &self.output
+    }
+
+    /// Where what it told of errors went.
+    pub fn errors(&self) -> &E
+        ensures { result.now ≡ errors_of self.now }
+    {
+        &self.errors
+    }
+
     /// Makes the top call on the process's words and streams, and answers the exit status of its code. Words that aren't
     /// text are taken as none, which is Usage.
     pub fn serve<R: Threads + Wait + Sync>(&mut self, rt: &R, alloc: Global) -> ExitCode
