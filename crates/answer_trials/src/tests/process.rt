@@ -70,7 +70,10 @@ fn tells_of_a_refused_section(rt: HostRuntime) -> Result<(), Fail> {
     let mut run = process(alloc, "run|PU:1", input, SureSink::new(alloc, 100)?)?;
     assert_eq!(&rt; run.serve(&rt, alloc), ExitCode::from(3));
     assert_eq!(&rt; run.output().bytes().len(), 0);
-    assert_eq!(&rt; run.errors().bytes(), b"clof: section BadHead 0\n".as_slice());
+    assert_eq!(&rt;
+        run.errors().bytes(),
+        b"clof: section BadHead 0\n".as_slice()
+    );
     Ok(())
 }
 
@@ -106,6 +109,9 @@ fn tells_why_there_are_no_words(rt: HostRuntime) -> Result<(), Fail> {
     let mut wanting = wordless(alloc, ErrorKind::OutOfMemory)?;
     assert_eq!(&rt; wanting.serve(&rt, alloc), ExitCode::from(7));
     assert_eq!(&rt; wanting.output().bytes().len(), 0);
-    assert_eq!(&rt; wanting.errors().bytes(), b"clof: out of memory\n".as_slice());
+    assert_eq!(&rt;
+        wanting.errors().bytes(),
+        b"clof: out of memory\n".as_slice()
+    );
     Ok(())
 }
