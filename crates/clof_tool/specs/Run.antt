@@ -6,10 +6,10 @@ use Rattle.lock_plan.specs.declared.plan.Plan.{Plan}
 use Rattle.lock_plan.specs.Shapes.{IsShapeOf}
 use Rattle.run_faults.specs.declared.fault.SectionFault.{SectionFault}
 use Rattle.run_faults.specs.declared.fault.SectionFault.TheVariants as section
-use Rattle.run_check.specs.Pairs.{input_limit}
 use Rattle.placed_runner.specs.Sections.{Placed, Sections, IsRefused}
 use Rattle.placed_runner.specs.Printed.{IsRun}
 use Rattle.placed_runner.specs.Text.{Hold}
+use Rattle.run_check.specs.Pairs.{input_limit}
 use Rattle.fresh_runner.specs.Receipts.{IsMarkedRun}
 use Rattle.command_texts.specs.declared.status.Fault.TheVariants.{Section, Input}
 use Rattle.command_texts.specs.declared.status.Status.{Status}
