@@ -1,9 +1,9 @@
 //! The top call over a source and sinks in memory. A row of a table is what one call is asked, and what it answers.
 mod examples;
 mod limits;
+mod process;
 mod refusals;
 mod sizes;
-mod streams;
 
 use clof_tool::top;
 use edge_io::{SureSink, SureSource};

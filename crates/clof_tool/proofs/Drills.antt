@@ -19,7 +19,7 @@ use Rattle.threaded_runner.proofs.Sums.{sum_sections}
 use Rattle.drill_text.specs.Drill.{HaveGivenAll}
 use Rattle.drill_text.proofs.Numbers.{sum_by-map}
 use Rattle.clof_tool.specs.Drilling.{drilled_machine}
-use Rattle.clof_tool.proofs.Machine.{machine_sound}
+use Rattle.clof_tool.proofs.DrilledMachine.{machine_sound}
 use Rattle.clof_tool.proofs.Places.{spread_pus}
 
 pub given_all : (trail : TrailState) (log : Log) → IsFinished trail log → HaveGivenAll log

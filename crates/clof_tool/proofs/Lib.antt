@@ -2,7 +2,7 @@ pub mod Checks
 pub mod Codes
 pub mod Drills
 pub mod Judgements
-pub mod Machine
+pub mod DrilledMachine
 pub mod Marks
 pub mod Pairs
 pub mod Places

@@ -10,7 +10,7 @@ use Rattle.run_faults.specs.declared.fault.CheckFault.{CheckFault}
 use Rattle.run_faults.specs.declared.fault.CheckFault.TheVariants.{BadHead, Short}
 use Rattle.run_check.specs.Pairs.{ArePair, IsRefused, length_of, size_of}
 use Rattle.run_check.proofs.Heads.{pair_behind}
-use Rattle.clof_tool.specs.Run.{input_limit}
+use Rattle.run_check.specs.Pairs.{input_limit}
 
 -- the parts are shorter than the whole
 pub parts_short : (bytes input printed : List ℕ) → ArePair bytes input printed → length input + length printed < length bytes

@@ -26,7 +26,8 @@ use Rattle.command_words.specs.Asked.{Running}
 use Rattle.command_texts.specs.declared.status.Fault.TheVariants.{Input}
 use Rattle.command_texts.specs.declared.status.Status.{Status}
 use Rattle.command_texts.specs.declared.status.Status.TheVariants as statuses
-use Rattle.clof_tool.specs.Run.{holds_in, input_limit, section_status, PrintsRun, PrintsSections, PrintsUnder, Refuses, RefusesSections}
+use Rattle.run_check.specs.Pairs.{input_limit}
+use Rattle.clof_tool.specs.Run.{holds_in, section_status, PrintsRun, PrintsSections, PrintsUnder, Refuses, RefusesSections}
 use Rattle.fresh_runner.specs.Receipts.{IsMarkedRun}
 use Rattle.clof_tool.proofs.Marks.{marked_once}
 use Rattle.clof_tool.proofs.Plans.{few_levels, plan_same, shape_same}

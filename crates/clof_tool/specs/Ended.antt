@@ -16,20 +16,20 @@ use Rattle.command_words.specs.Words.{Says, IsTabled, IsUsage}
 use Rattle.clof_tool.specs.Outcome.{limit_of, ReadsInput, HasRead, IsAccepted, IsAnswer, WordsRefused, InputRefused, HasCause}
 
 -- what a source tells of itself: the bytes that it has left, how many it has given, how many reads have failed
-pub record Reads : Type 0 where
+pub record SourceState : Type 0 where
   pub left : Option (List ℕ)
   pub given : ℕ
   pub faults : ℕ
 
 -- what a sink tells of itself: the bytes that it holds, how many it can still take, how many writes have failed or taken none
-pub record Writes : Type 0 where
+pub record SinkState : Type 0 where
   pub held : Option (List ℕ)
   pub room : Option ℕ
   pub faults : ℕ
   pub stalls : ℕ
 
 -- the words are read first; nothing else is where they ask for nothing, and no source where what they ask for reads none
-pub record ByWords (words : List (String Global)) (source source_now : Reads) (status : Status) : Type 0 where
+pub record ByWords (words : List (String Global)) (source source_now : SourceState) (status : Status) : Type 0 where
   pub usage : status ≡ statuses.Usage → IsUsage words
   pub usage_else : IsUsage words → (status ≡ statuses.Usage) ⊎ ((status ≡ statuses.OutOfMemory) × IsTabled words)
   pub unread : IsUsage words → source_now ≡ source
@@ -39,7 +39,7 @@ pub record ByWords (words : List (String Global)) (source source_now : Reads) (s
   pub unread_refused : (asked : Asked) (wanted : Status) → Says words asked → WordsRefused asked wanted → source_now ≡ source
 
 -- what was read decides, and each refusal has its cause
-pub record ByInput (words : List (String Global)) (source source_now : Reads) (status : Status) : Type 0 where
+pub record ByInput (words : List (String Global)) (source source_now : SourceState) (status : Status) : Type 0 where
   pub refused : (asked : Asked) (input : List ℕ) (wanted : Status) → Says words asked → source.left ≡ Some input
       → InputRefused asked input wanted → (Rose source.faults source_now.faults → ⊥)
       → UnlessMemory statuses.OutOfMemory status (status ≡ wanted)
@@ -52,7 +52,8 @@ pub record ByInput (words : List (String Global)) (source source_now : Reads) (s
   pub read_calm : status ≢ statuses.ReadFault → source_now.faults ≡ source.faults
 
 -- the whole answer is written, or a part of it where the output fails or is full, or nothing
-pub record ByOutput (words : List (String Global)) (source source_now : Reads) (out out_now : Writes) (status : Status) : Type 0 where
+pub record ByOutput (words : List (String Global)) (source source_now : SourceState) (out out_now : SinkState) (status : Status)
+    : Type 0 where
   pub printed : (asked : Asked) → Says words asked → status ≡ statuses.Ok
       → (input : List ℕ) × (text : List ℕ) × HasRead asked source.left source.given source_now.given input
       × IsAnswer asked input text × Gains out.held out_now.held text
@@ -68,14 +69,14 @@ pub record ByOutput (words : List (String Global)) (source source_now : Reads) (
   pub no_stall : status ≡ statuses.Ok → out_now.stalls ≡ out.stalls
 
 -- standard error is told nothing on Ok, else the line, or a part of it where it could not all be written
-pub record ByLine (err err_now : Writes) (status : Status) : Type 0 where
+pub record ByLine (err err_now : SinkState) (status : Status) : Type 0 where
   pub silent : status ≡ statuses.Ok → err_now ≡ err
   pub told : status ≢ statuses.Ok → (Rose err.faults err_now.faults → ⊥) → (Rose err.stalls err_now.stalls → ⊥)
       → Gains err.held err_now.held (line_of status)
   pub told_in_part : status ≢ statuses.Ok → (written : ℕ) × Gains err.held err_now.held (take written (line_of status))
 
 -- where nothing refuses what is asked for, and no stream fails, the call goes well, or memory is wanting
-abbrev pub IsComplete : List (String Global) → Reads → Reads → Writes → Writes → Status → Type 0
+abbrev pub IsComplete : List (String Global) → SourceState → SourceState → SinkState → SinkState → Status → Type 0
 IsComplete words source source_now out out_now status =
     (asked : Asked) → Says words asked → ((wanted : Status) → WordsRefused asked wanted → ⊥)
     → (ReadsInput asked → IsAccepted asked source.left) → (ReadsInput asked → Rose source.faults source_now.faults → ⊥)
@@ -83,7 +84,7 @@ IsComplete words source source_now out out_now status =
     → UnlessMemory statuses.OutOfMemory status (status ≡ statuses.Ok)
 
 -- how a call on words ends
-pub record Ended (words : List (String Global)) (source source_now : Reads) (out out_now err err_now : Writes) (status : Status)
+pub record Ended (words : List (String Global)) (source source_now : SourceState) (out out_now err err_now : SinkState) (status : Status)
     : Type 0 where
   pub by_words : ByWords words source source_now status
   pub by_input : ByInput words source source_now status
@@ -92,7 +93,7 @@ pub record Ended (words : List (String Global)) (source source_now : Reads) (out
   pub complete : IsComplete words source source_now out out_now status
 
 -- how a call ends where its words can't be had: nothing is read or printed, and standard error is told why
-pub record EndedWordless (source source_now : Reads) (out out_now err err_now : Writes) (status : Status) : Type 0 where
+pub record EndedWordless (source source_now : SourceState) (out out_now err err_now : SinkState) (status : Status) : Type 0 where
   pub unread : source_now ≡ source
   pub unwritten : out_now ≡ out
   pub by_line : ByLine err err_now status

@@ -7,7 +7,8 @@ use Rattle.run_check.specs.declared.verdict.Verdict.TheVariants.{Yes}
 use Rattle.run_check.specs.Pairs.{ArePair}
 use Rattle.command_words.specs.Asked.{Check, Checking, Run, Running, as_run}
 use Rattle.clof_tool.specs.Checking.{verdict_text}
-use Rattle.clof_tool.specs.Run.{holds_in, input_limit, Refuses}
+use Rattle.run_check.specs.Pairs.{input_limit}
+use Rattle.clof_tool.specs.Run.{holds_in, Refuses}
 use Rattle.clof_tool.specs.Outcome.{IsAnswer, InputRefused}
 
 -- what was printed for what is asked for and an input tells one list of holds: who held the lock, in order

@@ -7,7 +7,8 @@ use Rattle.command_texts.specs.declared.status.Status.{Status}
 use Rattle.command_texts.specs.declared.status.Status.TheVariants as statuses
 use Rattle.command_words.specs.Asked.{Asked, Run, Set, Topo, Calc, Distrib, Select, Drill, Check, Running, Selection, Checking, as_run}
 use Rattle.cpu_set.specs.declared.fault.SetFault.{SetFault}
-use Rattle.clof_tool.specs.Run.{input_limit, PrintsSections, RefusesSections, RefusesPlanned, RunRefuses, OnDescribed}
+use Rattle.run_check.specs.Pairs.{input_limit}
+use Rattle.clof_tool.specs.Run.{PrintsSections, RefusesSections, RefusesPlanned, RunRefuses, OnDescribed}
 use Rattle.drill_text.specs.Drill.{drill_text}
 use Rattle.clof_tool.specs.Checking.{pair_limit, CheckRefuses, RefusesChecked, RefusesPair, TellsChecked}
 use Rattle.command_texts.specs.RunPlan.{HasPlan}

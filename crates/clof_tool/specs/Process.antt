@@ -7,7 +7,7 @@ use Rattle.std.specs.declared.alloc.Global.{Global}
 use Rattle.std.specs.declared.io.Error.{Error}
 use Rattle.std.specs.Prelude.{List}
 use Rattle.clof_tool.specs.declared.process.Process.{Process}
-use Rattle.clof_tool.specs.Ended.{Reads, Writes}
+use Rattle.clof_tool.specs.Ended.{SourceState, SinkState}
 
 -- the words behind the program's name, or why they can't be had
 abbrev pub words_of_process : {S K E : Type 0} → Process S K E → Result (Vec (String Global) Global) Error
@@ -24,19 +24,19 @@ abbrev pub errors_of : {S K E : Type 0} → Process S K E → E
 errors_of process = process.errors
 
 -- what a source tells of itself, by what its kind of source tells
-abbrev pub reads : {S : Type 0} → (S → Option (List ℕ)) → (S → ℕ) → (S → ℕ) → S → Reads
-reads left given faults source = record { left = left source; given = given source; faults = faults source }
+abbrev pub source_state : {S : Type 0} → (S → Option (List ℕ)) → (S → ℕ) → (S → ℕ) → S → SourceState
+source_state left given faults source = record { left = left source; given = given source; faults = faults source }
 
 -- what a sink tells of itself, by what its kind of sink tells
-abbrev pub writes : {K : Type 0} → (K → Option (List ℕ)) → (K → Option ℕ) → (K → ℕ) → (K → ℕ) → K → Writes
-writes held room faults stalls sink = record { held = held sink; room = room sink; faults = faults sink; stalls = stalls sink }
+abbrev pub sink_state : {K : Type 0} → (K → Option (List ℕ)) → (K → Option ℕ) → (K → ℕ) → (K → ℕ) → K → SinkState
+sink_state held room faults stalls sink = record { held = held sink; room = room sink; faults = faults sink; stalls = stalls sink }
 
 -- a source has given nothing and no read of it has failed
-pub record IsUnread (source : Reads) : Type 0 where
+pub record IsUnread (source : SourceState) : Type 0 where
   pub given : source.given ≡ 0
   pub faults : source.faults ≡ 0
 
 -- no write to a sink has failed or taken nothing
-pub record IsUnwritten (sink : Writes) : Type 0 where
+pub record IsUnwritten (sink : SinkState) : Type 0 where
   pub faults : sink.faults ≡ 0
   pub stalls : sink.stalls ≡ 0

@@ -9,6 +9,7 @@ use Rattle.run_faults.specs.declared.fault.SectionFault.TheVariants as section
 use Rattle.placed_runner.specs.Sections.{Placed, Sections, IsRefused}
 use Rattle.placed_runner.specs.Printed.{IsRun}
 use Rattle.placed_runner.specs.Text.{Hold}
+use Rattle.run_check.specs.Pairs.{input_limit}
 use Rattle.fresh_runner.specs.Receipts.{IsMarkedRun}
 use Rattle.command_texts.specs.declared.status.Fault.TheVariants.{Section, Input}
 use Rattle.command_texts.specs.declared.status.Status.{Status}
@@ -16,10 +17,6 @@ use Rattle.command_texts.specs.declared.status.Status.TheVariants as statuses
 use Rattle.command_texts.specs.TopoText.{IsBuilt, TopoRefuses}
 use Rattle.command_texts.specs.RunPlan.{PlanOf, HasPlan, RefusesPlan}
 use Rattle.command_words.specs.Asked.{Running}
-
--- the greatest length of an input
-abbrev pub input_limit : ℕ
-input_limit = 16777216
 
 -- the status of a fault of the sections: one of them is a limit
 abbrev pub section_status : SectionFault → Status

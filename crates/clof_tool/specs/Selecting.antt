@@ -7,7 +7,8 @@ use Rattle.command_texts.specs.declared.status.Fault.TheVariants.{Input}
 use Rattle.command_texts.specs.declared.status.Status.{Status}
 use Rattle.command_texts.specs.declared.status.Status.TheVariants as statuses
 use Rattle.command_words.specs.Asked.{Selection}
-use Rattle.clof_tool.specs.Run.{input_limit, OnDescribed}
+use Rattle.run_check.specs.Pairs.{input_limit}
+use Rattle.clof_tool.specs.Run.{OnDescribed}
 
 -- the words are refused: the description, or on what it describes the weights or the keep
 abbrev pub SelectRefuses : Selection → Status → Type 0

@@ -6,7 +6,7 @@ ghost use Rattle.edge_io.specs.Reading.{HasGiven};
 ghost use Rattle.command_texts.specs.declared.status.Status.{Status as AnyStatus};
 ghost use Rattle.command_texts.specs.declared.status.Fault.TheVariants.{Input as InputOf};
 ghost use Rattle.command_words.specs.Plain.{plain};
-ghost use Rattle.clof_tool.specs.Run.{input_limit};
+ghost use Rattle.run_check.specs.Pairs.{input_limit};
 ghost use Rattle.clof_tool.specs.Outcome.{ReadsInput, WasRead, WasTooLong, WordsRefused};
 ghost use Rattle.clof_tool.specs.Answered.{Answered, AnswersUnrefused};
 

@@ -3,7 +3,8 @@ ghost use Rattle.std.specs.Prelude.{◌≡◌, ◌≢◌, ◌⊎◌, drop, IfErr
 ghost use Rattle.std.specs.IoError.{error_kind};
 ghost use Rattle.std.specs.Process.{exit_status};
 ghost use Rattle.command_texts.specs.declared.status.Status.{Status as AnyStatus};
-ghost use Rattle.clof_tool.specs.Process.{words_of_process, input_of, output_of, errors_of, reads, writes, IsUnread, IsUnwritten};
+ghost use Rattle.clof_tool.specs.Process.{words_of_process, input_of, output_of, errors_of, source_state, sink_state};
+ghost use Rattle.clof_tool.specs.Process.{IsUnread, IsUnwritten};
 ghost use Rattle.clof_tool.specs.Ended.{Ended, EndedWordless};
 ghost use Rattle.command_texts.specs.Status.{code_of};
 ghost use Rattle.command_words.specs.Words.{IsTabled, IsUsage};
@@ -32,34 +33,69 @@ pub struct Process<S, K, E> {
 impl Process<StdSource<Stdin>, StdSink<Stdout>, StdSink<Stderr>> {
     /// The process of the runtime, whose standard streams haven't been read or written yet.
     pub fn new(rt: &HostRuntime) -> Process<StdSource<Stdin>, StdSink<Stdout>, StdSink<Stderr>>
-        ensures input { IsUnread (reads reader_left reader_given reader_faults (input_of result)) }
-        ensures output { IsUnwritten (writes writer_held writer_room writer_faults writer_stalls (output_of result)) }
-        ensures errors { IsUnwritten (writes writer_held writer_room writer_faults writer_stalls (errors_of result)) }
+        ensures input { IsUnread (source_state reader_left reader_given reader_faults (input_of result)) }
+        ensures output { IsUnwritten (sink_state writer_held writer_room writer_faults writer_stalls (output_of result)) }
+        ensures errors { IsUnwritten (sink_state writer_held writer_room writer_faults writer_stalls (errors_of result)) }
     {
-        Process {
-            words: words(rt),
-            input: StdSource::new(rt.stdin()),
-            output: StdSink::new(rt.stdout()),
-            errors: StdSink::new(rt.stderr()),
-        }
+        Process::over(
+            words(rt),
+            StdSource::new(rt.stdin()),
+            StdSink::new(rt.stdout()),
+            StdSink::new(rt.stderr()),
+        )
     }
 }
 
 impl<S: Source, K: Sink, E: Sink> Process<S, K, E> {
+    /// A process with these words, or the error for which they can't be had, and these streams.
+    pub fn over(words: io::Result<Vec<String>>, input: S, output: K, errors: E) -> Process<S, K, E>
+        ensures words { words_of_process result ≡ words }
+        ensures input { input_of result ≡ input }
+        ensures output { output_of result ≡ output }
+        ensures errors { errors_of result ≡ errors }
+    {
+        Process {
+            words,
+            input,
+            output,
+            errors,
+        }
+    }
+
+    /// Where its output went.
+    pub fn output(&self) -> &K
+        ensures { result.now ≡ output_of self.now }
+    {
+        &self.output
+    }
+
+    /// Where what it told of errors went.
+    pub fn errors(&self) -> &E
+        ensures { result.now ≡ errors_of self.now }
+    {
+        &self.errors
+    }
+
     /// Makes the top call on the process's words and streams, and answers the exit status of its code. Words that aren't
     /// text are taken as none, which is Usage.
     pub fn serve<R: Threads + Wait + Sync>(&mut self, rt: &R, alloc: Global) -> ExitCode
         ensures ended { IfOk (words_of_process self.old) (λ words. (status : AnyStatus) × (exit_status result ≡ code_of status)
             × Ended words.items
-            (reads S.left S.given S.faults (input_of self.old)) (reads S.left S.given S.faults (input_of self.new))
-            (writes K.held K.room K.faults K.stalls (output_of self.old)) (writes K.held K.room K.faults K.stalls (output_of self.new))
-            (writes E.held E.room E.faults E.stalls (errors_of self.old)) (writes E.held E.room E.faults E.stalls (errors_of self.new))
+            (source_state S.left S.given S.faults (input_of self.old))
+            (source_state S.left S.given S.faults (input_of self.new))
+            (sink_state K.held K.room K.faults K.stalls (output_of self.old))
+            (sink_state K.held K.room K.faults K.stalls (output_of self.new))
+            (sink_state E.held E.room E.faults E.stalls (errors_of self.old))
+            (sink_state E.held E.room E.faults E.stalls (errors_of self.new))
             status) }
         ensures wordless { IfErr (words_of_process self.old) (λ _. (status : AnyStatus) × (exit_status result ≡ code_of status)
             × EndedWordless
-            (reads S.left S.given S.faults (input_of self.old)) (reads S.left S.given S.faults (input_of self.new))
-            (writes K.held K.room K.faults K.stalls (output_of self.old)) (writes K.held K.room K.faults K.stalls (output_of self.new))
-            (writes E.held E.room E.faults E.stalls (errors_of self.old)) (writes E.held E.room E.faults E.stalls (errors_of self.new))
+            (source_state S.left S.given S.faults (input_of self.old))
+            (source_state S.left S.given S.faults (input_of self.new))
+            (sink_state K.held K.room K.faults K.stalls (output_of self.old))
+            (sink_state K.held K.room K.faults K.stalls (output_of self.new))
+            (sink_state E.held E.room E.faults E.stalls (errors_of self.old))
+            (sink_state E.held E.room E.faults E.stalls (errors_of self.new))
             status) }
         ensures usage { IfOk (words_of_process self.old) (λ words. exit_status result ≡ 2 → IsUsage words.items) }
         ensures usage_else { IfOk (words_of_process self.old) (λ words. IsUsage words.items →
@@ -73,14 +109,20 @@ impl<S: Source, K: Sink, E: Sink> Process<S, K, E> {
     // Makes the top call on the words. Where they can't be had, nothing is read or printed, and standard error is told why.
     fn end<R: Threads + Wait + Sync>(&mut self, rt: &R, alloc: Global) -> Status
         ensures ended { IfOk (words_of_process self.old) (λ words. Ended words.items
-            (reads S.left S.given S.faults (input_of self.old)) (reads S.left S.given S.faults (input_of self.new))
-            (writes K.held K.room K.faults K.stalls (output_of self.old)) (writes K.held K.room K.faults K.stalls (output_of self.new))
-            (writes E.held E.room E.faults E.stalls (errors_of self.old)) (writes E.held E.room E.faults E.stalls (errors_of self.new))
+            (source_state S.left S.given S.faults (input_of self.old))
+            (source_state S.left S.given S.faults (input_of self.new))
+            (sink_state K.held K.room K.faults K.stalls (output_of self.old))
+            (sink_state K.held K.room K.faults K.stalls (output_of self.new))
+            (sink_state E.held E.room E.faults E.stalls (errors_of self.old))
+            (sink_state E.held E.room E.faults E.stalls (errors_of self.new))
             result) }
         ensures wordless { IfErr (words_of_process self.old) (λ _. EndedWordless
-            (reads S.left S.given S.faults (input_of self.old)) (reads S.left S.given S.faults (input_of self.new))
-            (writes K.held K.room K.faults K.stalls (output_of self.old)) (writes K.held K.room K.faults K.stalls (output_of self.new))
-            (writes E.held E.room E.faults E.stalls (errors_of self.old)) (writes E.held E.room E.faults E.stalls (errors_of self.new))
+            (source_state S.left S.given S.faults (input_of self.old))
+            (source_state S.left S.given S.faults (input_of self.new))
+            (sink_state K.held K.room K.faults K.stalls (output_of self.old))
+            (sink_state K.held K.room K.faults K.stalls (output_of self.new))
+            (sink_state E.held E.room E.faults E.stalls (errors_of self.old))
+            (sink_state E.held E.room E.faults E.stalls (errors_of self.new))
             result) }
         ensures no_words { IfErr (words_of_process self.old) (λ error. error_kind error ≢ ErrorKind.OutOfMemory → result ≡ Status.Usage) }
         ensures no_memory { IfErr (words_of_process self.old) (λ error. error_kind error ≡ ErrorKind.OutOfMemory →

@@ -8,7 +8,8 @@ ghost use Rattle.lock_plan.specs.Shapes.{IsShapeOf};
 ghost use Rattle.placed_runner.specs.Sections.{caller_limit};
 ghost use Rattle.placed_runner.specs.Views.{section_view};
 ghost use Rattle.command_texts.specs.declared.status.Status.{Status as AnyStatus};
-ghost use Rattle.clof_tool.specs.Run.{input_limit, section_status, PrintsRun, PrintsUnder, RefusesSections};
+ghost use Rattle.run_check.specs.Pairs.{input_limit};
+ghost use Rattle.clof_tool.specs.Run.{section_status, PrintsRun, PrintsUnder, RefusesSections};
 ghost use Rattle.command_texts.specs.Ends.{EndsEarly};
 
 use crate::{Fault, Status};

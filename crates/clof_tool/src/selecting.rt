@@ -10,7 +10,7 @@ ghost use Rattle.command_words.specs.Plain.{plain_selection};
 ghost use Rattle.command_texts.specs.declared.status.Status.{Status as AnyStatus};
 ghost use Rattle.command_texts.specs.Ends.{IsRefusal, HasWritten};
 ghost use Rattle.command_texts.specs.SelectText.{RefusesTerms, PrintsChoice, PrintsSelection};
-ghost use Rattle.clof_tool.specs.Run.{input_limit};
+ghost use Rattle.run_check.specs.Pairs.{input_limit};
 ghost use Rattle.clof_tool.specs.Selecting.{SelectRefuses, RefusesBytes, RefusesInput};
 ghost use Rattle.clof_tool.specs.Outcome.{WasRead, FoundNoTrace, FoundRefused};
 ghost use Rattle.clof_tool.specs.Answered.{Answered, AnswersUnrefused};

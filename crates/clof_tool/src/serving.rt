@@ -10,7 +10,8 @@ ghost use Rattle.command_words.specs.Plain.{plain_running};
 ghost use Rattle.command_texts.specs.declared.status.Status.{Status as AnyStatus};
 ghost use Rattle.command_texts.specs.Ends.{IsRefusal, HasWritten};
 ghost use Rattle.command_texts.specs.RunPlan.{RefusesPlan};
-ghost use Rattle.clof_tool.specs.Run.{input_limit, PrintsSections, PrintsUnder, Refuses, RefusesPlanned, RunRefuses};
+ghost use Rattle.run_check.specs.Pairs.{input_limit};
+ghost use Rattle.clof_tool.specs.Run.{PrintsSections, PrintsUnder, Refuses, RefusesPlanned, RunRefuses};
 ghost use Rattle.clof_tool.specs.Outcome.{WasRead, Found, FoundPlanned};
 ghost use Rattle.clof_tool.specs.Answered.{Answered, AnswersUnrefused};
 

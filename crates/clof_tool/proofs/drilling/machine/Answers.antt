@@ -1,5 +1,5 @@
 use Rattle.std.proofs.Common.{sym}
-use Rattle.clof_tool.proofs.Machine.{machine_built, memory_alone}
+use Rattle.clof_tool.proofs.DrilledMachine.{machine_built, memory_alone}
 use Rattle.clof_tool.specs.Drilling.{drilled_machine}
 use Rattle.clof_tool.proofs.drilling.machine.Goals as goal
 

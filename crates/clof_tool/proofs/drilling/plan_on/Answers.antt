@@ -1,4 +1,4 @@
-use Rattle.clof_tool.proofs.Machine.{memory_for_plan}
+use Rattle.clof_tool.proofs.DrilledMachine.{memory_for_plan}
 use Rattle.clof_tool.proofs.drilling.plan_on.Goals as goal
 
 pub only_memory_for_plan-requires : goal.only_memory_for_plan-requires

@@ -3,7 +3,7 @@ use Rattle.std.specs.Prelude.{IfSome}
 use Rattle.command_texts.specs.declared.status.Fault.TheVariants.{Input}
 use Rattle.command_texts.specs.declared.status.Status.TheVariants as statuses
 use Rattle.command_texts.specs.SelectText.{RefusesTrace}
-use Rattle.clof_tool.specs.Run.{input_limit}
+use Rattle.run_check.specs.Pairs.{input_limit}
 use Rattle.clof_tool.proofs.Stops.{complete_of}
 use Rattle.clof_tool.proofs.selecting.selected.Goals as goal
 

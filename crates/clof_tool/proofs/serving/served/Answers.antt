@@ -2,7 +2,8 @@ use Rattle.std.proofs.Common.{◌≡◌, ◌<◌, ◌≤◌, Err, inl, inr, leng
 use Rattle.std.specs.Prelude.{IfSome}
 use Rattle.command_texts.specs.declared.status.Fault.TheVariants.{Input}
 use Rattle.command_texts.specs.declared.status.Status.TheVariants as statuses
-use Rattle.clof_tool.specs.Run.{input_limit, RefusesSections}
+use Rattle.run_check.specs.Pairs.{input_limit}
+use Rattle.clof_tool.specs.Run.{RefusesSections}
 use Rattle.clof_tool.proofs.serving.served.Goals as goal
 
 pub returns-in-Ok-clause-input_refused : goal.returns-in-Ok-clause-input_refused

@@ -1,14 +1,14 @@
 use Rattle.std.proofs.Common.{◌≡◌, ap}
-use Rattle.clof_tool.specs.Process.{reads, writes}
+use Rattle.clof_tool.specs.Process.{source_state, sink_state}
 use Rattle.clof_tool.proofs.process.Process.end.Goals as goal
 
 -- src/process.rt:77:5
 pub returns-in-Ok-clause-ended : goal.returns-in-Ok-clause-ended
 returns-in-Ok-clause-ended g c =
     let e = c.top.ensures in
-    let source = reads g.S.Source.left g.S.Source.given g.S.Source.faults in
-    let out = writes g.K.Sink.held g.K.Sink.room g.K.Sink.faults g.K.Sink.stalls in
-    let err = writes g.E.Sink.held g.E.Sink.room g.E.Sink.faults g.E.Sink.stalls in
+    let source = source_state g.S.Source.left g.S.Source.given g.S.Source.faults in
+    let out = sink_state g.K.Sink.held g.K.Sink.room g.K.Sink.faults g.K.Sink.stalls in
+    let err = sink_state g.E.Sink.held g.E.Sink.room g.E.Sink.faults g.E.Sink.stalls in
     rw (c.in-Ok.is, ← c.deref.ensures.value)
     record {
       by_words = record {
