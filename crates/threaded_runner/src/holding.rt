@@ -11,7 +11,7 @@ use crate::job::Job;
 use crate::waiting::acquire;
 use clof_compose::{Composed, Resting, Root, Standing};
 use keep_local::Share;
-use mc_text::Command;
+use mc_text::{Command, Commands};
 use placed_runner::Gate;
 use std::sync::Wait;
 
@@ -28,14 +28,31 @@ pub fn serve<'a, C: Composed<Book<'a>>, G: Gate, R: Wait>(
     requires job { IsJob C.Pass.rest (C.has lock.now) (C.level lock.now) (C.tag lock.now) job.share.caller job }
     ensures served { HasServed C.Pass.rest job.entry result }
 {
-    let mut job = job;
-    for _ in job.share.turns_made()..job.share.turns_allowed() {
-        job = give_next(rt, lock, gate, job);
-        if job.stopped {
-            return job;
+    // The parts of the job are apart until its end, so that none but the pass is moved from one command to the next.
+    let Job {
+        mut pass,
+        mut share,
+        mut commands,
+        ..
+    } = job;
+    for _ in share.turns_made()..share.turns_allowed() {
+        let (back, stopped) = give(rt, lock, gate, pass, &mut share, &mut commands);
+        pass = back;
+        if stopped {
+            return Job {
+                pass,
+                share,
+                commands,
+                stopped,
+            };
         }
     }
-    job
+    Job {
+        pass,
+        share,
+        commands,
+        stopped: false,
+    }
 }
 
 /// Holds the lock for the next command of a caller that has one left. The caller stops where it was refused, which is for want of memory.
@@ -59,16 +76,39 @@ pub fn give_next<'a, C: Composed<Book<'a>>, G: Gate, R: Wait>(
         mut commands,
         ..
     } = job;
-    let Some(command) = commands.next() else {
-        unreachable!()
-    };
-    let (pass, stopped) = hold(rt, lock, gate, pass, &mut share, command);
+    let (pass, stopped) = give(rt, lock, gate, pass, &mut share, &mut commands);
     Job {
         pass,
         share,
         commands,
         stopped,
     }
+}
+
+// Holds the lock for the next command of a caller that has one left, whose job stands in its parts. The answer has the pass, and whether
+// the command was refused.
+fn give<'a, C: Composed<Book<'a>>, G: Gate, R: Wait>(
+    rt: &R,
+    lock: &C,
+    gate: &G,
+    pass: C::Pass,
+    share: &mut Share,
+    commands: &mut Commands<'a>,
+) -> (C::Pass, bool)
+    requires sound { C.sound lock.now }
+    requires lowest { C.level lock.now ≡ 0 }
+    requires job { IsJob C.Pass.rest (C.has lock.now) (C.level lock.now) (C.tag lock.now) share.old.caller
+        (record { pass = pass; share = share.old; commands = commands.old; stopped = false }) }
+    requires some { share.old.made < share.old.quota }
+    ensures job { IsJob C.Pass.rest (C.has lock.now) (C.level lock.now) (C.tag lock.now) share.old.caller
+        (record { pass = result.0; share = share.new; commands = commands.new; stopped = false }) }
+    ensures pass { (C.Pass.rest result.0).context ≡ (C.Pass.rest pass).context }
+    ensures share { share.new ≡ record share.old { made = share.old.made + 1 } }
+{
+    let Some(command) = commands.next() else {
+        unreachable!()
+    };
+    hold(rt, lock, gate, pass, share, command)
 }
 
 // Holds the lock once and applies a command. The answer has the pass, and whether the command was refused.

@@ -8,31 +8,31 @@ use Rattle.mc_text.specs.Commands.{commands_left}
 use Rattle.mc_text.specs.Request.{view}
 use Rattle.threaded_runner.specs.Jobs.{HasLeft, IsCommandAt}
 use Rattle.threaded_runner.proofs.Commands.{left_behind, next_command, not_empty}
-use Rattle.threaded_runner.proofs.holding.give_next.Goals as goal
+use Rattle.threaded_runner.proofs.holding.give.Goals as goal
 
 pub unreachable-requires : goal.unreachable-requires
 unreachable-requires g c =
-    not_empty _ c.args.job.share (commands_left c.args.job.commands) c.requires.job.left_is c.requires.some c.in_default.ensures.commands.0
+    not_empty _ c.args.share.now (commands_left c.args.commands.now) c.requires.job.left_is c.requires.some c.in_default.ensures.commands.0
 
-pub hold-pass-requires : goal.hold-pass-requires
-hold-pass-requires g c =
-    let may = may_turn _ _ c.args.job.share.made c.args.job.share c.args.job.share c.requires.job.share_is
+pub hold-requires : goal.hold-requires
+hold-requires g c =
+    let may = may_turn _ _ c.args.share.now.made c.args.share.now c.args.share.now c.requires.job.share_is
     c.requires.job.pass_is.number_is refl c.requires.some in
     let share : MayTurn (course_of (g.C.Composed.tag c.args.lock.now)) (g.C.Composed.level c.args.lock.now)
-    (g.C.Pass.Resting.rest c.args.job.pass).context.number c.args.job.share = subst (λ n. MayTurn (course_of (g.C.Composed.tag
-    c.args.lock.now)) n (g.C.Pass.Resting.rest c.args.job.pass).context.number c.args.job.share) (sym c.requires.lowest) may in
-    let next : IsCommandAt (course_of (g.C.Composed.tag c.args.lock.now)).payload c.args.job.share.caller c.args.job.share.made
-    (view c.in-Some.command) = next_command _ c.args.job.share (commands_left c.args.job.commands) c.requires.job.left_is _
+    (g.C.Pass.Resting.rest c.args.pass).context.number c.args.share.now = subst (λ n. MayTurn (course_of (g.C.Composed.tag
+    c.args.lock.now)) n (g.C.Pass.Resting.rest c.args.pass).context.number c.args.share.now) (sym c.requires.lowest) may in
+    let next : IsCommandAt (course_of (g.C.Composed.tag c.args.lock.now)).payload c.args.share.now.caller c.args.share.now.made
+    (view c.in-Some.command) = next_command _ c.args.share.now (commands_left c.args.commands.now) c.requires.job.left_is _
     (commands_left c.next.new.self) c.in-Some.ensures.commands in
     search rules
 
 pub returns-clause-job : goal.returns-clause-job
 returns-clause-job g c =
-    let made = c.hold-pass.ensures.made in
+    let made = c.hold.ensures.made in
     let is = c.requires.job.share_is in
     record {
       pass_is = subst (IsNumber (g.C.Composed.has c.args.lock.now) (g.C.Composed.level c.args.lock.now) (g.C.Composed.tag c.args.lock.now)
-          c.args.job.share.caller) (sym c.hold-pass.ensures.pass) c.requires.job.pass_is;
+          c.args.share.now.caller) (sym c.hold.ensures.pass) c.requires.job.pass_is;
       share_is = record {
         own = ap (λ (s : ShareState). s.name) made ∙ is.own;
         caller_is = ap (λ (s : ShareState). s.caller) made;
@@ -40,6 +40,6 @@ returns-clause-job g c =
         quota = ap (λ (s : ShareState). s.quota) made ∙ is.quota;
       };
       left_is = subst (λ (s : ShareState). HasLeft (course_of (g.C.Composed.tag c.args.lock.now)).payload s (commands_left
-          c.next.new.self)) (sym made) (left_behind _ c.args.job.share (commands_left c.args.job.commands) c.requires.job.left_is _
+          c.next.new.self)) (sym made) (left_behind _ c.args.share.now (commands_left c.args.commands.now) c.requires.job.left_is _
           (commands_left c.next.new.self) c.in-Some.ensures.commands);
     }
