@@ -1,0 +1,5 @@
+pub mod Sent
+pub mod Values
+pub mod Held
+pub mod Boxed
+pub mod Ready
