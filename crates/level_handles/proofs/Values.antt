@@ -33,7 +33,7 @@ use Rattle.std.specs.contracts.impls.GlobalAllocator.TheImpl.{ghosts}
 use Rattle.std.specs.declared.option.Option.{Option}
 use mir.Syntax.{impl, tnil, dnil, ty_ptr}
 use Rattle.loose_box.proofs.Values.{both}
-use Rattle.level_handles.specs.Handles.{kept}
+use Rattle.lock_handles.specs.Handles.{kept}
 use Rattle.level_handles.specs.contracts.any_depth.AnyDepth as any
 use Rattle.level_handles.specs.contracts.handle.ClofComposedCaller as handle
 

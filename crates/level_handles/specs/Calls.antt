@@ -3,6 +3,7 @@ use Rattle.std.specs.Prelude.{◌≡◌, ℕ, Bool, true, false}
 use Rattle.std.specs.declared.option.Option.{Option}
 use Rattle.std.specs.declared.option.Option.TheVariants.{None, Some}
 use Rattle.lock_callers.specs.Goes.{is_idle}
+use Rattle.lock_handles.specs.Calls.{IsSomeThat}
 use Rattle.level_callers.specs.Seen.{Seen}
 use Rattle.level_callers.specs.Goes as of
 use Rattle.level_callers.specs.declared.reply.Reply.{Reply}
@@ -33,10 +34,6 @@ BeginsRelease old new reply = of.BeginsRelease old new reply × of.HasBegunToLea
 
 abbrev pub PollsRelease : Seen → Seen → Reply → Type 0
 PollsRelease old new reply = of.PollsRelease old new reply × of.HasDescended old new reply
-
-abbrev pub IsSomeThat : {X : Type 0} → Option X → (X → Type 0) → Type 0
-IsSomeThat None P = ⊥
-IsSomeThat (Some x) P = P x
 
 -- an empty handle stays empty, and the answer says so; else the handle has a caller, with which the call does what it does
 abbrev pub HandleDoes : (Seen → Seen → Reply → Type 0) → Option AnyDepth → Option AnyDepth → Option Reply → Type 0

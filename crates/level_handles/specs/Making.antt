@@ -11,7 +11,8 @@ use Rattle.keep_local.specs.Shapes.{callers_of, top_of}
 use Rattle.keep_local.specs.States.{ShareState, free_quotas, new_shares}
 use Rattle.clof_compose.specs.Courses.{course_of}
 use Rattle.level_callers.specs.Seen.{IsFresh}
-use Rattle.level_handles.specs.Calls.{IsSomeThat, levels_of, seen_of}
+use Rattle.lock_handles.specs.Calls.{IsSomeThat}
+use Rattle.level_handles.specs.Calls.{levels_of, seen_of}
 use Rattle.level_handles.specs.declared.any_depth.AnyDepth.{AnyDepth}
 use Rattle.level_handles.specs.declared.making.Made.{Made}
 use Rattle.level_handles.specs.declared.making.Made.TheVariants.{Done, NoMemory, InUse, TooDeep, Refused}

@@ -5,7 +5,7 @@ ghost use Rattle.std.specs.Option.{MatchOption};
 ghost use Rattle.std.specs.declared.option.Option.{Option as Maybe};
 ghost use Rattle.std.specs.declared.option.Option.TheVariants.{None, Some};
 ghost use Rattle.level_handles.specs.contracts.any_depth.AnyDepth.{the_row as caller_row};
-ghost use Rattle.level_handles.specs.Handles.{kept};
+ghost use Rattle.lock_handles.specs.Handles.{kept};
 
 use crate::any_depth::AnyDepth;
 use loose_box::Loose;

@@ -7,7 +7,7 @@ use Rattle.std.specs.declared.option.Option.TheVariants.{None}
 use Rattle.level_handles.specs.Making.{AreEmpty}
 use Rattle.level_handles.specs.declared.any_depth.AnyDepth.{AnyDepth}
 use Rattle.level_handles.specs.declared.handle.ClofComposedCaller.{ClofComposedCaller}
-use Rattle.level_handles.proofs.Held.{none_told, not_all_none}
+use Rattle.lock_handles.proofs.Held.{none_told, not_all_none}
 use Rattle.level_handles.proofs.making.are_empty.Goals as goal
 
 abbrev held : ClofComposedCaller → Option AnyDepth

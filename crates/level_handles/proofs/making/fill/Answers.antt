@@ -3,7 +3,7 @@ use Rattle.std.proofs.lemmas.Grind.{common_steps}
 use Rattle.std.proofs.lemmas.List.{length-map}
 use Rattle.std.proofs.lemmas.Option.{slice_get_within}
 use Rattle.std.specs.declared.option.Option.{Option}
-use Rattle.level_handles.specs.Calls.{IsSomeThat}
+use Rattle.lock_handles.specs.Calls.{IsSomeThat}
 use Rattle.level_handles.specs.Making.{IsNew}
 use Rattle.level_handles.specs.declared.any_depth.AnyDepth.{AnyDepth}
 use Rattle.level_handles.specs.declared.handle.ClofComposedCaller.{ClofComposedCaller}

@@ -1,7 +1,7 @@
 use Rattle.std.proofs.Common.{◌≡◌, ℕ, ◌+◌, ◌<◌, length, map, reverse, Some}
 use Rattle.std.specs.Prelude.{slice_get}
 use Rattle.lock_rules.specs.Tag.{Tag}
-use Rattle.level_handles.specs.Calls.{IsSomeThat}
+use Rattle.lock_handles.specs.Calls.{IsSomeThat}
 use Rattle.level_handles.specs.Making.{AreBoxed, IsNew}
 use Rattle.level_handles.proofs.making.fill.Given as goal
 

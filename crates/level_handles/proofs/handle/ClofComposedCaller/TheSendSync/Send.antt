@@ -12,7 +12,7 @@ use Rattle.std.specs.declared.alloc.Global.{Global}
 use Rattle.std.specs.declared.option.Option.{Option}
 use Rattle.std_alloc.proofs.SendSync.{quiet, lies}
 use Rattle.std.proofs.alloc.Global.TheSendSync as alloc
-use Rattle.level_handles.specs.Handles.{kept}
+use Rattle.lock_handles.specs.Handles.{kept}
 use Rattle.level_handles.specs.contracts.any_depth.AnyDepth as any
 use Rattle.level_handles.proofs.Sent.{sent as caller}
 use Rattle.level_handles.specs.contracts.handle.ClofComposedCaller.{the_row, the_type}

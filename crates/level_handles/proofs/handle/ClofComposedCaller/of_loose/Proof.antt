@@ -21,7 +21,7 @@ use Rattle.std.specs.contracts.impls.GlobalAllocator.TheImpl.{ghosts}
 use Rattle.std.specs.declared.option.Option.TheVariants.{Some}
 use Rattle.std.proofs.raw_atomic.Walks.{proved_at, leaves}
 use Rattle.loose_box.proofs.Values.{both, Loose, loose_good, loose_out}
-use Rattle.level_handles.specs.Handles.{boxed}
+use Rattle.lock_handles.specs.Handles.{boxed}
 use Rattle.level_handles.proofs.Values.{R, Z, LZ, handle_good, handle_in}
 use Rattle.level_handles.specs.contracts.handle.ClofComposedCaller.of_loose.{ended, clauses}
 use Rattle.level_handles.specs.contracts.handle.ClofComposedCaller.of_loose.Key.{name as #self}
