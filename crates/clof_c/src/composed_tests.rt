@@ -1,4 +1,5 @@
-//! Every call of a composed lock's caller at every standing, who holds after whom, and what making answers, at locks of one to three levels.
+//! Every call of a composed lock's caller at every standing, who holds after whom, and what making answers, at locks of one to three
+//! levels.
 use crate::composed::{
     clof_composed_begin, clof_composed_begin_release, clof_composed_enter, clof_composed_free,
     clof_composed_poll, clof_composed_poll_release,

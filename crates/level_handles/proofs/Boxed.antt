@@ -1,7 +1,16 @@
 -- Boxes that are taken from the last one on, and the handles that get them.
-use Rattle.std.proofs.Common.{◌≡◌, ℕ, zero, suc, ◌+◌, ◌<◌, List, [], ◌∷◌, ◌++◌, map, set, reverse, ap, ◌∙◌, subst, arith, Some}
+use Rattle.std.proofs.Common.{◌≡◌, ℕ, zero, suc, ◌+◌, ◌<◌, List, [], ◌∷◌, ◌++◌, length, map, set, reverse, ap, ◌∙◌, subst, arith, Some}
 use Rattle.std.specs.Prelude.{slice_get}
 use Rattle.std.proofs.lemmas.List.{reverse-append}
+use Rattle.std.specs.declared.alloc.Global.{Global}
+use Rattle.std_alloc.specs.declared.boxed.Box.{Box}
+use Rattle.lock_rules.specs.Tag.{Tag}
+use Rattle.clof_compose.proofs.Lists.{length_more, one_before}
+use Rattle.own_payload.proofs.Items.{at_end}
+use Rattle.level_callers.specs.Seen.{AreFresh, IsFresh, Seen}
+use Rattle.level_handles.specs.Calls.{levels_of, seen_of}
+use Rattle.level_handles.specs.Making.{IsNew}
+use Rattle.level_handles.specs.declared.any_depth.AnyDepth.{AnyDepth}
 
 -- the last one is the first of those that are turned round, and the others stand behind it
 pub front_of : {A : Type 0} (Q : ℕ → A → Type 0) (first : ℕ) (xs rest : List A) (x : A) → xs ≡ rest ++ x ∷ []
@@ -23,3 +32,13 @@ filled_more f W (z ∷ zs) zero x new old (suc k) h lt e = absurd (omega (arith,
 filled_more f W (z ∷ zs) (suc i) x new old zero h lt e = old zero h (omega arith) e
 filled_more f W (z ∷ zs) (suc i) x new old (suc k) h lt e =
     filled_more f (λ n. W (suc n)) zs i x new (λ j a l d. old (suc j) a (omega (arith, l)) d) k h (omega (arith, lt)) e
+
+-- the last of some callers goes into a box behind the others
+pub boxed_more : (levels : ℕ) (lock : Tag) (before after : List Seen) (one : Seen) (boxes more : List (Box AnyDepth Global))
+    (b : Box AnyDepth Global) → before ≡ after ++ one ∷ [] → more ≡ boxes ++ b ∷ [] → seen_of b.value ≡ one
+    → levels_of b.value ≡ levels → AreFresh lock before
+    → ((k : ℕ) (x : Box AnyDepth Global) → slice_get (reverse boxes) k ≡ Some x → IsNew lock levels (length before + k) x.value)
+    → (k : ℕ) (x : Box AnyDepth Global) → slice_get (reverse more) k ≡ Some x → IsNew lock levels (length after + k) x.value
+boxed_more levels lock before after one boxes more b cut pushed seen many fresh behind =
+    one_before (λ k x. IsNew lock levels k x.value) (length after) (length before) boxes more b (length_more after before one cut) pushed
+    (record { fresh = seen ∙ at_end (IsFresh lock) before after one cut fresh; levels_are = many; }) behind

@@ -80,7 +80,8 @@ low_pass_shared = let one = pass_shared in let two = receipt_shared in search se
 module _ (N : RattleType) (sent : IsSend N) where
   -- the top
   top_crosses : (g : Ghosts (Root.the_row N).Denot) → Crosses (Top.the_row (AnyLock.the_row (Root.the_row N) g) Pass.the_row)
-      (TopPass.the_row Pass.the_row) (TopQueue.the_row Queue.the_row) (TopHeld.the_row N) (TopLeave.the_row (Leave.the_row (Root.the_row N)))
+      (TopPass.the_row Pass.the_row) (TopQueue.the_row Queue.the_row) (TopHeld.the_row N)
+      (TopLeave.the_row (Leave.the_row (Root.the_row N)))
   top_crosses g = let r : IsSend (Root.the_row N) = root.the_send N sent in record {
     lock_sent = top.the_send _ _ (any_lock.the_send _ g r) pass.the_send;
     lock_shared = top.the_sync _ _ (any_lock.the_sync _ g r) pass_shared;
@@ -108,14 +109,18 @@ module _ (N : RattleType) (sent : IsSend N) where
 noted_sent : IsSend (Noted.the_row unit)
 noted_sent = search sendable depth 20
 
-noted_top : (g : Ghosts (Root.the_row (Noted.the_row unit)).Denot) → Crosses (Top.the_row (AnyLock.the_row (Root.the_row (Noted.the_row unit)) g) Pass.the_row)
-      (TopPass.the_row Pass.the_row) (TopQueue.the_row Queue.the_row) (TopHeld.the_row (Noted.the_row unit)) (TopLeave.the_row (Leave.the_row (Root.the_row (Noted.the_row unit))))
+noted_top : (g : Ghosts (Root.the_row (Noted.the_row unit)).Denot)
+    → Crosses (Top.the_row (AnyLock.the_row (Root.the_row (Noted.the_row unit)) g) Pass.the_row)
+    (TopPass.the_row Pass.the_row) (TopQueue.the_row Queue.the_row) (TopHeld.the_row (Noted.the_row unit))
+    (TopLeave.the_row (Leave.the_row (Root.the_row (Noted.the_row unit))))
 noted_top = top_crosses (Noted.the_row unit) noted_sent
 
-caller_sent : (L P Q H E : RattleType) (g : Composed.Ghosts L.Denot (Noted (unit-field).Value) P.Denot Q.Denot H.Denot E.Denot) (p : Resting.Ghosts P.Denot)
+caller_sent : (L P Q H E : RattleType)
+    (g : Composed.Ghosts L.Denot (Noted (unit-field).Value) P.Denot Q.Denot H.Denot E.Denot) (p : Resting.Ghosts P.Denot)
     (q : Climbing.Ghosts Q.Denot) (h : Standing.Ghosts H.Denot (Noted (unit-field).Value)) (e : Descending.Ghosts E.Denot)
     → Crosses L P Q H E → IsSend (Caller.the_row L P Q H E g p q h e)
-caller_sent L P Q H E g p q h e c = caller.the_send L P Q H E g p q h e c.lock_sent c.pass_sent c.queue_sent c.held_sent c.leave_sent c.lock_shared
+caller_sent L P Q H E g p q h e c =
+    caller.the_send L P Q H E g p q h e c.lock_sent c.pass_sent c.queue_sent c.held_sent c.leave_sent c.lock_shared
 
 one_sent : IsSend One.the_row
 one_sent =

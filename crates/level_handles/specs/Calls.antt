@@ -5,9 +5,12 @@ use Rattle.std.specs.declared.option.Option.TheVariants.{None, Some}
 use Rattle.lock_callers.specs.Goes.{is_idle}
 use Rattle.lock_handles.specs.Calls.{IsSomeThat}
 use Rattle.level_callers.specs.Seen.{Seen}
-use Rattle.level_callers.specs.Goes as of
+use Rattle.level_callers.specs.Goes.{Begins, Polls, BeginsRelease, PollsRelease}
+use Rattle.level_callers.specs.Goes.{HasClimbed, HasLooked, HasBegunToLeave, HasDescended}
 use Rattle.level_callers.specs.declared.reply.Reply.{Reply}
 use Rattle.level_callers.specs.declared.reply.Reply.TheVariants.{Done, Elsewhere}
+use Rattle.level_handles.specs.declared.act.Call.{Call}
+use Rattle.level_handles.specs.declared.act.Call.TheVariants.{Begin, Enter, Poll, BeginRelease, PollRelease, AskIdle}
 use Rattle.level_handles.specs.declared.any_depth.AnyDepth.{AnyDepth}
 use Rattle.level_handles.specs.declared.any_depth.AnyDepth.TheVariants.{One, Two, Three}
 
@@ -22,18 +25,19 @@ levels_of (One c) = 1
 levels_of (Two c) = 2
 levels_of (Three c) = 3
 
+-- where the caller is idle, the answer is done, and nothing changes
+abbrev pub AsksAt : Bool → Seen → Seen → Reply → Type 0
+AsksAt true old new reply = (new ≡ old) × (reply ≡ Done)
+AsksAt false old new reply = (new ≡ old) × (reply ≡ Elsewhere)
+
 -- what each call does with a caller, and what it answers
-abbrev pub Enters : Seen → Seen → Reply → Type 0
-Enters old new reply = of.Begins old new reply × of.HasLooked new reply
-
-abbrev pub Polls : Seen → Seen → Reply → Type 0
-Polls old new reply = of.Polls old new reply × of.HasClimbed old new reply
-
-abbrev pub BeginsRelease : Seen → Seen → Reply → Type 0
-BeginsRelease old new reply = of.BeginsRelease old new reply × of.HasBegunToLeave old new reply
-
-abbrev pub PollsRelease : Seen → Seen → Reply → Type 0
-PollsRelease old new reply = of.PollsRelease old new reply × of.HasDescended old new reply
+abbrev pub Acts : Call → Seen → Seen → Reply → Type 0
+Acts Begin old new reply = Begins old new reply
+Acts Enter old new reply = Begins old new reply × HasLooked new reply
+Acts Poll old new reply = Polls old new reply × HasClimbed old new reply
+Acts BeginRelease old new reply = BeginsRelease old new reply × HasBegunToLeave old new reply
+Acts PollRelease old new reply = PollsRelease old new reply × HasDescended old new reply
+Acts AskIdle old new reply = AsksAt (is_idle old.standing) old new reply
 
 -- an empty handle stays empty, and the answer says so; else the handle has a caller, with which the call does what it does
 abbrev pub HandleDoes : (Seen → Seen → Reply → Type 0) → Option AnyDepth → Option AnyDepth → Option Reply → Type 0

@@ -1,11 +1,10 @@
 //! The callers of a new lock, each in a box. The lock is made level by level, from the top down.
-ghost use Rattle.std.specs.Prelude.{◌≡◌, ◌+◌, ◌<◌, ◌^◌, ℕ, length, IfSome};
+ghost use Rattle.std.specs.Prelude.{◌≡◌, ◌+◌, ◌<◌, ◌^◌, length, IfSome};
 ghost use Rattle.lock_rules.specs.Tag.{Tag, leaf};
 ghost use Rattle.keep_local.specs.Shapes.{IsWellFormed, callers_of, top_of};
 ghost use Rattle.clof_compose.specs.Roots.{IsFit, root_tag};
 ghost use Rattle.lock_levels.specs.Raised.{IsRaised};
 ghost use Rattle.level_callers.specs.Seen.{AreFresh};
-ghost use Rattle.level_handles.specs.Calls.{levels_of, seen_of};
 ghost use Rattle.level_handles.specs.Making.{AreBoxed, IsLockOf, IsNew, MayMake};
 
 use crate::any_depth::AnyDepth;
@@ -16,50 +15,6 @@ use level_callers::{Caller, make_callers};
 use lock_levels::{HasKinds, LevelOver, Plan, add_below, kind_at, make_top_of};
 use own_payload::{Noted, new_unrecorded_root};
 use std::alloc::Global;
-
-/// How a caller of a lock becomes one of any depth.
-pub(crate) trait Wraps<C: Composed<Noted<()>>> {
-    // how many levels the lock has
-    ghost levels: { ℕ };
-
-    /// The caller, as one of any depth.
-    fn wrapped(caller: Caller<C>) -> AnyDepth
-        ensures seen { seen_of result ≡ caller }
-        ensures levels { levels_of result ≡ levels };
-}
-
-/// A lock of one level.
-struct AsOne;
-
-impl Wraps<FirstLock> for AsOne {
-    ghost levels = { 1 };
-
-    fn wrapped(caller: Caller<FirstLock>) -> AnyDepth {
-        AnyDepth::One(OneLevel::of(caller))
-    }
-}
-
-/// A lock of two levels.
-struct AsTwo;
-
-impl Wraps<SecondLock> for AsTwo {
-    ghost levels = { 2 };
-
-    fn wrapped(caller: Caller<SecondLock>) -> AnyDepth {
-        AnyDepth::Two(TwoLevels::of(caller))
-    }
-}
-
-/// A lock of three levels.
-struct AsThree;
-
-impl Wraps<ThirdLock> for AsThree {
-    ghost levels = { 3 };
-
-    fn wrapped(caller: Caller<ThirdLock>) -> AnyDepth {
-        AnyDepth::Three(ThreeLevels::of(caller))
-    }
-}
 
 /// The callers of a new lock for the callers of a shape, whose levels have the kinds of the plan, each in a box, the last one first.
 /// `None` for want of memory.
@@ -106,7 +61,8 @@ fn one_level(
     let Ok((lock, passes)) = make_top_of::<Noted<()>>(alloc, plan, root, shape, 0) else {
         return None;
     };
-    boxes_of::<FirstLock, AsOne>(alloc, plan, shape, lock, passes, shares)
+    let callers = callers_for::<FirstLock>(alloc, plan, shape, lock, passes, shares)?;
+    one_boxes(alloc, callers)
 }
 
 // The callers of a lock of two levels around this root.
@@ -131,7 +87,8 @@ fn two_levels(
     let Ok((lock, passes)) = make_top_of::<Noted<()>>(alloc, plan, root, shape, 1) else {
         return None;
     };
-    with_lowest::<FirstLock, AsTwo>(alloc, plan, shape, lock, passes, shares)
+    let callers = with_lowest::<FirstLock>(alloc, plan, shape, lock, passes, shares)?;
+    two_boxes(alloc, callers)
 }
 
 // The callers of a lock of three levels around this root.
@@ -156,21 +113,19 @@ fn three_levels(
     let Ok((lock, passes)) = make_top_of::<Noted<()>>(alloc, plan, root, shape, 2) else {
         return None;
     };
-    with_middle::<FirstLock, AsThree>(alloc, plan, shape, lock, passes, shares)
+    let callers = with_middle::<FirstLock>(alloc, plan, shape, lock, passes, shares)?;
+    three_boxes(alloc, callers)
 }
 
 // The callers of a lock of which the levels from 2 on are made.
-fn with_middle<
-    H: HasKinds<Noted<()>> + Drop,
-    W: Wraps<LevelOver<Noted<()>, LevelOver<Noted<()>, H>>>,
->(
+fn with_middle<H: HasKinds<Noted<()>> + Drop>(
     alloc: Global,
     plan: &Plan,
     shape: &Shape,
     high: H,
     passes: Vec<H::Pass>,
     shares: Vec<Share>,
-) -> Option<Vec<Box<AnyDepth>>>
+) -> Option<Vec<Caller<LevelOver<Noted<()>, LevelOver<Noted<()>, H>>>>>
     requires raised { IsRaised H.Pass.rest (H.has high) (H.sound high) (H.level high) (H.count high) (H.tag high) shape.now 2
         (H.tag high) passes.items }
     requires kinds { H.has_kinds high plan.now.kinds 2 }
@@ -180,24 +135,24 @@ fn with_middle<
     requires few { callers_of shape.now < 2 ^ 32 }
     requires may { MayMake (H.tag high) shape.now shares.items }
     ensures count { IfSome result (λ made. length made.items ≡ callers_of shape.now) }
-    ensures callers { IfSome result (λ made. (lock : Tag) × IsLockOf shape.now lock × AreBoxed (IsNew lock W.levels) made.items) }
+    ensures callers { IfSome result (λ made. (lock : Tag) × IsLockOf shape.now lock × AreFresh lock made.items) }
 {
     let kind = kind_at(plan, 1);
     let Ok((lock, passes)) = add_below::<Noted<()>, H>(alloc, kind, shape, 1, high, passes) else {
         return None;
     };
-    with_lowest::<LevelOver<Noted<()>, H>, W>(alloc, plan, shape, lock, passes, shares)
+    with_lowest::<LevelOver<Noted<()>, H>>(alloc, plan, shape, lock, passes, shares)
 }
 
 // The callers of a lock of which the levels from 1 on are made.
-fn with_lowest<H: HasKinds<Noted<()>> + Drop, W: Wraps<LevelOver<Noted<()>, H>>>(
+fn with_lowest<H: HasKinds<Noted<()>> + Drop>(
     alloc: Global,
     plan: &Plan,
     shape: &Shape,
     high: H,
     passes: Vec<H::Pass>,
     shares: Vec<Share>,
-) -> Option<Vec<Box<AnyDepth>>>
+) -> Option<Vec<Caller<LevelOver<Noted<()>, H>>>>
     requires raised { IsRaised H.Pass.rest (H.has high) (H.sound high) (H.level high) (H.count high) (H.tag high) shape.now 1
         (H.tag high) passes.items }
     requires kinds { H.has_kinds high plan.now.kinds 1 }
@@ -207,46 +162,68 @@ fn with_lowest<H: HasKinds<Noted<()>> + Drop, W: Wraps<LevelOver<Noted<()>, H>>>
     requires few { callers_of shape.now < 2 ^ 32 }
     requires may { MayMake (H.tag high) shape.now shares.items }
     ensures count { IfSome result (λ made. length made.items ≡ callers_of shape.now) }
-    ensures callers { IfSome result (λ made. (lock : Tag) × IsLockOf shape.now lock × AreBoxed (IsNew lock W.levels) made.items) }
+    ensures callers { IfSome result (λ made. (lock : Tag) × IsLockOf shape.now lock × AreFresh lock made.items) }
 {
     let kind = kind_at(plan, 0);
     let Ok((lock, passes)) = add_below::<Noted<()>, H>(alloc, kind, shape, 0, high, passes) else {
         return None;
     };
-    boxes_of::<LevelOver<Noted<()>, H>, W>(alloc, plan, shape, lock, passes, shares)
+    callers_for::<LevelOver<Noted<()>, H>>(alloc, plan, shape, lock, passes, shares)
 }
 
-// The callers of a lock that was made for a shape, and whose levels have the plan's kinds, each in a box, the last one first.
-fn boxes_of<C: HasKinds<Noted<()>> + Drop, W: Wraps<C>>(
+// The callers of a lock that was made for a shape, and whose levels have the plan's kinds.
+fn callers_for<C: HasKinds<Noted<()>> + Drop>(
     alloc: Global,
     _plan: &Plan,
     _shape: &Shape,
     lock: C,
     passes: Vec<C::Pass>,
     shares: Vec<Share>,
-) -> Option<Vec<Box<AnyDepth>>>
+) -> Option<Vec<Caller<C>>>
     requires raised { IsRaised C.Pass.rest (C.has lock) (C.sound lock) (C.level lock) (C.count lock) (C.tag lock) _shape.now 0
         (C.tag lock) passes.items }
     requires kinds { C.has_kinds lock _plan.now.kinds 0 }
     requires may { MayMake (C.tag lock) _shape.now shares.items }
     ensures count { IfSome result (λ made. length made.items ≡ callers_of _shape.now) }
-    ensures callers { IfSome result (λ made. (lock : Tag) × IsLockOf _shape.now lock × AreBoxed (IsNew lock W.levels) made.items) }
+    ensures callers { IfSome result (λ made. (lock : Tag) × IsLockOf _shape.now lock × AreFresh lock made.items) }
 {
-    let callers = make_callers(alloc, lock, passes, shares)?;
-    boxed::<C, W>(alloc, callers)
+    make_callers(alloc, lock, passes, shares)
 }
 
-// The callers, each in a box, the last one first.
-fn boxed<C: Composed<Noted<()>> + Drop, W: Wraps<C>>(
-    alloc: Global,
-    mut callers: Vec<Caller<C>>,
-) -> Option<Vec<Box<AnyDepth>>>
+// The callers of a lock of one level, each in a box, the last one first.
+fn one_boxes(alloc: Global, mut callers: Vec<Caller<FirstLock>>) -> Option<Vec<Box<AnyDepth>>>
     ensures count { IfSome result (λ made. length made.items ≡ length callers.items) }
-    ensures callers { (lock : Tag) → AreFresh lock callers.items → IfSome result (λ made. AreBoxed (IsNew lock W.levels) made.items) }
+    ensures callers { (lock : Tag) → AreFresh lock callers.items → IfSome result (λ made. AreBoxed (IsNew lock 1) made.items) }
 {
     let mut boxes = Vec::new(alloc);
     while let Some(caller) = callers.pop() {
-        let one = Box::new(alloc, W::wrapped(caller)).ok()?;
+        let one = Box::new(alloc, AnyDepth::One(OneLevel::of(caller))).ok()?;
+        boxes.push(one).ok()?;
+    }
+    Some(boxes)
+}
+
+// The callers of a lock of two levels, each in a box, the last one first.
+fn two_boxes(alloc: Global, mut callers: Vec<Caller<SecondLock>>) -> Option<Vec<Box<AnyDepth>>>
+    ensures count { IfSome result (λ made. length made.items ≡ length callers.items) }
+    ensures callers { (lock : Tag) → AreFresh lock callers.items → IfSome result (λ made. AreBoxed (IsNew lock 2) made.items) }
+{
+    let mut boxes = Vec::new(alloc);
+    while let Some(caller) = callers.pop() {
+        let one = Box::new(alloc, AnyDepth::Two(TwoLevels::of(caller))).ok()?;
+        boxes.push(one).ok()?;
+    }
+    Some(boxes)
+}
+
+// The callers of a lock of three levels, each in a box, the last one first.
+fn three_boxes(alloc: Global, mut callers: Vec<Caller<ThirdLock>>) -> Option<Vec<Box<AnyDepth>>>
+    ensures count { IfSome result (λ made. length made.items ≡ length callers.items) }
+    ensures callers { (lock : Tag) → AreFresh lock callers.items → IfSome result (λ made. AreBoxed (IsNew lock 3) made.items) }
+{
+    let mut boxes = Vec::new(alloc);
+    while let Some(caller) = callers.pop() {
+        let one = Box::new(alloc, AnyDepth::Three(ThreeLevels::of(caller))).ok()?;
         boxes.push(one).ok()?;
     }
     Some(boxes)

@@ -2,12 +2,12 @@
 ghost use Rattle.std.specs.Prelude.{◌≡◌, is_none};
 ghost use Rattle.std.specs.Option.{MatchOption};
 ghost use Rattle.std.specs.declared.option.Option.TheVariants.{None, Some};
-ghost use Rattle.level_callers.specs.Goes.{Begins};
-ghost use Rattle.level_handles.specs.Calls.{HandleDoes, HandleFrees, Enters, Polls, BeginsRelease, PollsRelease};
+ghost use Rattle.level_handles.specs.Calls.{Acts, HandleDoes, HandleFrees};
 
+use crate::act::Call;
 use crate::any_depth::AnyDepth;
 use crate::handle::ClofComposedCaller;
-use level_callers::{Reply, Standing};
+use level_callers::Reply;
 use std::alloc::Global;
 use std::mem;
 
@@ -27,52 +27,12 @@ impl ClofComposedCaller {
         drop(mem::replace(self, ClofComposedCaller::full(caller)));
     }
 
-    /// From Idle: enters the queue of its lowest level, and goes up from there as far as it can.
-    pub fn begin(&mut self, alloc: Global) -> Option<Reply>
-        ensures does { HandleDoes Begins self.old.held self.new.held result }
+    /// Does a call with the caller, from the standing that the call's name says.
+    pub fn act(&mut self, alloc: Global, call: Call) -> Option<Reply>
+        ensures does { HandleDoes (Acts call) self.old.held self.new.held result }
     {
         let mut caller = self.take(alloc)?;
-        let reply = caller.begin();
-        self.put(caller);
-        Some(reply)
-    }
-
-    /// From Idle: begins, and polls once where that is not done.
-    pub fn enter(&mut self, alloc: Global) -> Option<Reply>
-        ensures does { HandleDoes Enters self.old.held self.new.held result }
-    {
-        let mut caller = self.take(alloc)?;
-        let reply = caller.enter();
-        self.put(caller);
-        Some(reply)
-    }
-
-    /// From Queued: asks once whether the caller is the head of the queue where it is queued, and goes up from there as far as it can.
-    pub fn poll(&mut self, alloc: Global) -> Option<Reply>
-        ensures does { HandleDoes Polls self.old.held self.new.held result }
-    {
-        let mut caller = self.take(alloc)?;
-        let reply = caller.poll();
-        self.put(caller);
-        Some(reply)
-    }
-
-    /// From Holding: leaves the lock.
-    pub fn begin_release(&mut self, alloc: Global) -> Option<Reply>
-        ensures does { HandleDoes BeginsRelease self.old.held self.new.held result }
-    {
-        let mut caller = self.take(alloc)?;
-        let reply = caller.begin_release();
-        self.put(caller);
-        Some(reply)
-    }
-
-    /// From Leaving: goes on with a release.
-    pub fn poll_release(&mut self, alloc: Global) -> Option<Reply>
-        ensures does { HandleDoes PollsRelease self.old.held self.new.held result }
-    {
-        let mut caller = self.take(alloc)?;
-        let reply = caller.poll_release();
+        let reply = caller.act(call);
         self.put(caller);
         Some(reply)
     }
@@ -81,9 +41,9 @@ impl ClofComposedCaller {
     pub fn free(&mut self, alloc: Global) -> Option<Reply>
         ensures frees { HandleFrees self.old.held self.new.held result }
     {
-        let caller = self.take(alloc)?;
-        match caller.standing() {
-            Standing::Idle => Some(Reply::Done),
+        let mut caller = self.take(alloc)?;
+        match caller.act(Call::AskIdle) {
+            Reply::Done => Some(Reply::Done),
             _ => {
                 self.put(caller);
                 Some(Reply::Elsewhere)

@@ -1,9 +1,9 @@
 //! A caller of a composed lock of each depth, under a name of its own, so that what is said of a caller of any depth names no lock.
 ghost use Rattle.std.specs.Prelude.{◌≡◌};
-ghost use Rattle.level_callers.specs.Goes.{Begins, Polls, BeginsRelease, PollsRelease};
-ghost use Rattle.level_callers.specs.Goes.{HasClimbed, HasLooked, HasBegunToLeave, HasDescended};
+ghost use Rattle.level_handles.specs.Calls.{Acts};
 
-use level_callers::{Caller, Reply, Standing};
+use crate::act::{Call, act};
+use level_callers::{Caller, Reply};
 use lock_levels::{LevelOver, LockKind, TopOf};
 use own_payload::Noted;
 use std::marker::{Model, PhantomData};
@@ -47,45 +47,11 @@ impl OneLevel {
         }
     }
 
-    /// Where the caller stands.
-    pub(crate) fn standing(&self) -> Standing
-        ensures stands { result ≡ self.now.standing }
+    /// Does a call.
+    pub(crate) fn act(&mut self, call: Call) -> Reply
+        ensures acts { Acts call self.old self.new result }
     {
-        self.caller.standing()
-    }
-
-    pub(crate) fn begin(&mut self) -> Reply
-        ensures goes { Begins self.old self.new result }
-    {
-        self.caller.begin()
-    }
-
-    pub(crate) fn enter(&mut self) -> Reply
-        ensures goes { Begins self.old self.new result }
-        ensures looked { HasLooked self.new result }
-    {
-        self.caller.enter()
-    }
-
-    pub(crate) fn poll(&mut self) -> Reply
-        ensures goes { Polls self.old self.new result }
-        ensures climbed { HasClimbed self.old self.new result }
-    {
-        self.caller.poll()
-    }
-
-    pub(crate) fn begin_release(&mut self) -> Reply
-        ensures goes { BeginsRelease self.old self.new result }
-        ensures left { HasBegunToLeave self.old self.new result }
-    {
-        self.caller.begin_release()
-    }
-
-    pub(crate) fn poll_release(&mut self) -> Reply
-        ensures goes { PollsRelease self.old self.new result }
-        ensures descended { HasDescended self.old self.new result }
-    {
-        self.caller.poll_release()
+        act::<FirstLock>(&mut self.caller, call)
     }
 }
 
@@ -119,45 +85,11 @@ impl TwoLevels {
         }
     }
 
-    /// Where the caller stands.
-    pub(crate) fn standing(&self) -> Standing
-        ensures stands { result ≡ self.now.standing }
+    /// Does a call.
+    pub(crate) fn act(&mut self, call: Call) -> Reply
+        ensures acts { Acts call self.old self.new result }
     {
-        self.caller.standing()
-    }
-
-    pub(crate) fn begin(&mut self) -> Reply
-        ensures goes { Begins self.old self.new result }
-    {
-        self.caller.begin()
-    }
-
-    pub(crate) fn enter(&mut self) -> Reply
-        ensures goes { Begins self.old self.new result }
-        ensures looked { HasLooked self.new result }
-    {
-        self.caller.enter()
-    }
-
-    pub(crate) fn poll(&mut self) -> Reply
-        ensures goes { Polls self.old self.new result }
-        ensures climbed { HasClimbed self.old self.new result }
-    {
-        self.caller.poll()
-    }
-
-    pub(crate) fn begin_release(&mut self) -> Reply
-        ensures goes { BeginsRelease self.old self.new result }
-        ensures left { HasBegunToLeave self.old self.new result }
-    {
-        self.caller.begin_release()
-    }
-
-    pub(crate) fn poll_release(&mut self) -> Reply
-        ensures goes { PollsRelease self.old self.new result }
-        ensures descended { HasDescended self.old self.new result }
-    {
-        self.caller.poll_release()
+        act::<SecondLock>(&mut self.caller, call)
     }
 }
 
@@ -191,44 +123,10 @@ impl ThreeLevels {
         }
     }
 
-    /// Where the caller stands.
-    pub(crate) fn standing(&self) -> Standing
-        ensures stands { result ≡ self.now.standing }
+    /// Does a call.
+    pub(crate) fn act(&mut self, call: Call) -> Reply
+        ensures acts { Acts call self.old self.new result }
     {
-        self.caller.standing()
-    }
-
-    pub(crate) fn begin(&mut self) -> Reply
-        ensures goes { Begins self.old self.new result }
-    {
-        self.caller.begin()
-    }
-
-    pub(crate) fn enter(&mut self) -> Reply
-        ensures goes { Begins self.old self.new result }
-        ensures looked { HasLooked self.new result }
-    {
-        self.caller.enter()
-    }
-
-    pub(crate) fn poll(&mut self) -> Reply
-        ensures goes { Polls self.old self.new result }
-        ensures climbed { HasClimbed self.old self.new result }
-    {
-        self.caller.poll()
-    }
-
-    pub(crate) fn begin_release(&mut self) -> Reply
-        ensures goes { BeginsRelease self.old self.new result }
-        ensures left { HasBegunToLeave self.old self.new result }
-    {
-        self.caller.begin_release()
-    }
-
-    pub(crate) fn poll_release(&mut self) -> Reply
-        ensures goes { PollsRelease self.old self.new result }
-        ensures descended { HasDescended self.old self.new result }
-    {
-        self.caller.poll_release()
+        act::<ThirdLock>(&mut self.caller, call)
     }
 }

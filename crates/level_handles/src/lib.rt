@@ -1,6 +1,7 @@
 //! The handles of callers of composed locks: what a C program keeps of a caller of a lock of one to three levels.
 #![tactic(auto)]
 
+mod act;
 mod any_depth;
 mod boxes;
 mod calls;
@@ -8,6 +9,7 @@ mod depths;
 mod handle;
 mod making;
 
+pub use act::Call;
 pub use any_depth::AnyDepth;
 pub use depths::{OneLevel, ThreeLevels, TwoLevels};
 pub use handle::ClofComposedCaller;
