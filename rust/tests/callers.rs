@@ -88,9 +88,9 @@ const PLANS: [Plan<'static>; 3] = [
     },
     Plan {
         description: MACHINE,
-        levels: "core,package,machine",
+        levels: "core,machine",
         locks: "",
-        keeps: "9,3",
+        keeps: "3",
     },
 ];
 

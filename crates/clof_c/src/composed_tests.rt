@@ -1,4 +1,4 @@
-//! Every call of a composed lock's caller at every standing, who holds after whom, and what making answers, at locks of one to three
+//! Every call of a composed lock's caller at every standing, who holds after whom, and what making answers, at locks of one and two
 //! levels.
 use crate::composed::{
     clof_composed_begin, clof_composed_begin_release, clof_composed_enter, clof_composed_free,
@@ -29,8 +29,8 @@ struct Words<'a> {
 /// The machine on which callers stand in two packages, and in two cores of each.
 const MACHINE: &[u8] = b"Package:2 Core:2 PU:1";
 
-/// Locks of one to three levels, of Hemlock locks: their holder leaves by a further call where a caller is behind it.
-const LOCKS: [Words<'static>; 3] = [
+/// Locks of one and of two levels, of Hemlock locks: their holder leaves by a further call where a caller is behind it.
+const LOCKS: [Words<'static>; 2] = [
     Words {
         description: MACHINE,
         levels: b"machine",
@@ -42,12 +42,6 @@ const LOCKS: [Words<'static>; 3] = [
         levels: b"package,machine",
         locks: b"hem-hem",
         keeps: b"9",
-    },
-    Words {
-        description: MACHINE,
-        levels: b"core,package,machine",
-        locks: b"hem-hem-hem",
-        keeps: b"9,9",
     },
 ];
 
@@ -217,7 +211,6 @@ fn making_a_composed_lock_answers_by_the_handles(rt: HostRuntime) {
 #[test]
 fn refused_texts_are_told_with_their_place(rt: HostRuntime) {
     let alloc = rt.alloc();
-    let deep = b"Package:1 L3Cache:1 L2Cache:1 Core:2 PU:1";
     let refused: [(&[u8], &[u8], &[u8], &[u8], u32, u64, u64); 12] = [
         (b"", b"machine", b"mcs", b"9", 21, 0, 0),
         (b"Package:2 Cores:2 PU:1", b"machine", b"mcs", b"9", 22, 10, 0),
@@ -230,7 +223,7 @@ fn refused_texts_are_told_with_their_place(rt: HostRuntime) {
         (MACHINE, b"package,machine", b"mcs-tas", b"9", 44, 1, 0),
         (MACHINE, b"package,machine", b"mcs", b"9", 45, 2, 1),
         (MACHINE, b"package,machine", b"mcs-mcs", b"65536", 46, 0, 0),
-        (deep, b"core,l2,package,machine", b"mcs-mcs-mcs-mcs", b"9", 8, 0, 0),
+        (MACHINE, b"core,package,machine", b"mcs-mcs-mcs", b"9", 8, 0, 0),
     ];
     for (description, levels, locks, keeps, code, first, second) in refused {
         let words = Words {

@@ -12,18 +12,16 @@ use Rattle.level_callers.specs.declared.reply.Reply.TheVariants.{Done, Elsewhere
 use Rattle.level_handles.specs.declared.act.Call.{Call}
 use Rattle.level_handles.specs.declared.act.Call.TheVariants.{Begin, Enter, Poll, BeginRelease, PollRelease, AskIdle}
 use Rattle.level_handles.specs.declared.any_depth.AnyDepth.{AnyDepth}
-use Rattle.level_handles.specs.declared.any_depth.AnyDepth.TheVariants.{One, Two, Three}
+use Rattle.level_handles.specs.declared.any_depth.AnyDepth.TheVariants.{One, Two}
 
 abbrev pub seen_of : AnyDepth → Seen
 seen_of (One c) = c
 seen_of (Two c) = c
-seen_of (Three c) = c
 
 -- how many levels its lock has
 abbrev pub levels_of : AnyDepth → ℕ
 levels_of (One c) = 1
 levels_of (Two c) = 2
-levels_of (Three c) = 3
 
 -- where the caller is idle, the answer is done, and nothing changes
 abbrev pub AsksAt : Bool → Seen → Seen → Reply → Type 0

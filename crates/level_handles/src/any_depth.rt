@@ -2,15 +2,14 @@
 ghost use Rattle.level_handles.specs.Calls.{Acts, seen_of};
 
 use crate::act::Call;
-use crate::depths::{OneLevel, ThreeLevels, TwoLevels};
+use crate::depths::{OneLevel, TwoLevels};
 use level_callers::Reply;
 
-/// A caller of a composed lock of one to three levels.
+/// A caller of a composed lock of one or two levels.
 #[derive(Drop)]
 pub enum AnyDepth {
     One(OneLevel),
     Two(TwoLevels),
-    Three(ThreeLevels),
 }
 
 impl AnyDepth {
@@ -21,7 +20,6 @@ impl AnyDepth {
         match self {
             AnyDepth::One(caller) => caller.act(call),
             AnyDepth::Two(caller) => caller.act(call),
-            AnyDepth::Three(caller) => caller.act(call),
         }
     }
 }

@@ -1,4 +1,4 @@
-//! The handles of callers of composed locks: what a C program keeps of a caller of a lock of one to three levels.
+//! The handles of callers of composed locks: what a C program keeps of a caller of a lock of one or two levels.
 #![tactic(auto)]
 
 mod act;
@@ -11,6 +11,6 @@ mod making;
 
 pub use act::Call;
 pub use any_depth::AnyDepth;
-pub use depths::{OneLevel, ThreeLevels, TwoLevels};
+pub use depths::{OneLevel, TwoLevels};
 pub use handle::ClofComposedCaller;
 pub use making::{Made, make};

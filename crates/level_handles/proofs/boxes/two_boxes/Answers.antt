@@ -7,6 +7,7 @@ use Rattle.own_payload.proofs.Items.{in_front}
 use Rattle.level_callers.specs.Seen.{IsFresh}
 use Rattle.level_handles.specs.Calls.{levels_of, seen_of}
 use Rattle.level_handles.specs.Making.{IsNew}
+use Rattle.level_handles.specs.declared.any_depth.AnyDepth.TheVariants.{Two}
 use Rattle.level_handles.proofs.Boxed.{boxed_more}
 use Rattle.level_handles.proofs.boxes.two_boxes.Goals as goal
 
@@ -18,14 +19,14 @@ loop-caller-preserved c =
     let fewer = length_more c.pop.new.self.items c.loop-caller.callers.items c.in-Some.caller cut in
     let pushed : c.push.new.self.items ≡ c.loop-caller.boxes.items ++ c.in_ok-one.one ∷ [] = grind (arith, common_steps) in
     let more = length_more c.loop-caller.boxes.items c.push.new.self.items c.in_ok-one.one pushed in
-    let seen : seen_of c.in_ok-one.one.value ≡ c.in-Some.caller = grind (arith, common_steps) in
-    let many : levels_of c.in_ok-one.one.value ≡ 2 = grind (arith, common_steps) in
+    let value : c.in_ok-one.one.value ≡ Two c.of.result = grind (arith, common_steps) in
     record {
       counted = omega (arith, fewer, more, counted);
       fresh = λ lock all. in_front (IsFresh lock) c.loop-caller.callers.items c.pop.new.self.items c.in-Some.caller cut (inv.fresh lock all);
       behind = λ lock all.
           boxed_more 2 lock c.loop-caller.callers.items c.pop.new.self.items c.in-Some.caller c.loop-caller.boxes.items
-          c.push.new.self.items c.in_ok-one.one cut pushed seen many (inv.fresh lock all) (inv.behind lock all);
+          c.push.new.self.items c.in_ok-one.one cut pushed (ap seen_of value ∙ c.of.ensures.same)
+          (ap levels_of value) (inv.fresh lock all) (inv.behind lock all);
     }
 
 pub returns-clause-callers : goal.returns-clause-callers
