@@ -23,7 +23,8 @@ static void *add(void *argument)
     cpu_set_t set;
     CPU_ZERO(&set);
     CPU_SET(mine->pu, &set);
-    /* where the system has no such processor, the thread runs anywhere, and the lock only hands over worse */
+    /* The system's numbers are taken to be the logical ones. Where they aren't, or the system has no such processor, the lock is as right,
+     * and only hands over in a worse order. */
     pthread_setaffinity_np(pthread_self(), sizeof set, &set);
     for (int hold = 0; hold < HOLDS; hold++) {
         clof_composed_acquire(&mine->caller);
