@@ -10,7 +10,7 @@ use Rattle.level_callers.specs.Goes.{HasClimbed, HasLooked, HasBegunToLeave, Has
 use Rattle.level_callers.specs.declared.reply.Reply.{Reply}
 use Rattle.level_callers.specs.declared.reply.Reply.TheVariants.{Done, Elsewhere}
 use Rattle.level_handles.specs.declared.act.Call.{Call}
-use Rattle.level_handles.specs.declared.act.Call.TheVariants.{Begin, Enter, Poll, BeginRelease, PollRelease, AskIdle}
+use Rattle.level_handles.specs.declared.act.Call.TheVariants.{Begin, Enter, Poll, BeginRelease, PollRelease}
 use Rattle.level_handles.specs.declared.any_depth.AnyDepth.{AnyDepth}
 use Rattle.level_handles.specs.declared.any_depth.AnyDepth.TheVariants.{One, Two}
 
@@ -23,11 +23,6 @@ abbrev pub levels_of : AnyDepth → ℕ
 levels_of (One c) = 1
 levels_of (Two c) = 2
 
--- where the caller is idle, the answer is done, and nothing changes
-abbrev pub AsksAt : Bool → Seen → Seen → Reply → Type 0
-AsksAt true old new reply = (new ≡ old) × (reply ≡ Done)
-AsksAt false old new reply = (new ≡ old) × (reply ≡ Elsewhere)
-
 -- what each call does with a caller, and what it answers
 abbrev pub Acts : Call → Seen → Seen → Reply → Type 0
 Acts Begin old new reply = Begins old new reply
@@ -35,7 +30,6 @@ Acts Enter old new reply = Begins old new reply × HasLooked new reply
 Acts Poll old new reply = Polls old new reply × HasClimbed old new reply
 Acts BeginRelease old new reply = BeginsRelease old new reply × HasBegunToLeave old new reply
 Acts PollRelease old new reply = PollsRelease old new reply × HasDescended old new reply
-Acts AskIdle old new reply = AsksAt (is_idle old.standing) old new reply
 
 -- an empty handle stays empty, and the answer says so; else the handle has a caller, with which the call does what it does
 abbrev pub HandleDoes : (Seen → Seen → Reply → Type 0) → Option AnyDepth → Option AnyDepth → Option Reply → Type 0

@@ -2,10 +2,10 @@
 ghost use Rattle.level_handles.specs.Calls.{Acts};
 
 use clof_compose::Composed;
-use level_callers::{Caller, Reply, Standing};
+use level_callers::{Caller, Reply};
 use own_payload::Noted;
 
-/// A call on a caller. `AskIdle` is answered Done where the caller is idle, else Elsewhere, and changes nothing.
+/// A call on a caller.
 #[derive(Clone, Copy, PartialEq, Eq, Debug, Drop)]
 pub enum Call {
     Begin,
@@ -13,7 +13,6 @@ pub enum Call {
     Poll,
     BeginRelease,
     PollRelease,
-    AskIdle,
 }
 
 /// Does a call.
@@ -26,9 +25,5 @@ pub(crate) fn act<C: Composed<Noted<()>>>(caller: &mut Caller<C>, call: Call) ->
         Call::Poll => caller.poll(),
         Call::BeginRelease => caller.begin_release(),
         Call::PollRelease => caller.poll_release(),
-        Call::AskIdle => match caller.standing() {
-            Standing::Idle => Reply::Done,
-            _ => Reply::Elsewhere,
-        },
     }
 }

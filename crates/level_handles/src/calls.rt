@@ -7,7 +7,7 @@ ghost use Rattle.level_handles.specs.Calls.{Acts, HandleDoes, HandleFrees};
 use crate::act::Call;
 use crate::any_depth::AnyDepth;
 use crate::handle::ClofComposedCaller;
-use level_callers::Reply;
+use level_callers::{Reply, Standing};
 use std::alloc::Global;
 use std::mem;
 
@@ -41,9 +41,9 @@ impl ClofComposedCaller {
     pub fn free(&mut self, alloc: Global) -> Option<Reply>
         ensures frees { HandleFrees self.old.held self.new.held result }
     {
-        let mut caller = self.take(alloc)?;
-        match caller.act(Call::AskIdle) {
-            Reply::Done => Some(Reply::Done),
+        let caller = self.take(alloc)?;
+        match caller.standing() {
+            Standing::Idle => Some(Reply::Done),
             _ => {
                 self.put(caller);
                 Some(Reply::Elsewhere)

@@ -3,7 +3,7 @@ ghost use Rattle.std.specs.Prelude.{◌≡◌};
 ghost use Rattle.level_handles.specs.Calls.{Acts};
 
 use crate::act::{Call, act};
-use level_callers::{Caller, Reply};
+use level_callers::{Caller, Reply, Standing};
 use lock_levels::{LevelOver, LockKind, TopOf};
 use own_payload::Noted;
 use std::marker::{Model, PhantomData};
@@ -44,6 +44,13 @@ impl OneLevel {
         }
     }
 
+    /// Where the caller stands.
+    pub(crate) fn standing(&self) -> Standing
+        ensures stands { result ≡ self.now.standing }
+    {
+        self.caller.standing()
+    }
+
     /// Does a call.
     pub(crate) fn act(&mut self, call: Call) -> Reply
         ensures acts { Acts call self.old self.new result }
@@ -80,6 +87,13 @@ impl TwoLevels {
             caller,
             kinds: PhantomData,
         }
+    }
+
+    /// Where the caller stands.
+    pub(crate) fn standing(&self) -> Standing
+        ensures stands { result ≡ self.now.standing }
+    {
+        self.caller.standing()
     }
 
     /// Does a call.

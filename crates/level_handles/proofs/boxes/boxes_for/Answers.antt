@@ -1,4 +1,4 @@
-use Rattle.std.proofs.Common.{◌≡◌, ◌+◌, subst, arith}
+use Rattle.std.proofs.Common.{◌≡◌, ◌+◌, length, ap, subst, arith}
 use Rattle.std.specs.Prelude.{IfSome}
 use Rattle.lock_rules.specs.Tag.{Tag}
 use Rattle.keep_local.specs.Shapes.{top_of}
@@ -16,12 +16,12 @@ two_levels-requires-clause-may c =
 
 pub returns-then-levels-eq1-clause-callers : goal.returns-then-levels-eq1-clause-callers
 returns-then-levels-eq1-clause-callers c =
-    let many : 1 ≡ top_of c.args.shape.now + 1 = omega arith in
+    let many : 1 ≡ top_of c.args.shape.now + 1 = let many_kinds = ap length c.as_slice.ensures in omega (arith, many_kinds) in
     subst (λ n. IfSome c.one_level.result (λ made. (lock : Tag) × IsLockOf c.args.shape.now lock × AreBoxed (IsNew lock n) made.items)) many
     c.one_level.ensures.callers
 
-pub returns-clause-callers : goal.returns-clause-callers
-returns-clause-callers c =
-    let many : 2 ≡ top_of c.args.shape.now + 1 = omega arith in
+pub returns-else-levels-eq1-clause-callers : goal.returns-else-levels-eq1-clause-callers
+returns-else-levels-eq1-clause-callers c =
+    let many : 2 ≡ top_of c.args.shape.now + 1 = let many_kinds = ap length c.as_slice.ensures in omega (arith, many_kinds) in
     subst (λ n. IfSome c.two_levels.result (λ made. (lock : Tag) × IsLockOf c.args.shape.now lock × AreBoxed (IsNew lock n) made.items))
     many c.two_levels.ensures.callers

@@ -34,4 +34,4 @@ returns-clause-callers c =
     let none : length c.loop-caller.callers.items ≡ 0 = dite (ℕ_discrete (length c.loop-caller.callers.items) 0) (λ e. e) (λ ne.
     let ok = c.loop-caller.callers.ok.0 in
     let some = c.in_default.ensures.variant.1 (omega (arith, ok, ne)) in absurd (cc)) in
-    λ lock all k b e. subst (λ n. IsNew lock 2 (n + k) b.value) none (c.loop-caller.invariant.behind lock all k b e)
+    λ lock all k b e. subst (λ n. IsNew lock 2 n b.value) (omega (arith, none)) (c.loop-caller.invariant.behind lock all k b e)

@@ -13,6 +13,13 @@ use Rattle.level_handles.proofs.making.fill.Goals as goal
 abbrev held : ClofComposedCaller → Option AnyDepth
 held h = h.held
 
+pub loop-index-init : goal.loop-index-init
+loop-index-init c = record {
+  left = omega (arith, c.requires.enough);
+  behind = λ lock levels are k b e. let same : k ≡ 0 + k = omega arith in subst (λ n. IsNew lock levels n b.value) same (are k b e);
+  filled = λ lock levels are k h lt e. absurd (omega (arith, lt));
+}
+
 pub loop-index-preserved : goal.loop-index-preserved
 loop-index-preserved c = record {
   left = grind (arith, common_steps);
