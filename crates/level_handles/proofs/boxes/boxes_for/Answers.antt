@@ -16,12 +16,12 @@ two_levels-requires-clause-may c =
 
 pub returns-then-levels-eq1-clause-callers : goal.returns-then-levels-eq1-clause-callers
 returns-then-levels-eq1-clause-callers c =
-    let many : 1 ≡ top_of c.args.shape.now + 1 = let many_kinds = ap length c.as_slice.ensures in omega (arith, many_kinds) in
+    let many : 1 ≡ top_of c.args.shape.now + 1 = let many_kinds = ap length c.as_slice-levels.ensures in omega (arith, many_kinds) in
     subst (λ n. IfSome c.one_level.result (λ made. (lock : Tag) × IsLockOf c.args.shape.now lock × AreBoxed (IsNew lock n) made.items)) many
     c.one_level.ensures.callers
 
 pub returns-else-levels-eq1-clause-callers : goal.returns-else-levels-eq1-clause-callers
 returns-else-levels-eq1-clause-callers c =
-    let many : 2 ≡ top_of c.args.shape.now + 1 = let many_kinds = ap length c.as_slice.ensures in omega (arith, many_kinds) in
+    let many : 2 ≡ top_of c.args.shape.now + 1 = let many_kinds = ap length c.as_slice-levels.ensures in omega (arith, many_kinds) in
     subst (λ n. IfSome c.two_levels.result (λ made. (lock : Tag) × IsLockOf c.args.shape.now lock × AreBoxed (IsNew lock n) made.items))
     many c.two_levels.ensures.callers
