@@ -22,7 +22,8 @@ loop-caller-preserved c =
     let value : c.in_ok-one.one.value ≡ One c.of.result = grind (arith, common_steps) in
     record {
       counted = omega (arith, fewer, more, counted);
-      fresh = λ lock all. in_front (IsFresh lock) c.loop-caller.callers.items c.pop.new.self.items c.in-Some.caller cut (inv.fresh lock all);
+      fresh = λ lock all. in_front (IsFresh lock) c.loop-caller.callers.items c.pop.new.self.items c.in-Some.caller cut
+          (inv.fresh lock all);
       behind = λ lock all.
           boxed_more 1 lock c.loop-caller.callers.items c.pop.new.self.items c.in-Some.caller c.loop-caller.boxes.items
           c.push.new.self.items c.in_ok-one.one cut pushed (ap seen_of value ∙ c.of.ensures.same)
