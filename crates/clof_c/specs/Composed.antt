@@ -40,7 +40,7 @@ composed_made_code Refused = 6
 composed_made_code TooDeep = 8
 
 abbrev pub numbers_by : ℕ → ℕ → ClofNumbers
-numbers_by first second = record { first = first; second = second; }
+numbers_by first second = record { first = first; second = second }
 
 -- ---- the texts that are refused: a code for each rule, and its numbers
 

@@ -33,10 +33,7 @@ pub extern "C" fn clof_composed_poll(alloc: Global, caller: &mut ClofComposedCal
 
 /// From Holding: leaves the lock.
 #[unsafe(no_mangle)]
-pub extern "C" fn clof_composed_begin_release(
-    alloc: Global,
-    caller: &mut ClofComposedCaller,
-) -> u32
+pub extern "C" fn clof_composed_begin_release(alloc: Global, caller: &mut ClofComposedCaller) -> u32
     ensures answers { AnswersComposed (Acts BeginRelease) caller.old.held caller.new.held result }
 {
     composed_code(caller.act(alloc, Call::BeginRelease))
@@ -44,10 +41,7 @@ pub extern "C" fn clof_composed_begin_release(
 
 /// From Leaving: goes on with a release.
 #[unsafe(no_mangle)]
-pub extern "C" fn clof_composed_poll_release(
-    alloc: Global,
-    caller: &mut ClofComposedCaller,
-) -> u32
+pub extern "C" fn clof_composed_poll_release(alloc: Global, caller: &mut ClofComposedCaller) -> u32
     ensures answers { AnswersComposed (Acts PollRelease) caller.old.held caller.new.held result }
 {
     composed_code(caller.act(alloc, Call::PollRelease))

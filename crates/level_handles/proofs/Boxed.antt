@@ -41,4 +41,4 @@ pub boxed_more : (levels : ℕ) (lock : Tag) (before after : List Seen) (one : S
     → (k : ℕ) (x : Box AnyDepth Global) → slice_get (reverse more) k ≡ Some x → IsNew lock levels (length after + k) x.value
 boxed_more levels lock before after one boxes more b cut pushed seen many fresh behind =
     one_before (λ k x. IsNew lock levels k x.value) (length after) (length before) boxes more b (length_more after before one cut) pushed
-    (record { fresh = seen ∙ at_end (IsFresh lock) before after one cut fresh; levels_are = many; }) behind
+    (record { fresh = seen ∙ at_end (IsFresh lock) before after one cut fresh; levels_are = many }) behind

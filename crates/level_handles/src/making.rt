@@ -23,12 +23,7 @@ pub enum Made {
 }
 
 /// Makes a lock for the callers of a shape, whose levels have the kinds of the plan, and puts its callers into the handles, in order.
-pub fn make(
-    alloc: Global,
-    plan: &Plan,
-    shape: &Shape,
-    handles: &mut [ClofComposedCaller],
-) -> Made
+pub fn make(alloc: Global, plan: &Plan, shape: &Shape, handles: &mut [ClofComposedCaller]) -> Made
     requires plan { length plan.now.kinds ≡ top_of shape.now + 1 }
     requires formed { IsWellFormed shape.now }
     ensures makes { Makes shape.now (map (λ h. h.held) handles.old) (map (λ h. h.held) handles.new) result }
