@@ -61,7 +61,8 @@ fn push_first<'a>(out: &mut Vec<u8>, byte: u8, behind: &'a [u8]) -> Result<&'a [
     }
 }
 
-// The bytes in front that stand for themselves, the first other byte, and what stands behind it.
+// The bytes in front that stand for themselves, the first other byte, and what stands behind it. In line, so that they come in no struct.
+#[inline(always)]
 fn split_plain(text: &[u8]) -> Option<(&[u8], u8, &[u8])>
     ensures shorter { IfSome result (λ parts. length parts.2.now < length text.now) }
     ensures parts { MatchOption result
