@@ -1,8 +1,12 @@
 //! Decimal numbers within limits.
-ghost use Rattle.std.specs.Prelude.{◌≡◌, ◌+◌, ◌^◌, ◌≤◌, IfSome};
+ghost use Rattle.std.specs.Prelude.{◌≡◌, ◌+◌, ◌^◌, ◌≤◌, length, IfSome, MatchOption};
+ghost use Rattle.std.specs.Str.Parse.{IsNumeral, digits_value};
 ghost use Rattle.byte_text.specs.Numerals.{number_below, number_in, number_capped};
 
 use crate::numerals::{Numeral, read_numeral};
+
+// So many digits write a number below 2^64, whatever they are.
+const FEW: usize = 19;
 
 /// The number that a text writes in decimal digits, leading zeros among them, where it is at most `greatest`. `None` for
 /// each greater number, and for a text that is empty or has a byte that is no digit.
@@ -10,11 +14,34 @@ pub fn number_up_to(greatest: u64, text: &[u8]) -> Option<u64>
     ensures number { result ≡ number_below (greatest + 1) text.now }
     ensures bound { IfSome result (λ number. number ≤ greatest) }
 {
+    if text.len() <= FEW {
+        let number = short_number(text)?;
+        return if number <= greatest { Some(number) } else { None };
+    }
     match read_numeral(10, text, greatest) {
         Numeral::Number(number) => Some(number),
         Numeral::TooLarge => None,
         Numeral::NotNumeral => None,
     }
+}
+
+// The number that a text of few bytes writes in decimal digits, which are gone over once. `None` for a text that is empty or has a byte
+// that is no digit.
+fn short_number(text: &[u8]) -> Option<u64>
+    requires { length text.now ≤ 19 }
+    ensures { MatchOption result (¬ (IsNumeral 10 text.now)) (λ number. IsNumeral 10 text.now × (digits_value 10 text.now ≡ number)) }
+{
+    if text.is_empty() {
+        return None;
+    }
+    let mut number: u64 = 0;
+    for byte in text {
+        if *byte < b'0' || *byte > b'9' {
+            return None;
+        }
+        number = number * 10 + u64::from(*byte - b'0');
+    }
+    Some(number)
 }
 
 /// The number below 2^32 that a text writes in decimal digits, leading zeros among them. `None` for each greater number,

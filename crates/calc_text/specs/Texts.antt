@@ -19,8 +19,8 @@ use Rattle.calc_query.specs.declared.query.Numbering.TheVariants as numberings
 use Rattle.calc_query.specs.declared.query.Step2.{Step2}
 use Rattle.calc_query.specs.declared.query.Path.{Path}
 use Rattle.calc_query.specs.Answers.{intersecting, chains, largest}
-use Rattle.calc_text.specs.declared.answer.Answer.{Answer}
-use Rattle.calc_text.specs.declared.answer.Answer.TheVariants as answers
+use Rattle.calc_text.specs.declared.answer.AnswerKind.{AnswerKind}
+use Rattle.calc_text.specs.declared.answer.AnswerKind.TheVariants as answers
 
 -- ---- objects
 
@@ -84,7 +84,8 @@ abbrev pub between : Option (List ℕ) → List ℕ → List ℕ
 between separator other = unwrap_or separator other
 
 -- the text of an answer, without a line end
-unfoldable pub answer_text : Description → List ℕ → Answer → Numbering → (taskset : Bool) → (separator : Option (List ℕ)) → List ℕ
+unfoldable pub answer_text : Description → List ℕ → AnswerKind → Numbering → (taskset : Bool) → (separator : Option (List ℕ))
+    → List ℕ
 answer_text described set answers.Set numbering taskset separator = set_text taskset set
 answer_text described set (answers.Objects layer) numbering taskset separator =
     join_by (index_text described numbering layer) (between separator (codes ",")) (intersecting described set layer)

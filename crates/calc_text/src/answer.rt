@@ -11,9 +11,9 @@ use sequence::Sequence;
 use std::alloc::Global;
 use topo_tree::{Layer, Tree};
 
-/// What is asked of a set.
+/// Which answer on a set is asked for.
 #[derive(Drop)]
-pub enum Answer {
+pub enum AnswerKind {
     /// The set itself.
     Set,
     /// The numbers of the objects of a layer that have a PU of the set, in logical order.
@@ -28,7 +28,7 @@ pub enum Answer {
 
 /// How an answer is printed.
 #[derive(Clone, Copy)]
-pub struct Style<'a> {
+pub struct AnswerStyle<'a> {
     /// Which numbers are shown of PUs and nodes of memory.
     pub numbering: Numbering,
     /// Sets are printed in taskset's form.
@@ -43,8 +43,8 @@ pub fn answer_text(
     alloc: Global,
     tree: &Tree,
     set: &CpuSet,
-    answer: &Answer,
-    style: Style<'_>,
+    answer: &AnswerKind,
+    style: AnswerStyle<'_>,
 ) -> Result<Vec<u8>, OutOfMemory>
     requires { HasLayers tree.now answer.now }
     ensures { IfOk result (λ text. text.items ≡ answer_text tree.now set.now answer.now style.entry.numbering style.entry.taskset
@@ -52,8 +52,8 @@ pub fn answer_text(
 {
     let numbering = style.numbering;
     match answer {
-        Answer::Set => set_text(alloc, style.taskset, set),
-        Answer::Objects(layer) => objects_text(
+        AnswerKind::Set => set_text(alloc, style.taskset, set),
+        AnswerKind::Objects(layer) => objects_text(
             alloc,
             tree,
             set,
@@ -61,8 +61,8 @@ pub fn answer_text(
             numbering,
             between(style, b","),
         ),
-        Answer::Count(layer) => count_text(alloc, tree, set, *layer),
-        Answer::Chains(layers) => chains_text(
+        AnswerKind::Count(layer) => count_text(alloc, tree, set, *layer),
+        AnswerKind::Chains(layers) => chains_text(
             alloc,
             tree,
             set,
@@ -70,12 +70,12 @@ pub fn answer_text(
             numbering,
             between(style, b" "),
         ),
-        Answer::Largest => largest_text(alloc, tree, set, numbering, between(style, b" ")),
+        AnswerKind::Largest => largest_text(alloc, tree, set, numbering, between(style, b" ")),
     }
 }
 
 // The separator that is given, or another.
-fn between<'a>(style: Style<'a>, other: &'static [u8]) -> &'a [u8]
+fn between<'a>(style: AnswerStyle<'a>, other: &'static [u8]) -> &'a [u8]
     ensures { result.now ≡ between (option_map (λ separator. separator.now) style.entry.separator) other.now }
 {
     match style.separator {

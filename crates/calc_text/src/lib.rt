@@ -7,5 +7,5 @@ mod items;
 mod labels;
 mod reading;
 
-pub use answer::{Answer, Style, answer_text, set_text};
+pub use answer::{AnswerKind, AnswerStyle, answer_text, set_text};
 pub use reading::{read_layers, read_terms};

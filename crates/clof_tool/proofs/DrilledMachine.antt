@@ -20,7 +20,7 @@ use Rattle.lock_plan.specs.declared.fault.PlanFault.TheVariants.{OutOfMemory}
 use Rattle.lock_plan.specs.Plans.{PlanRefused, first_misplaced, kind_named, plan_fault}
 use Rattle.command_texts.specs.declared.status.Status.{Status}
 use Rattle.command_texts.specs.declared.status.Status.TheVariants as statuses
-use Rattle.command_texts.specs.TopoText.{IsBuilt}
+use Rattle.command_texts.specs.TopoText.{DescribesBuilt}
 use Rattle.clof_tool.specs.Drilling.{drilled_machine}
 
 pub machine_sound : IsSound drilled_machine
@@ -47,7 +47,7 @@ machine_numbered : build_fault drilled_machine ≡ None
 unfolding drilled_machine build_fault indexes_fault first_fault numbers_of
 machine_numbered = refl
 
-pub machine_built : IsBuilt (codes "Package:2 L3Cache:2 Core:4 PU:2") drilled_machine
+pub machine_built : DescribesBuilt (codes "Package:2 L3Cache:2 Core:4 PU:2") drilled_machine
 machine_built = record { describes = machine_described; builds = machine_numbered }
 
 lock_planned : plan_fault drilled_machine (codes "l3,package,machine") (Some (codes "mcs-clh-hem")) (codes "16") ≡ None

@@ -8,7 +8,7 @@ use Rattle.edge_io.specs.Contents.{Gains}
 use Rattle.command_texts.specs.declared.status.Status.{Status}
 use Rattle.command_texts.specs.declared.status.Status.TheVariants as statuses
 use Rattle.command_words.specs.Asked.{Asked, Run, Set, Topo, Calc, Distrib, Select, Drill, Check}
-use Rattle.command_words.specs.Words.{Says, IsTabled, IsUsage, asked_of}
+use Rattle.command_words.specs.Words.{Says, NamesCommand, IsUsage, asked_of}
 use Rattle.clof_tool.specs.Outcome.{HasRead, IsAnswer}
 use Rattle.clof_tool.specs.Room.{HasRoom}
 
@@ -26,7 +26,7 @@ for_left (Check asked) left input text given given_now read answer = subst (λ i
 
 module _ (words : List (String Global)) (left held : List ℕ) (held_now : Option (List ℕ)) (given given_now room written : ℕ)
     (status : Status) (is : status ≡ statuses.WriteFault written) (roomy : HasRoom words left room)
-    (usage_else : IsUsage words → (status ≡ statuses.Usage) ⊎ ((status ≡ statuses.OutOfMemory) × IsTabled words))
+    (usage_else : IsUsage words → (status ≡ statuses.Usage) ⊎ ((status ≡ statuses.OutOfMemory) × NamesCommand words))
     (full : Rose 0 0 ⊎ (room ≡ written))
     (cut : (asked : Asked) → Says words asked → (input : List ℕ) × (text : List ℕ) × HasRead asked (Some left) given given_now input
     × IsAnswer asked input text × (written < length text) × Gains (Some held) held_now (take written text)) where

@@ -11,22 +11,22 @@ use Rattle.command_texts.specs.declared.status.Status.{Status}
 use Rattle.command_texts.specs.declared.status.Status.TheVariants as statuses
 use Rattle.command_texts.specs.CalcText.{CalcRefuses}
 use Rattle.command_texts.specs.DistribText.{DistribRefuses}
-use Rattle.command_texts.specs.SetText.{IsRefused}
+use Rattle.command_texts.specs.SetText.{SetRefused}
 use Rattle.command_texts.specs.TopoText.{TopoRefuses}
 use Rattle.clof_tool.specs.Outcome.{SetRefuses}
 use Rattle.clof_tool.proofs.Stops.{complete_of}
 
 -- a refusal of `set`
 set_refuses : (list : Bool) (text : List ℕ) (status : Status)
-    → (fault : SetFault) × (status ≡ statuses.Malformed (SetOf fault)) × IsRefused list text fault → SetRefuses list text status
+    → (fault : SetFault) × (status ≡ statuses.Malformed (SetOf fault)) × SetRefused list text fault → SetRefuses list text status
 set_refuses list text status refuses = subst (SetRefuses list text) (sym refuses.1) (refuses.0, refl, refuses.2)
 
 pub set_complete : (made : Result (Vec ℕ Global) Status) (list : Bool) (text : List ℕ)
     → IfErr made (λ status. UnlessMemory statuses.OutOfMemory status
-    ((fault : SetFault) × (status ≡ statuses.Malformed (SetOf fault)) × IsRefused list text fault))
+    ((fault : SetFault) × (status ≡ statuses.Malformed (SetOf fault)) × SetRefused list text fault))
     → ((status : Status) → SetRefuses list text status → ⊥) → UnlessMemory (Err statuses.OutOfMemory) made (IsOk made)
 set_complete made list text cause none =
-    complete_of made (λ status. (fault : SetFault) × (status ≡ statuses.Malformed (SetOf fault)) × IsRefused list text fault) cause
+    complete_of made (λ status. (fault : SetFault) × (status ≡ statuses.Malformed (SetOf fault)) × SetRefused list text fault) cause
     (λ status refuses. none status (set_refuses list text status refuses))
 
 pub topo_complete : (made : Result (Vec ℕ Global) Status) (text : List ℕ)

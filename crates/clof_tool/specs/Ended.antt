@@ -12,7 +12,7 @@ use Rattle.command_texts.specs.declared.status.Status.TheVariants as statuses
 use Rattle.command_texts.specs.Ends.{IsRefusal, HasWritten}
 use Rattle.command_texts.specs.Line.{line_of}
 use Rattle.command_words.specs.Asked.{Asked}
-use Rattle.command_words.specs.Words.{Says, IsTabled, IsUsage}
+use Rattle.command_words.specs.Words.{Says, NamesCommand, IsUsage}
 use Rattle.clof_tool.specs.Outcome.{limit_of, ReadsInput, HasRead, IsAccepted, IsAnswer, WordsRefused, InputRefused, HasCause}
 
 -- what a source tells of itself: the bytes that it has left, how many it has given, how many reads have failed
@@ -31,7 +31,7 @@ pub record SinkState : Type 0 where
 -- the words are read first; nothing else is where they ask for nothing, and no source where what they ask for reads none
 pub record ByWords (words : List (String Global)) (source source_now : SourceState) (status : Status) : Type 0 where
   pub usage : status ≡ statuses.Usage → IsUsage words
-  pub usage_else : IsUsage words → (status ≡ statuses.Usage) ⊎ ((status ≡ statuses.OutOfMemory) × IsTabled words)
+  pub usage_else : IsUsage words → (status ≡ statuses.Usage) ⊎ ((status ≡ statuses.OutOfMemory) × NamesCommand words)
   pub unread : IsUsage words → source_now ≡ source
   pub unread_else : (asked : Asked) → Says words asked → (ReadsInput asked → ⊥) → source_now ≡ source
   pub refused : (asked : Asked) (wanted : Status) → Says words asked → WordsRefused asked wanted

@@ -12,10 +12,10 @@ use Rattle.clof_tool.specs.Run.{PrintsSections, RefusesSections, RefusesPlanned,
 use Rattle.drill_text.specs.Drill.{drill_text}
 use Rattle.clof_tool.specs.Checking.{pair_limit, CheckRefuses, RefusesChecked, RefusesPair, TellsChecked}
 use Rattle.command_texts.specs.RunPlan.{HasPlan}
-use Rattle.command_texts.specs.SetText.{PrintsSet, IsRefused}
+use Rattle.command_texts.specs.SetText.{PrintsSet, SetRefused}
 use Rattle.command_texts.specs.CalcText.{PrintsCalc, CalcRefuses}
 use Rattle.command_texts.specs.DistribText.{PrintsDistrib, DistribRefuses}
-use Rattle.command_texts.specs.SelectText.{HasTerms, RefusesTrace, PrintsSelection}
+use Rattle.command_texts.specs.SelectText.{HasCriteria, RefusesTrace, PrintsSelection}
 use Rattle.clof_tool.specs.Selecting.{SelectRefuses, RefusesInput}
 use Rattle.synth_text.specs.declared.description.Description.{Description}
 use Rattle.command_texts.specs.TopoText.{PrintsTopo, TopoRefuses}
@@ -77,7 +77,7 @@ IsAnswer (Check asked) input printed =
 abbrev pub SetRefuses : Bool → List ℕ → Status → Type 0
 SetRefuses list text statuses.Ok = ⊥
 SetRefuses list text statuses.Usage = ⊥
-SetRefuses list text (statuses.Malformed fault) = (broken : SetFault) × (fault ≡ SetOf broken) × IsRefused list text broken
+SetRefuses list text (statuses.Malformed fault) = (broken : SetFault) × (fault ≡ SetOf broken) × SetRefused list text broken
 SetRefuses list text (statuses.Limit fault) = ⊥
 SetRefuses list text statuses.ReadFault = ⊥
 SetRefuses list text (statuses.WriteFault written) = ⊥
@@ -134,7 +134,7 @@ FoundNoTrace left given given_now status described =
 
 -- the weights and the keep are good, and what was read tells so
 abbrev pub FoundRefused : Selection → Option (List ℕ) → ℕ → ℕ → Status → Description → Type 0
-FoundRefused asked left given given_now status described = HasTerms described asked × FoundNoTrace left given given_now status described
+FoundRefused asked left given given_now status described = HasCriteria described asked × FoundNoTrace left given given_now status described
 
 -- what was read tells that `check` refuses it with this status: too much of it, or no sections with a printed text
 abbrev pub FoundNoPair : Option (List ℕ) → ℕ → ℕ → Status → Description → Type 0

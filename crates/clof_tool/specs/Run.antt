@@ -14,7 +14,7 @@ use Rattle.fresh_runner.specs.Receipts.{IsMarkedRun}
 use Rattle.command_texts.specs.declared.status.Fault.TheVariants.{Section, Input}
 use Rattle.command_texts.specs.declared.status.Status.{Status}
 use Rattle.command_texts.specs.declared.status.Status.TheVariants as statuses
-use Rattle.command_texts.specs.TopoText.{IsBuilt, TopoRefuses}
+use Rattle.command_texts.specs.TopoText.{DescribesBuilt, TopoRefuses}
 use Rattle.command_texts.specs.RunPlan.{PlanOf, HasPlan, RefusesPlan}
 use Rattle.command_words.specs.Asked.{Running}
 
@@ -78,7 +78,7 @@ Refuses described input status =
 -- a text describes a topology of which this holds
 pub record OnDescribed (text : List ℕ) (P : Description → Type 0) : Type 0 where
   pub described : Description
-  pub built : IsBuilt text described
+  pub built : DescribesBuilt text described
   pub holds : P described
 
 -- the words are refused: the description, or on what it describes the plan

@@ -7,7 +7,7 @@ ghost use Rattle.clof_tool.specs.Process.{words_of_process, input_of, output_of,
 ghost use Rattle.clof_tool.specs.Process.{IsUnread, IsUnwritten};
 ghost use Rattle.clof_tool.specs.Ended.{Ended, EndedWordless};
 ghost use Rattle.command_texts.specs.Status.{code_of};
-ghost use Rattle.command_words.specs.Words.{IsTabled, IsUsage};
+ghost use Rattle.command_words.specs.Words.{NamesCommand, IsUsage};
 ghost use Rattle.edge_io.specs.Standard.{reader_left, reader_given, reader_faults, writer_held, writer_room, writer_faults, writer_stalls};
 
 use crate::report::report;
@@ -99,7 +99,7 @@ impl<S: Source, K: Sink, E: Sink> Process<S, K, E> {
             status) }
         ensures usage { IfOk (words_of_process self.old) (λ words. exit_status result ≡ 2 → IsUsage words.items) }
         ensures usage_else { IfOk (words_of_process self.old) (λ words. IsUsage words.items →
-            (exit_status result ≡ 2) ⊎ ((exit_status result ≡ 7) × IsTabled words.items)) }
+            (exit_status result ≡ 2) ⊎ ((exit_status result ≡ 7) × NamesCommand words.items)) }
         ensures no_words { IfErr (words_of_process self.old) (λ error. error_kind error ≢ ErrorKind.OutOfMemory → exit_status result ≡ 2) }
         ensures no_memory { IfErr (words_of_process self.old) (λ error. error_kind error ≡ ErrorKind.OutOfMemory → exit_status result ≡ 7) }
     {

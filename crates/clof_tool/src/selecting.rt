@@ -9,7 +9,7 @@ ghost use Rattle.command_words.specs.Asked.{Select};
 ghost use Rattle.command_words.specs.Plain.{plain_selection};
 ghost use Rattle.command_texts.specs.declared.status.Status.{Status as AnyStatus};
 ghost use Rattle.command_texts.specs.Ends.{IsRefusal, HasWritten};
-ghost use Rattle.command_texts.specs.SelectText.{RefusesTerms, PrintsChoice, PrintsSelection};
+ghost use Rattle.command_texts.specs.SelectText.{RefusesCriteria, PrintsChoice, PrintsSelection};
 ghost use Rattle.run_check.specs.Pairs.{input_limit};
 ghost use Rattle.clof_tool.specs.Selecting.{SelectRefuses, RefusesBytes, RefusesInput};
 ghost use Rattle.clof_tool.specs.Outcome.{WasRead, FoundNoTrace, FoundRefused};
@@ -18,7 +18,7 @@ ghost use Rattle.clof_tool.specs.Answered.{Answered, AnswersUnrefused};
 use crate::Status;
 use crate::answer::read_input;
 use command_texts::topology::tree;
-use command_texts::{Terms, read_terms, selection_text};
+use command_texts::{Criteria, read_criteria, selection_text};
 use command_words::Selection;
 use edge_io::Source;
 use std::alloc::Global;
@@ -53,7 +53,7 @@ fn select_in<S: Source>(
         × WasRead (S.left source.old) (S.given source.old) (S.given source.new) input
         × (length input ≤ input_limit) × PrintsSelection tree.now (plain_selection asked.now) input printed.items) }
     ensures at_end { OnOk result (IsDrained (S.left source.old) (S.left source.new)) }
-    ensures cause { IfErr result (λ status. IsRefusal status → RefusesTerms tree.now (plain_selection asked.now) status
+    ensures cause { IfErr result (λ status. IsRefusal status → RefusesCriteria tree.now (plain_selection asked.now) status
         ⊎ FoundRefused (plain_selection asked.now) (S.left source.old) (S.given source.old) (S.given source.new) status tree.now) }
     ensures silent { IfErr result (λ status. HasWritten status → ⊥) }
     ensures not_usage { result ≢ Err Status.Usage }
@@ -61,20 +61,20 @@ fn select_in<S: Source>(
     ensures read_in_part { result ≡ Err Status.ReadFault →
         HasGiven input_limit (S.left source.old) (S.left source.new) (S.given source.old) (S.given source.new) }
     ensures read_calm { result ≢ Err Status.ReadFault → S.faults source.new ≡ S.faults source.old }
-    ensures terms_refused { (status : AnyStatus) → RefusesTerms tree.now (plain_selection asked.now) status →
+    ensures criteria_refused { (status : AnyStatus) → RefusesCriteria tree.now (plain_selection asked.now) status →
         UnlessMemory (Err Status.OutOfMemory) result (result ≡ Err status) }
-    ensures terms_unread { (status : AnyStatus) → RefusesTerms tree.now (plain_selection asked.now) status →
+    ensures criteria_unread { (status : AnyStatus) → RefusesCriteria tree.now (plain_selection asked.now) status →
         source.new ≡ source.old }
     ensures input_refused { (input : List ℕ) (status : AnyStatus) →
         S.left source.old ≡ Some input → RefusesInput (plain_selection asked.now) input status tree.now →
         (Rose (S.faults source.old) (S.faults source.new) → ⊥) → UnlessMemory (Err Status.OutOfMemory) result (result ≡ Err status) }
     ensures complete { (input : List ℕ) → S.left source.old ≡ Some input →
-        ((status : AnyStatus) → RefusesTerms tree.now (plain_selection asked.now) status → ⊥) →
+        ((status : AnyStatus) → RefusesCriteria tree.now (plain_selection asked.now) status → ⊥) →
         ((status : AnyStatus) → RefusesInput (plain_selection asked.now) input status tree.now → ⊥) →
         (Rose (S.faults source.old) (S.faults source.new) → ⊥) → UnlessMemory (Err Status.OutOfMemory) result (IsOk result) }
 {
-    match read_terms(alloc, tree, asked) {
-        Ok(terms) => selected(alloc, tree, &terms, source),
+    match read_criteria(alloc, tree, asked) {
+        Ok(criteria) => selected(alloc, tree, &criteria, source),
         Err(status) => Err(status),
     }
 }
@@ -83,14 +83,14 @@ fn select_in<S: Source>(
 fn selected<S: Source>(
     alloc: Global,
     tree: &Tree,
-    terms: &Terms,
+    criteria: &Criteria,
     source: &mut S,
 ) -> Result<Vec<u8>, Status>
-    requires weights { Weighs tree.now terms.now.weights.items }
-    requires keep { terms.now.keep ≤ keep_limit }
+    requires weights { Weighs tree.now criteria.now.weights.items }
+    requires keep { criteria.now.keep ≤ keep_limit }
     ensures answer { IfOk result (λ printed. (input : List ℕ)
         × WasRead (S.left source.old) (S.given source.old) (S.given source.new) input
-        × (length input ≤ input_limit) × PrintsChoice tree.now terms.now.weights.items terms.now.keep input printed.items) }
+        × (length input ≤ input_limit) × PrintsChoice tree.now criteria.now.weights.items criteria.now.keep input printed.items) }
     ensures at_end { OnOk result (IsDrained (S.left source.old) (S.left source.new)) }
     ensures cause { IfErr result (λ status. IsRefusal status →
         FoundNoTrace (S.left source.old) (S.given source.old) (S.given source.new) status tree.now) }
@@ -108,7 +108,7 @@ fn selected<S: Source>(
         (Rose (S.faults source.old) (S.faults source.new) → ⊥) → UnlessMemory (Err Status.OutOfMemory) result (IsOk result) }
 {
     match read_input(alloc, source) {
-        Ok(input) => selection_text(alloc, tree, terms, &input),
+        Ok(input) => selection_text(alloc, tree, criteria, &input),
         Err(status) => Err(status),
     }
 }

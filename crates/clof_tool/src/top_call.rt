@@ -8,7 +8,7 @@ ghost use Rattle.command_texts.specs.declared.status.Status.{Status as AnyStatus
 ghost use Rattle.command_texts.specs.Line.{line_of};
 ghost use Rattle.command_words.specs.Asked.{Asked as PlainAsked};
 ghost use Rattle.command_words.specs.Plain.{plain};
-ghost use Rattle.command_words.specs.Words.{Says, IsTabled, IsUsage};
+ghost use Rattle.command_words.specs.Words.{Says, NamesCommand, IsUsage};
 ghost use Rattle.command_texts.specs.Ends.{IsRefusal};
 ghost use Rattle.clof_tool.specs.Outcome.{ReadsInput, limit_of, HasRead, IsAccepted, IsAnswer, WordsRefused, InputRefused, HasCause};
 ghost use Rattle.command_texts.specs.Ends.{HasWritten};
@@ -42,7 +42,7 @@ pub fn top<R: Threads + Wait + Sync, S: Source, K: Sink, E: Sink>(
     // The words.
     ensures usage { result ≡ Status.Usage → IsUsage words.now }
     ensures usage_else { IsUsage words.now →
-        (result ≡ Status.Usage) ⊎ ((result ≡ Status.OutOfMemory) × IsTabled words.now) }
+        (result ≡ Status.Usage) ⊎ ((result ≡ Status.OutOfMemory) × NamesCommand words.now) }
     ensures unread { IsUsage words.now → source.new ≡ source.old }
     ensures unread_else { (asked : PlainAsked) → Says words.now asked → (ReadsInput asked → ⊥) → source.new ≡ source.old }
 
@@ -113,7 +113,7 @@ pub fn top_with<R: Threads + Wait + Sync, S: Source, K: Sink, E: Sink, G: Gate +
     // The words.
     ensures usage { result ≡ Status.Usage → IsUsage words.now }
     ensures usage_else { IsUsage words.now →
-        (result ≡ Status.Usage) ⊎ ((result ≡ Status.OutOfMemory) × IsTabled words.now) }
+        (result ≡ Status.Usage) ⊎ ((result ≡ Status.OutOfMemory) × NamesCommand words.now) }
     ensures unread { IsUsage words.now → source.new ≡ source.old }
     ensures unread_else { (asked : PlainAsked) → Says words.now asked → (ReadsInput asked → ⊥) → source.new ≡ source.old }
 
@@ -184,7 +184,7 @@ pub fn top_with<R: Threads + Wait + Sync, S: Source, K: Sink, E: Sink, G: Gate +
 fn read(alloc: Global, words: &[String]) -> Result<Asked<'_>, Status>
     ensures asked { IfOk result (λ asked. Says words.now (plain asked)) }
     ensures only { IfOk result (λ asked. (other : PlainAsked) → Says words.now other → other ≡ plain asked) }
-    ensures refused { IfErr result (λ status. ((status ≡ Status.OutOfMemory) × IsTabled words.now)
+    ensures refused { IfErr result (λ status. ((status ≡ Status.OutOfMemory) × NamesCommand words.now)
         ⊎ ((status ≡ Status.Usage) × IsUsage words.now)) }
 {
     match read_words(alloc, words) {

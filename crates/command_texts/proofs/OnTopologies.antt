@@ -8,7 +8,7 @@ use Rattle.command_texts.specs.declared.status.Status.TheVariants.{Ok as OkStatu
 use Rattle.command_texts.specs.declared.status.Status.TheVariants.{OutOfMemory}
 use Rattle.command_texts.specs.OnTopology.{RefusesOn}
 use Rattle.command_texts.specs.Ends.{EndsEarly, HasWritten}
-use Rattle.command_texts.specs.TopoText.{IsBuilt, TopoRefuses}
+use Rattle.command_texts.specs.TopoText.{DescribesBuilt, TopoRefuses}
 
 module _ {T U : Type 0} where
   -- the same status, where nothing is built and where nothing is printed
@@ -22,7 +22,7 @@ module _ {T U : Type 0} where
   pub refused_early : (text : List ℕ) (on : Description → Result (List ℕ) Status) (found status : Status)
       → ((other : Status) → TopoRefuses text other
       → (◌≡◌ {A = Result T Status} (Err found) (Err other)) ⊎ (◌≡◌ {A = Result T Status} (Err found) (Err OutOfMemory)))
-      → ((described : Description) → IsBuilt text described
+      → ((described : Description) → DescribesBuilt text described
       → IsOk {T = T} {E = Status} (Err found) ⊎ (◌≡◌ {A = Result T Status} (Err found) (Err OutOfMemory)))
       → RefusesOn text on status
       → (◌≡◌ {A = Result U Status} (Err found) (Err status)) ⊎ (◌≡◌ {A = Result U Status} (Err found) (Err OutOfMemory))

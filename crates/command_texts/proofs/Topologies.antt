@@ -12,7 +12,7 @@ use Rattle.topo_tree.specs.declared.fault.BuildFault.TheVariants as build
 use Rattle.topo_tree.specs.Building.{build_fault}
 use Rattle.command_texts.specs.declared.status.Status.{Status}
 use Rattle.command_texts.specs.declared.status.Status.TheVariants.{OutOfMemory}
-use Rattle.command_texts.specs.TopoText.{synth_status, build_status, IsBuilt, TopoRefuses}
+use Rattle.command_texts.specs.TopoText.{synth_status, build_status, DescribesBuilt, TopoRefuses}
 
 -- what a reading answers
 abbrev pub read_as : Description → Result Description SynthFault
@@ -50,7 +50,7 @@ read_refused text fault each every status (inr refuses) =
     elim (each refuses.described refuses.describes) [ inl same ↦ absurd cc | inr memory ↦ inr (no_memory fault memory) ]
 
 pub read_built : (text : List ℕ) (described : Description) (fault : SynthFault)
-    → ((other : Description) → Describes text other → Reads (failed fault) (read_as other)) → IsBuilt text described
+    → ((other : Description) → Describes text other → Reads (failed fault) (read_as other)) → DescribesBuilt text described
     → synth_status fault ≡ OutOfMemory
 read_built text described fault each built =
     elim (each described built.describes) [ inl same ↦ absurd cc | inr memory ↦ no_memory fault memory ]
@@ -74,7 +74,7 @@ build_refused text found fault each every first status (inr refuses) =
 
 pub build_built : (text : List ℕ) (described found : Description) (fault : BuildFault)
     → ((other : Description) → Describes text other → Reads (read_as found) (read_as other))
-    → UnlessMemory build.OutOfMemory fault (build_fault found ≡ Some fault) → IsBuilt text described
+    → UnlessMemory build.OutOfMemory fault (build_fault found ≡ Some fault) → DescribesBuilt text described
     → build_status fault ≡ OutOfMemory
 build_built text described found fault each first built =
     let same = same_description found described (each described built.describes) in

@@ -8,11 +8,11 @@ use Rattle.calc_query.specs.declared.query.Numbering.{Numbering}
 use Rattle.calc_query.specs.declared.query.Numbering.TheVariants as numberings
 use Rattle.calc_query.specs.declared.query.Term.{Term}
 use Rattle.calc_query.specs.Selection.{selected}
-use Rattle.calc_text.specs.declared.answer.Answer.{Answer}
-use Rattle.calc_text.specs.declared.answer.Answer.TheVariants as answers
+use Rattle.calc_text.specs.declared.answer.AnswerKind.{AnswerKind}
+use Rattle.calc_text.specs.declared.answer.AnswerKind.TheVariants as answers
 use Rattle.calc_text.specs.Reading.{layers_named, names_in, terms_from}
 use Rattle.calc_text.specs.Texts.{answer_text}
-use Rattle.command_words.specs.Asked.{Calculation, Question, TheSet, Intersect, NumberOf, Hierarchical, Largest}
+use Rattle.command_words.specs.Asked.{Calculation, CalcQuestion, TheSet, Intersect, NumberOf, Hierarchical, Largest}
 use Rattle.command_texts.specs.declared.status.Fault.TheVariants.{Calc, TypeOf}
 use Rattle.command_texts.specs.declared.status.OptionName.{OptionName}
 use Rattle.command_texts.specs.declared.status.OptionName.TheVariants as options
@@ -26,8 +26,8 @@ abbrev pub typed : {A : Type 0} → OptionName → Option A → Result A Status
 typed option None = Err (statuses.Malformed (TypeOf option))
 typed option (Some given) = Ok given
 
--- what is asked of a set, on a topology
-abbrev pub answer_for : Description → Question → Result Answer Status
+-- which answer on a set is asked for, on a topology
+abbrev pub answer_for : Description → CalcQuestion → Result AnswerKind Status
 answer_for described TheSet = Ok answers.Set
 answer_for described (Intersect name) = typed options.Intersect (option_map answers.Objects (layer_named described name))
 answer_for described (NumberOf name) = typed options.NumberOf (option_map answers.Count (layer_named described name))
@@ -45,16 +45,16 @@ calc_status (faults.NoSuchType word) = statuses.Malformed (Calc (faults.NoSuchTy
 calc_status faults.OutOfMemory = statuses.OutOfMemory
 
 -- the line of an answer on the set that terms select
-abbrev pub line_on : Description → Calculation → Answer → List Term → List ℕ
+abbrev pub line_on : Description → Calculation → AnswerKind → List Term → List ℕ
 line_on described asked answer terms =
     answer_text described (chosen asked.single (selected described (numbering_of asked.physical) terms)) answer
     (numbering_of asked.physical) asked.taskset asked.separator ++ 10 ∷ []
 
-abbrev pub with_terms : Description → Calculation → Answer → Result (List Term) CalcFault → Result (List ℕ) Status
+abbrev pub with_terms : Description → Calculation → AnswerKind → Result (List Term) CalcFault → Result (List ℕ) Status
 with_terms described asked answer (Err fault) = Err (calc_status fault)
 with_terms described asked answer (Ok terms) = Ok (line_on described asked answer terms)
 
-abbrev pub with_answer : Description → Calculation → Result Answer Status → Result (List ℕ) Status
+abbrev pub with_answer : Description → Calculation → Result AnswerKind Status → Result (List ℕ) Status
 with_answer described asked (Err status) = Err status
 with_answer described asked (Ok answer) = with_terms described asked answer (terms_from described 0 asked.locations)
 

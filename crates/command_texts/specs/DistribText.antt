@@ -31,9 +31,9 @@ depth_or option None = Err (statuses.Malformed (TypeOf option))
 depth_or option (Some depth) = Ok depth
 
 -- the depth that an option names, where it was given
-abbrev pub depth_of : Description → OptionName → ℕ → Option (List ℕ) → Result ℕ Status
-depth_of described option default None = Ok default
-depth_of described option default (Some name) = depth_or option (depth_named described name)
+abbrev pub option_depth : Description → OptionName → ℕ → Option (List ℕ) → Result ℕ Status
+option_depth described option default None = Ok default
+option_depth described option default (Some name) = depth_or option (depth_named described name)
 
 -- two depths, where neither is refused; the first refusal comes first
 abbrev pub both : Result ℕ Status → Result ℕ Status → Result (ℕ × ℕ) Status
@@ -44,8 +44,8 @@ both (Err status) to = Err status
 -- the depths of the start and the end: Machine and the PUs, where no option names them
 abbrev pub span_of : Description → Depths → Result (ℕ × ℕ) Status
 span_of described (Between from to) =
-    both (depth_of described options.From 0 from) (depth_of described options.To (depth_count described - 1) to)
-span_of described (At name) = both (depth_of described options.At 0 (Some name)) (depth_of described options.At 0 (Some name))
+    both (option_depth described options.From 0 from) (option_depth described options.To (depth_count described - 1) to)
+span_of described (At name) = both (option_depth described options.At 0 (Some name)) (option_depth described options.At 0 (Some name))
 
 -- the status of a fault: too many masks are over a limit
 abbrev pub distrib_status : DistribFault → Status

@@ -2,12 +2,12 @@
 use Rattle.std.specs.Prelude.{◌≡◌, ◌⊎◌, ℕ, List, Result, Ok, Err}
 use Rattle.synth_text.specs.declared.description.Description.{Description}
 use Rattle.command_texts.specs.declared.status.Status.{Status}
-use Rattle.command_texts.specs.TopoText.{IsBuilt, TopoRefuses}
+use Rattle.command_texts.specs.TopoText.{DescribesBuilt, TopoRefuses}
 
 -- the text describes something that is built, and this is the answer on it
 pub record AnswersOn (text : List ℕ) (on : Description → Result (List ℕ) Status) (answer : Result (List ℕ) Status) : Type 0 where
   pub described : Description
-  pub built : IsBuilt text described
+  pub built : DescribesBuilt text described
   pub answer_is : on described ≡ answer
 
 -- this is printed of what the text describes

@@ -24,16 +24,16 @@ select_status (faults.Place at) = statuses.Malformed (Select (faults.Place at))
 select_status faults.TooManyTurns = statuses.Limit (Select faults.TooManyTurns)
 select_status faults.OutOfMemory = statuses.OutOfMemory
 
--- the weights and the keep that are asked for
-pub record AreTerms (described : Description) (asked : Selection) (weights : List ℕ) (keep : ℕ) : Type 0 where
+-- the criteria that are asked for: the weights and the keep
+pub record AreCriteria (described : Description) (asked : Selection) (weights : List ℕ) (keep : ℕ) : Type 0 where
   pub weights_are : AreWeights described asked.weights weights
   pub keep_is : keep_of asked.keep ≡ Some keep
 
 -- both can be had
-pub record HasTerms (described : Description) (asked : Selection) : Type 0 where
+pub record HasCriteria (described : Description) (asked : Selection) : Type 0 where
   pub weights : List ℕ
   pub keep : ℕ
-  pub are : AreTerms described asked weights keep
+  pub are : AreCriteria described asked weights keep
 
 -- the weights are refused
 pub record RefusesWeights (described : Description) (asked : Selection) (status : Status) : Type 0 where
@@ -47,8 +47,8 @@ pub record RefusesKeep (described : Description) (asked : Selection) (status : S
   pub none : keep_of asked.keep ≡ None
   pub status_is : status ≡ select_status faults.Keep
 
-abbrev pub RefusesTerms : Description → Selection → Status → Type 0
-RefusesTerms described asked status = RefusesWeights described asked status ⊎ RefusesKeep described asked status
+abbrev pub RefusesCriteria : Description → Selection → Status → Type 0
+RefusesCriteria described asked status = RefusesWeights described asked status ⊎ RefusesKeep described asked status
 
 -- bytes are refused as a trace
 pub record RefusesTrace (described : Description) (bytes : List ℕ) (status : Status) : Type 0 where
@@ -74,5 +74,5 @@ pub record PrintsChoice (described : Description) (weights : List ℕ) (keep : �
 pub record PrintsSelection (described : Description) (asked : Selection) (bytes printed : List ℕ) : Type 0 where
   pub weights : List ℕ
   pub keep : ℕ
-  pub are : AreTerms described asked weights keep
+  pub are : AreCriteria described asked weights keep
   pub prints : PrintsChoice described weights keep bytes printed

@@ -8,16 +8,16 @@ abbrev pub set_lines : List ℕ → List ℕ
 set_lines set = hex_text set ++ (10 ∷ (list_text set ++ (10 ∷ (taskset_text set ++ (10 ∷ [])))))
 
 -- the text is read in hexadecimal, or as a list
-abbrev pub Reads : Bool → List ℕ → List ℕ → Type 0
-Reads false text set = ReadsHex text set
-Reads true text set = ReadsList text set
+abbrev pub ReadsSet : Bool → List ℕ → List ℕ → Type 0
+ReadsSet false text set = ReadsHex text set
+ReadsSet true text set = ReadsList text set
 
-abbrev pub IsRefused : Bool → List ℕ → SetFault → Type 0
-IsRefused false text fault = HexRefused text fault
-IsRefused true text fault = ListRefused text fault
+abbrev pub SetRefused : Bool → List ℕ → SetFault → Type 0
+SetRefused false text fault = HexRefused text fault
+SetRefused true text fault = ListRefused text fault
 
 -- what is printed is the lines of the set that is read
 pub record PrintsSet (list : Bool) (text printed : List ℕ) : Type 0 where
   pub set : List ℕ
-  pub reads : Reads list text set
+  pub reads : ReadsSet list text set
   pub printed_is : printed ≡ set_lines set

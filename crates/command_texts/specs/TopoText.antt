@@ -20,14 +20,14 @@ text_of false described = topology_text described
 text_of true described = canonical described ++ (10 ∷ [])
 
 -- the text describes this, and it is built
-pub record IsBuilt (text : List ℕ) (described : Description) : Type 0 where
+pub record DescribesBuilt (text : List ℕ) (described : Description) : Type 0 where
   pub describes : Describes text described
   pub builds : build_fault described ≡ None
 
 -- the text describes something that is built, and that is printed
 pub record PrintsTopo (export : Bool) (text printed : List ℕ) : Type 0 where
   pub described : Description
-  pub built : IsBuilt text described
+  pub built : DescribesBuilt text described
   pub printed_is : printed ≡ text_of export described
 
 -- the status of a fault: two of them are limits

@@ -13,8 +13,8 @@ use crate::chosen::chosen;
 use crate::topology::tree;
 use crate::{Fault, OptionName, Status};
 use calc_query::{CalcFault, Numbering, select};
-use calc_text::{Answer, Style, answer_text, read_layers, read_terms};
-use command_words::{Calculation, Question};
+use calc_text::{AnswerKind, AnswerStyle, answer_text, read_layers, read_terms};
+use command_words::{CalcQuestion, Calculation};
 use cpu_set::CpuSet;
 use out_of_memory::OutOfMemory;
 use std::alloc::Global;
@@ -56,7 +56,7 @@ fn answer_on(alloc: Global, tree: &Tree, asked: &Calculation<'_>) -> Result<Vec<
         Err(fault) => return Err(calc_status(fault)),
     };
     let numbering = numbering_of(asked.physical);
-    let style = Style {
+    let style = AnswerStyle {
         numbering,
         taskset: asked.taskset,
         separator: asked.separator,
@@ -68,8 +68,8 @@ fn answer_on(alloc: Global, tree: &Tree, asked: &Calculation<'_>) -> Result<Vec<
     }
 }
 
-// What is asked of a set, on a topology.
-fn answer_for(alloc: Global, tree: &Tree, question: Question<'_>) -> Result<Answer, Status>
+// Which answer on a set is asked for, on a topology.
+fn answer_for(alloc: Global, tree: &Tree, question: CalcQuestion<'_>) -> Result<AnswerKind, Status>
     ensures ok { IfOk result (λ answer. answer_for tree.now (plain_question question.entry) ≡ Ok answer) }
     ensures err { IfErr result (λ status. UnlessMemory Status.OutOfMemory status
         (answer_for tree.now (plain_question question.entry) ≡ Err status)) }
@@ -77,21 +77,21 @@ fn answer_for(alloc: Global, tree: &Tree, question: Question<'_>) -> Result<Answ
     ensures early { IfErr result EndsEarly }
 {
     match question {
-        Question::Set => Ok(Answer::Set),
-        Question::Intersect(name) => match tree.layer_named(name) {
-            Some(layer) => Ok(Answer::Objects(layer)),
+        CalcQuestion::Set => Ok(AnswerKind::Set),
+        CalcQuestion::Intersect(name) => match tree.layer_named(name) {
+            Some(layer) => Ok(AnswerKind::Objects(layer)),
             None => Err(untyped(OptionName::Intersect)),
         },
-        Question::NumberOf(name) => match tree.layer_named(name) {
-            Some(layer) => Ok(Answer::Count(layer)),
+        CalcQuestion::NumberOf(name) => match tree.layer_named(name) {
+            Some(layer) => Ok(AnswerKind::Count(layer)),
             None => Err(untyped(OptionName::NumberOf)),
         },
-        Question::Hierarchical(names) => match read_layers(alloc, tree, names) {
-            Ok(Some(layers)) => Ok(Answer::Chains(layers)),
+        CalcQuestion::Hierarchical(names) => match read_layers(alloc, tree, names) {
+            Ok(Some(layers)) => Ok(AnswerKind::Chains(layers)),
             Ok(None) => Err(untyped(OptionName::Hierarchical)),
             Err(OutOfMemory) => Err(Status::OutOfMemory),
         },
-        Question::Largest => Ok(Answer::Largest),
+        CalcQuestion::Largest => Ok(AnswerKind::Largest),
     }
 }
 
@@ -129,8 +129,8 @@ fn answer_line(
     alloc: Global,
     tree: &Tree,
     set: &CpuSet,
-    answer: &Answer,
-    style: Style<'_>,
+    answer: &AnswerKind,
+    style: AnswerStyle<'_>,
 ) -> Result<Vec<u8>, OutOfMemory>
     requires { HasLayers tree.now answer.now }
     ensures { IfOk result (λ text. text.items ≡ answer_text tree.now set.now answer.now style.entry.numbering

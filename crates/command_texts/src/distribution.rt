@@ -6,7 +6,7 @@ ghost use Rattle.topo_tree.specs.Objects.{depth_count};
 ghost use Rattle.command_texts.specs.declared.status.OptionName.{OptionName as AnyOption};
 ghost use Rattle.command_texts.specs.declared.status.Status.{Status as AnyStatus};
 ghost use Rattle.command_words.specs.Plain.{plain_text, plain_depths, plain_distribution};
-ghost use Rattle.command_texts.specs.DistribText.{mask_line, mask_lines, depth_of, span_of, distrib_status, answer_on};
+ghost use Rattle.command_texts.specs.DistribText.{mask_line, mask_lines, option_depth, span_of, distrib_status, answer_on};
 ghost use Rattle.command_texts.specs.DistribText.{PrintsDistrib, DistribRefuses};
 ghost use Rattle.command_texts.specs.Ends.{EndsEarly};
 
@@ -82,8 +82,8 @@ fn span(tree: &Tree, depths: Depths<'_>) -> Result<(u32, u32), Status>
 // The depth that an option names, where it was given.
 fn depth(tree: &Tree, option: OptionName, default: u32, name: Option<&[u8]>) -> Result<u32, Status>
     requires { default < depth_count tree.now }
-    ensures ok { IfOk result (λ depth. depth_of tree.now option default (plain_text name.entry) ≡ Ok depth) }
-    ensures err { IfErr result (λ status. depth_of tree.now option default (plain_text name.entry) ≡ Err status) }
+    ensures ok { IfOk result (λ depth. option_depth tree.now option default (plain_text name.entry) ≡ Ok depth) }
+    ensures err { IfErr result (λ status. option_depth tree.now option default (plain_text name.entry) ≡ Err status) }
     ensures fit { IfOk result (λ depth. depth < depth_count tree.now) }
     ensures early { IfErr result EndsEarly }
 {

@@ -16,7 +16,7 @@ pub use calculation::calc_output;
 pub use distribution::distrib_output;
 pub use lines::{Line, line_of};
 pub use planning::read_plan;
-pub use selection::{Terms, read_terms, selection_text};
+pub use selection::{Criteria, read_criteria, selection_text};
 pub use sets::set_output;
 pub use status::{Fault, OptionName, Status};
 pub use trees::topo_output;

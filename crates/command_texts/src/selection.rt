@@ -10,7 +10,7 @@ ghost use Rattle.lock_select.specs.Traces.{IsTrace};
 ghost use Rattle.command_words.specs.Plain.{plain_selection};
 ghost use Rattle.command_texts.specs.declared.status.Status.{Status as AnyStatus};
 ghost use Rattle.command_texts.specs.SelectText.{select_status, choice_text};
-ghost use Rattle.command_texts.specs.SelectText.{AreTerms, HasTerms, RefusesTerms, RefusesTrace, PrintsChoice};
+ghost use Rattle.command_texts.specs.SelectText.{AreCriteria, HasCriteria, RefusesCriteria, RefusesTrace, PrintsChoice};
 ghost use Rattle.command_texts.specs.Ends.{EndsEarly};
 
 use crate::{Fault, Status};
@@ -22,9 +22,9 @@ use std::alloc::{AllocError, Global};
 use synth_text::Kind;
 use topo_tree::Tree;
 
-/// What a choice goes by: the weights of the depths, and how often a level keeps the lock.
+/// The criteria of a choice: the weights of the depths, and how often a level keeps the lock.
 #[derive(Drop)]
-pub struct Terms {
+pub struct Criteria {
     /// The weights, Machine's first.
     pub weights: Vec<u64>,
     /// How often a level keeps the lock.
@@ -32,15 +32,15 @@ pub struct Terms {
 }
 
 /// The weights and the keep that are asked for, or the status with which they are refused: the weights come before the keep.
-pub fn read_terms(alloc: Global, tree: &Tree, asked: &Selection<'_>) -> Result<Terms, Status>
-    ensures ok { IfOk result (λ terms. AreTerms tree.now (plain_selection asked.now) terms.weights.items terms.keep) }
-    ensures weights { IfOk result (λ terms. Weighs tree.now terms.weights.items) }
-    ensures keep { IfOk result (λ terms. terms.keep ≤ keep_limit) }
+pub fn read_criteria(alloc: Global, tree: &Tree, asked: &Selection<'_>) -> Result<Criteria, Status>
+    ensures ok { IfOk result (λ criteria. AreCriteria tree.now (plain_selection asked.now) criteria.weights.items criteria.keep) }
+    ensures weights { IfOk result (λ criteria. Weighs tree.now criteria.weights.items) }
+    ensures keep { IfOk result (λ criteria. criteria.keep ≤ keep_limit) }
     ensures err { IfErr result (λ status. UnlessMemory Status.OutOfMemory status
-        (RefusesTerms tree.now (plain_selection asked.now) status)) }
-    ensures refused { (status : AnyStatus) → RefusesTerms tree.now (plain_selection asked.now) status →
+        (RefusesCriteria tree.now (plain_selection asked.now) status)) }
+    ensures refused { (status : AnyStatus) → RefusesCriteria tree.now (plain_selection asked.now) status →
         UnlessMemory (Err Status.OutOfMemory) result (result ≡ Err status) }
-    ensures complete { HasTerms tree.now (plain_selection asked.now) → UnlessMemory (Err Status.OutOfMemory) result (IsOk result) }
+    ensures complete { HasCriteria tree.now (plain_selection asked.now) → UnlessMemory (Err Status.OutOfMemory) result (IsOk result) }
     ensures early { IfErr result EndsEarly }
 {
     let weights = match read_weights(alloc, tree, asked.weights) {
@@ -48,7 +48,7 @@ pub fn read_terms(alloc: Global, tree: &Tree, asked: &Selection<'_>) -> Result<T
         Err(fault) => return Err(select_status(fault)),
     };
     match read_keep(asked.keep) {
-        Ok(keep) => Ok(Terms { weights, keep }),
+        Ok(keep) => Ok(Criteria { weights, keep }),
         Err(fault) => Err(select_status(fault)),
     }
 }
@@ -57,12 +57,12 @@ pub fn read_terms(alloc: Global, tree: &Tree, asked: &Selection<'_>) -> Result<T
 pub fn selection_text(
     alloc: Global,
     tree: &Tree,
-    terms: &Terms,
+    criteria: &Criteria,
     bytes: &[u8],
 ) -> Result<Vec<u8>, Status>
-    requires weights { Weighs tree.now terms.now.weights.items }
-    requires keep { terms.now.keep ≤ keep_limit }
-    ensures ok { IfOk result (λ printed. PrintsChoice tree.now terms.now.weights.items terms.now.keep bytes.now printed.items) }
+    requires weights { Weighs tree.now criteria.now.weights.items }
+    requires keep { criteria.now.keep ≤ keep_limit }
+    ensures ok { IfOk result (λ printed. PrintsChoice tree.now criteria.now.weights.items criteria.now.keep bytes.now printed.items) }
     ensures err { IfErr result (λ status. UnlessMemory Status.OutOfMemory status (RefusesTrace tree.now bytes.now status)) }
     ensures refused { (status : AnyStatus) → RefusesTrace tree.now bytes.now status →
         UnlessMemory (Err Status.OutOfMemory) result (result ≡ Err status) }
@@ -73,7 +73,7 @@ pub fn selection_text(
         Ok(trace) => trace,
         Err(fault) => return Err(select_status(fault)),
     };
-    let choice = match choose(alloc, tree, &terms.weights, terms.keep, &trace) {
+    let choice = match choose(alloc, tree, &criteria.weights, criteria.keep, &trace) {
         Ok(choice) => choice,
         Err(OutOfMemory) => return Err(Status::OutOfMemory),
     };

@@ -3,7 +3,7 @@ ghost use Rattle.std.specs.Prelude.{◌≡◌, ◌++◌, ◌∷◌, [], IfErr, I
 ghost use Rattle.out_of_memory.specs.Memory.{UnlessMemory};
 ghost use Rattle.cpu_set.specs.declared.fault.SetFault.{SetFault as AnySetFault};
 ghost use Rattle.command_texts.specs.declared.status.Fault.TheVariants.{Set as SetOf};
-ghost use Rattle.command_texts.specs.SetText.{set_lines, Reads, IsRefused, PrintsSet};
+ghost use Rattle.command_texts.specs.SetText.{set_lines, ReadsSet, SetRefused, PrintsSet};
 
 use crate::{Fault, Status};
 use cpu_set::{CpuSet, SetFault};
@@ -14,7 +14,7 @@ use std::alloc::Global;
 pub fn set_output(alloc: Global, list: bool, text: &[u8]) -> Result<Vec<u8>, Status>
     ensures ok { IfOk result (λ printed. PrintsSet list text.now printed.items) }
     ensures err { IfErr result (λ status. UnlessMemory Status.OutOfMemory status
-        ((fault : AnySetFault) × (status ≡ Status.Malformed (SetOf fault)) × IsRefused list text.now fault)) }
+        ((fault : AnySetFault) × (status ≡ Status.Malformed (SetOf fault)) × SetRefused list text.now fault)) }
 {
     let set = read_set(list, text).map_err(|fault| Status::Malformed(Fault::Set(fault)))?;
     lines(alloc, &set).map_err(|_| Status::OutOfMemory)
@@ -22,8 +22,8 @@ pub fn set_output(alloc: Global, list: bool, text: &[u8]) -> Result<Vec<u8>, Sta
 
 // The set that a text tells.
 fn read_set(list: bool, text: &[u8]) -> Result<CpuSet, SetFault>
-    ensures set { IfOk result (Reads list text.now) }
-    ensures fault { IfErr result (IsRefused list text.now) }
+    ensures set { IfOk result (ReadsSet list text.now) }
+    ensures fault { IfErr result (SetRefused list text.now) }
 {
     if list {
         CpuSet::read_list(text)

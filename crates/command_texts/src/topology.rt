@@ -5,7 +5,7 @@ ghost use Rattle.synth_text.specs.declared.description.Description.{Description 
 ghost use Rattle.synth_text.specs.Descriptions.{Describes};
 ghost use Rattle.topo_tree.specs.Building.{build_fault};
 ghost use Rattle.command_texts.specs.declared.status.Status.{Status as AnyStatus};
-ghost use Rattle.command_texts.specs.TopoText.{synth_status, build_status, IsBuilt, TopoRefuses};
+ghost use Rattle.command_texts.specs.TopoText.{synth_status, build_status, DescribesBuilt, TopoRefuses};
 ghost use Rattle.command_texts.specs.Ends.{EndsEarly};
 
 use crate::{Fault, Status};
@@ -15,12 +15,13 @@ use topo_tree::{BuildFault, Tree};
 
 /// The tree of the topology that a text describes, or the status with which the text is refused.
 pub fn tree(alloc: Global, text: &[u8]) -> Result<Tree, Status>
-    ensures ok { IfOk result (IsBuilt text.now) }
+    ensures ok { IfOk result (DescribesBuilt text.now) }
     ensures only { IfOk result (λ tree. (described : Described) → Describes text.now described → described ≡ tree) }
     ensures err { IfErr result (λ status. UnlessMemory Status.OutOfMemory status (TopoRefuses text.now status)) }
     ensures refused { (status : AnyStatus) → TopoRefuses text.now status →
         UnlessMemory (Err Status.OutOfMemory) result (result ≡ Err status) }
-    ensures complete { (described : Described) → IsBuilt text.now described → UnlessMemory (Err Status.OutOfMemory) result (IsOk result) }
+    ensures complete { (described : Described) → DescribesBuilt text.now described →
+        UnlessMemory (Err Status.OutOfMemory) result (IsOk result) }
     ensures early { IfErr result EndsEarly }
 {
     let description = match read(alloc, text) {

@@ -4,16 +4,16 @@ use Rattle.clap.specs.Words.{Text}
 
 -- what is asked of a set: itself, the objects of a type that meet it, how many these are, the chains of objects of types
 -- between whose names a dot stands, or the largest objects inside it
-pub data Question : Type 0 where
-  TheSet : Question
-  Intersect : (type_name : Text) → Question
-  NumberOf : (type_name : Text) → Question
-  Hierarchical : (type_names : Text) → Question
-  Largest : Question
+pub data CalcQuestion : Type 0 where
+  TheSet : CalcQuestion
+  Intersect : (type_name : Text) → CalcQuestion
+  NumberOf : (type_name : Text) → CalcQuestion
+  Hierarchical : (type_names : Text) → CalcQuestion
+  Largest : CalcQuestion
 
 -- a question on the set that locations select
 pub record Calculation : Type 0 where
-  pub question : Question
+  pub question : CalcQuestion
   -- objects are numbered by their physical numbers
   pub physical : Bool
   -- the set has its first number alone

@@ -3,7 +3,7 @@ use Rattle.std.specs.Prelude.{◌^◌, Bool, false, true, List, [], ◌∷◌, l
 use Rattle.std.specs.Prelude.{Option, Some, None, option_map, option_and_then}
 use Rattle.clap.specs.Words.{App, Row, Rule, Text, first_of}
 use Rattle.command_words.specs.Commands.{command_of, flag_rule, is_given, matched, option_rule, taken_by, word_rule, words_rule}
-use Rattle.command_words.specs.Asked.{Asked, Calc, Calculation, Question, TheSet, Intersect, NumberOf, Hierarchical, Largest}
+use Rattle.command_words.specs.Asked.{Asked, Calc, Calculation, CalcQuestion, TheSet, Intersect, NumberOf, Hierarchical, Largest}
 
 -- the command's options, and then the words behind them
 abbrev pub calc_rules : List Rule
@@ -17,7 +17,7 @@ unfoldable pub calc_command : App
 calc_command = command_of (codes "calc") calc_rules
 
 -- at most one of the four options is given that ask something of the set
-abbrev pub question_of : (intersect number_of hierarchical : Option Text) → (largest : Bool) → Option Question
+abbrev pub question_of : (intersect number_of hierarchical : Option Text) → (largest : Bool) → Option CalcQuestion
 question_of None None None false = Some TheSet
 question_of (Some name) None None false = Some (Intersect name)
 question_of None (Some name) None false = Some (NumberOf name)
@@ -25,7 +25,7 @@ question_of None None (Some names) false = Some (Hierarchical names)
 question_of None None None true = Some Largest
 question_of intersect number_of hierarchical largest = None
 
-abbrev pub question_in : List Row → Option Question
+abbrev pub question_in : List Row → Option CalcQuestion
 question_in rows =
     question_of (first_of (codes "intersect") rows) (first_of (codes "number-of") rows) (first_of (codes "hierarchical") rows)
     (is_given (codes "largest") rows)

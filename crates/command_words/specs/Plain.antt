@@ -3,8 +3,8 @@ use Rattle.std.specs.Prelude.{ℕ, List, Option, map, option_map}
 use Rattle.std.specs.Borrow.{Bor}
 use Rattle.command_words.specs.declared.asked.Asked.{Asked}
 use Rattle.command_words.specs.declared.asked.Asked.TheVariants as asked
-use Rattle.command_words.specs.declared.asked.Question.{Question}
-use Rattle.command_words.specs.declared.asked.Question.TheVariants as questions
+use Rattle.command_words.specs.declared.asked.CalcQuestion.{CalcQuestion}
+use Rattle.command_words.specs.declared.asked.CalcQuestion.TheVariants as questions
 use Rattle.command_words.specs.declared.asked.Calculation.{Calculation}
 use Rattle.command_words.specs.declared.asked.Depths.{Depths}
 use Rattle.command_words.specs.declared.asked.Depths.TheVariants as depths
@@ -18,7 +18,7 @@ use Rattle.command_words.specs.Asked as words
 abbrev pub plain_text : Option (Bor (List ℕ)) → Option (List ℕ)
 plain_text = option_map (λ text. text.now)
 
-abbrev pub plain_question : Question → words.Question
+abbrev pub plain_question : CalcQuestion → words.CalcQuestion
 plain_question questions.Set = words.TheSet
 plain_question (questions.Intersect name) = words.Intersect name.now
 plain_question (questions.NumberOf name) = words.NumberOf name.now

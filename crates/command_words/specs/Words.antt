@@ -45,15 +45,15 @@ abbrev pub IsUsage : List (String Global) → Type 0
 IsUsage words = asked_of (map string_bytes words) ≡ None
 
 -- the names of the commands whose words `clap` reads
-abbrev pub tabled_names : List Text
-tabled_names =
+abbrev pub command_names : List Text
+command_names =
     codes "run" ∷ codes "set" ∷ codes "topo" ∷ codes "calc" ∷ codes "distrib" ∷ codes "select" ∷ codes "drill"
     ∷ codes "check" ∷ []
 
-abbrev pub is_tabled : List Text → Bool
-is_tabled [] = false
-is_tabled (name ∷ words) = list_any (bytes_eq name) tabled_names
+abbrev pub names_command : List Text → Bool
+names_command [] = false
+names_command (name ∷ words) = list_any (bytes_eq name) command_names
 
 -- the first word names a command whose words `clap` reads
-abbrev pub IsTabled : List (String Global) → Type 0
-IsTabled words = IsTrue (is_tabled (map string_bytes words))
+abbrev pub NamesCommand : List (String Global) → Type 0
+NamesCommand words = IsTrue (names_command (map string_bytes words))

@@ -58,9 +58,9 @@ pub struct Sharing {
     pub ghost few_commands: { quantum ≤ 65535 },
 }
 
-/// What is asked of a set.
+/// What is asked of a set, with types by their names.
 #[derive(Clone, Copy)]
-pub enum Question<'a> {
+pub enum CalcQuestion<'a> {
     /// The set itself.
     Set,
     /// The objects of a type that have a PU of it.
@@ -77,7 +77,7 @@ pub enum Question<'a> {
 #[derive(Drop)]
 pub struct Calculation<'a> {
     /// What is asked of the set.
-    pub question: Question<'a>,
+    pub question: CalcQuestion<'a>,
     /// PUs and NUMANodes are numbered by their physical numbers.
     pub physical: bool,
     /// The set has its first number alone.

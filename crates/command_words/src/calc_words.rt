@@ -6,7 +6,7 @@ ghost use Rattle.command_words.specs.Commands.{rule_of, taken_by};
 ghost use Rattle.command_words.specs.Plain.{plain, plain_text, plain_question, plain_calculation};
 ghost use Rattle.command_words.specs.CalcWords.{calc_rules, question_of, question_in, physical_of, numbered, calculation_of, calc_asked};
 
-use crate::asked::{Asked, Calculation, Question};
+use crate::asked::{Asked, CalcQuestion, Calculation};
 use crate::command::{Argument, is_given, matches, value, values};
 use crate::fault::WordsFault;
 use clap::ArgMatches;
@@ -77,7 +77,7 @@ fn calculation_of<'a>(
 }
 
 // What is asked of the set.
-fn question<'a>(matches: &ArgMatches<'a>) -> Option<Question<'a>>
+fn question<'a>(matches: &ArgMatches<'a>) -> Option<CalcQuestion<'a>>
     ensures { option_map plain_question result ≡ question_in (rows_of (found_of matches.now)) }
 {
     question_of(
@@ -94,16 +94,16 @@ fn question_of<'a>(
     number_of: Option<&'a [u8]>,
     hierarchical: Option<&'a [u8]>,
     largest: bool,
-) -> Option<Question<'a>>
+) -> Option<CalcQuestion<'a>>
     ensures { option_map plain_question result
         ≡ question_of (plain_text intersect.entry) (plain_text number_of.entry) (plain_text hierarchical.entry) largest }
 {
     match (intersect, number_of, hierarchical, largest) {
-        (None, None, None, false) => Some(Question::Set),
-        (Some(name), None, None, false) => Some(Question::Intersect(name)),
-        (None, Some(name), None, false) => Some(Question::NumberOf(name)),
-        (None, None, Some(names), false) => Some(Question::Hierarchical(names)),
-        (None, None, None, true) => Some(Question::Largest),
+        (None, None, None, false) => Some(CalcQuestion::Set),
+        (Some(name), None, None, false) => Some(CalcQuestion::Intersect(name)),
+        (None, Some(name), None, false) => Some(CalcQuestion::NumberOf(name)),
+        (None, None, Some(names), false) => Some(CalcQuestion::Hierarchical(names)),
+        (None, None, None, true) => Some(CalcQuestion::Largest),
         _ => None,
     }
 }

@@ -15,7 +15,7 @@ mod topo_words;
 mod words;
 
 pub use asked::{
-    Asked, Calculation, Checking, Depths, Distribution, Question, Running, Selection, Sharing,
+    Asked, CalcQuestion, Calculation, Checking, Depths, Distribution, Running, Selection, Sharing,
 };
 pub use fault::WordsFault;
 pub use words::read_words;

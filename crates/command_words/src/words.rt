@@ -1,7 +1,7 @@
 //! The words of the command line.
 ghost use Rattle.std.specs.Prelude.{◌≡◌, ◌⊎◌, Some, None, map, string_bytes, IfOk, IfErr};
 ghost use Rattle.command_words.specs.Plain.{plain};
-ghost use Rattle.command_words.specs.Words.{are_short, command_asked, asked_of, Says, IsUsage, IsTabled};
+ghost use Rattle.command_words.specs.Words.{are_short, command_asked, asked_of, Says, IsUsage, NamesCommand};
 
 use crate::asked::Asked;
 use crate::calc_words::read_calc;
@@ -23,7 +23,7 @@ const SHORT: usize = 4_294_967_296;
 #[tactic(auto, unfolding(crate::specs::Words::asked_of))]
 pub fn read_words<'a>(alloc: Global, words: &'a [String]) -> Result<Asked<'a>, WordsFault>
     ensures asked { IfOk result (λ asked. Says words.entry.now (plain asked)) }
-    ensures refused { IfErr result (λ fault. ((fault ≡ WordsFault.OutOfMemory) × IsTabled words.entry.now)
+    ensures refused { IfErr result (λ fault. ((fault ≡ WordsFault.OutOfMemory) × NamesCommand words.entry.now)
         ⊎ ((fault ≡ WordsFault.Usage) × IsUsage words.entry.now)) }
 {
     if are_short(words) {
@@ -52,7 +52,7 @@ fn are_short(words: &[String]) -> bool
 #[tactic(auto, unfolding(crate::specs::Words::command_asked))]
 fn read_command<'a>(alloc: Global, words: &'a [String]) -> Result<Asked<'a>, WordsFault>
     ensures asked { IfOk result (λ asked. command_asked (map string_bytes words.entry.now) ≡ Some (plain asked)) }
-    ensures refused { IfErr result (λ fault. ((fault ≡ WordsFault.OutOfMemory) × IsTabled words.entry.now)
+    ensures refused { IfErr result (λ fault. ((fault ≡ WordsFault.OutOfMemory) × NamesCommand words.entry.now)
         ⊎ ((fault ≡ WordsFault.Usage) × (command_asked (map string_bytes words.entry.now) ≡ None))) }
 {
     let Some(first) = words.first() else {

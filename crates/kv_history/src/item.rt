@@ -126,11 +126,16 @@ fn counted(up: bool, number: u64, delta: u64) -> u64
     }
 }
 
-// Puts other bytes in the place of a text's, in its room where they fit there. Without memory the text stays.
+// Puts other bytes in the place of a text's, in its room where they fit there. As many bytes are put over the old ones. Without memory
+// the text stays.
 fn overwrite(text: &mut Vec<u8>, bytes: &[u8]) -> Result<(), AllocError>
     ensures ok { OnOk result (text.new.items ≡ bytes.now) }
     ensures err { OnErr result (text.new.items ≡ text.old.items) }
 {
+    if text.len() == bytes.len() {
+        text.copy_from_slice(bytes);
+        return Ok(());
+    }
     text.reserve(bytes.len().saturating_sub(text.len()))?;
     text.clear();
     text.extend_from_slice(bytes)

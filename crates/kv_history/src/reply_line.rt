@@ -63,7 +63,8 @@ fn push_line(reply: &mut Vec<u8>, line: ReplyLine)
         ReplyLine::Number(number) => {
             let mut buffer = Buffer::new();
             let _ = reply.extend_from_slice(buffer.format(number).as_bytes());
-            let _ = reply.extend_from_slice(b"\r\n");
+            reply.push_reserved(b'\r');
+            reply.push_reserved(b'\n');
         }
     }
 }

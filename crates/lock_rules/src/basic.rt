@@ -162,6 +162,7 @@ pub trait Basic<V: Cargo>: Sized {
     }
 
     /// Gives the value back, and waits until the pass is idle again.
+    #[inline(always)]
     final fn release<R: Wait>(&self, rt: &R, held: Self::Held) -> Self::Pass
         requires own { IsOf (name self.now) (tag self.now) (Self.Held.holder held).place }
         requires fit { V.fit (Self.Held.holder held).value }

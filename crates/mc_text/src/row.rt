@@ -82,10 +82,18 @@ pub(crate) fn row_of(name: &[u8]) -> Option<Row>
     }
 }
 
-// Whether a name is this word. Most other names differ in their length or their first letter, which are looked at here.
+// Whether a name is this word. The word is a constant of a few bytes, so they are compared one by one, with no loop in what is compiled.
 #[inline(always)]
 fn is_named(name: &[u8], word: &[u8]) -> bool
     ensures { result ≡ bytes_eq name.now word.now }
 {
-    name.len() == word.len() && (name.is_empty() || name[0] == word[0]) && name == word
+    if name.len() != word.len() {
+        return false;
+    }
+    for (place, byte) in word.iter().enumerate() {
+        if name[place] != *byte {
+            return false;
+        }
+    }
+    true
 }

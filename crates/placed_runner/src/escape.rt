@@ -61,14 +61,15 @@ fn push_first<'a>(out: &mut Vec<u8>, byte: u8, behind: &'a [u8]) -> Result<&'a [
     }
 }
 
-// The bytes in front that stand for themselves, the first other byte, and what stands behind it.
+// The bytes in front that stand for themselves, the first other byte, and what stands behind it. In line, so that they come in no struct.
+#[inline(always)]
 fn split_plain(text: &[u8]) -> Option<(&[u8], u8, &[u8])>
     ensures shorter { IfSome result (λ parts. length parts.2.now < length text.now) }
     ensures parts { MatchOption result
         (escaped text.now ≡ text.now)
         (λ parts. escaped text.now ≡ parts.0.now ++ (escaped_byte parts.1 ++ escaped parts.2.now)) }
 {
-    for place in plain_blocks(text)..text.len() {
+    for place in plain_front(text)..text.len() {
         let byte = text[place];
         if !is_plain(byte) {
             return Some((&text[..place], byte, &text[place + 1..]));
@@ -77,16 +78,28 @@ fn split_plain(text: &[u8]) -> Option<(&[u8], u8, &[u8])>
     None
 }
 
-// How many bytes are looked at together.
+// How many bytes are looked at together: so many at first, as long as all of them stand for themselves, and then fewer.
+const WIDE_BLOCK: usize = 32;
 const BLOCK: usize = 8;
 
 // How many bytes the blocks in front have all of whose bytes stand for themselves.
-fn plain_blocks(text: &[u8]) -> usize
+fn plain_front(text: &[u8]) -> usize
+    ensures within { result ≤ length text.now }
+    ensures plain { escaped text.now ≡ take result text.now ++ escaped (drop result text.now) }
+{
+    let wide = plain_blocks(WIDE_BLOCK, text);
+    wide + plain_blocks(BLOCK, &text[wide..])
+}
+
+// The same, of blocks of one size. In line, since the size is a constant.
+#[inline(always)]
+fn plain_blocks(size: usize, text: &[u8]) -> usize
+    requires { 0 < size }
     ensures within { result ≤ length text.now }
     ensures plain { escaped text.now ≡ take result text.now ++ escaped (drop result text.now) }
 {
     let mut rest = text;
-    while let Some((block, behind)) = rest.split_at_checked(BLOCK) {
+    while let Some((block, behind)) = rest.split_at_checked(size) {
         if !are_plain(block) {
             break;
         }

@@ -1,5 +1,5 @@
 //! Words, read: what lists of words ask for, and those that are a usage error.
-use command_words::{Asked, Checking, Depths, Question, Running, WordsFault, read_words};
+use command_words::{Asked, CalcQuestion, Checking, Depths, Running, WordsFault, read_words};
 use std::alloc::Global;
 use std::process::Abort;
 use std::test::Fail;
@@ -22,7 +22,7 @@ fn reads_a_calculation(rt: HostRuntime) -> Result<(), Fail> {
     match read_words(alloc, &words) {
         Ok(Asked::Calc(asked)) => {
             assert!(rt; asked.physical && asked.single && !asked.taskset);
-            assert!(rt; matches!(asked.question, Question::Intersect(b"core")));
+            assert!(rt; matches!(asked.question, CalcQuestion::Intersect(b"core")));
             assert_eq!(rt; asked.description, b"PU:2".as_slice());
             assert_eq!(rt; asked.locations.len(), 2);
             assert_eq!(rt; asked.locations[1], b"all".as_slice());

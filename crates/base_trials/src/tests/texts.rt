@@ -72,6 +72,11 @@ fn reads_decimal_numbers_within_limits(rt: HostRuntime) {
     assert!(rt; number_up_to(0, b"00") == Some(0) && number_up_to(0, b"1").is_none());
     assert!(rt; number_up_to(u64::MAX, b"18446744073709551615") == Some(u64::MAX));
     assert!(rt; number_up_to(u64::MAX, b"18446744073709551616").is_none());
+    assert!(rt; number_up_to(u64::MAX, b"9999999999999999999") == Some(9_999_999_999_999_999_999));
+    assert!(rt; number_up_to(9, b"0000000000000000009") == Some(9));
+    assert!(rt; number_up_to(9, b"00000000000000000009") == Some(9));
+    assert!(rt; number_up_to(9, b"000000000000000000/").is_none());
+    assert!(rt; number_up_to(9, b"000000000000000000:").is_none());
     assert!(rt; number_up_to(9, b"+5").is_none() && number_up_to(9, b"").is_none());
     assert!(rt; number32(b"04294967295") == Some(u32::MAX) && number32(b"4294967296").is_none());
     assert!(rt; number32(b"").is_none() && number32(b"-1").is_none());

@@ -1,6 +1,6 @@
 //! Words read, and answers printed. Those of `command_trials` are compared with those of hwloc-calc.
 use calc_query::{CalcFault, Numbering, select};
-use calc_text::{Answer, Style, answer_text, read_layers, read_terms, set_text};
+use calc_text::{AnswerKind, AnswerStyle, answer_text, read_layers, read_terms, set_text};
 use std::alloc::Global;
 use std::test::Fail;
 use synth_text::read;
@@ -10,7 +10,7 @@ fn tree(alloc: Global) -> Result<Tree, Fail> {
     Ok(Tree::build(alloc, read(alloc, b"Package:2 Core:2 PU:2")?)?)
 }
 
-const STYLE: Style<'static> = Style {
+const STYLE: AnswerStyle<'static> = AnswerStyle {
     numbering: Numbering::Logical,
     taskset: false,
     separator: None,
@@ -23,10 +23,10 @@ fn reads_and_prints(rt: HostRuntime) -> Result<(), Fail> {
     let words: [&[u8]; 2] = [b"package:1.core:0-", b"~pu:5"];
     let terms = read_terms(alloc, &tree, &words)?;
     let set = select(&tree, &terms, Numbering::Logical);
-    let text = answer_text(alloc, &tree, &set, &Answer::Largest, STYLE)?;
+    let text = answer_text(alloc, &tree, &set, &AnswerKind::Largest, STYLE)?;
     assert_eq!(rt; text.as_slice(), b"PU:4 Core:3".as_slice());
     assert_eq!(rt; set_text(alloc, true, &set)?.as_slice(), b"0xd0".as_slice());
-    let text = answer_text(alloc, &tree, &set, &Answer::Set, STYLE)?;
+    let text = answer_text(alloc, &tree, &set, &AnswerKind::Set, STYLE)?;
     assert_eq!(rt; text.as_slice(), b"0x000000d0".as_slice());
     Ok(())
 }

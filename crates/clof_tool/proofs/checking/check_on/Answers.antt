@@ -6,7 +6,7 @@ use Rattle.command_words.specs.Plain.{plain_checking}
 use Rattle.command_texts.specs.declared.status.Status.{Status}
 use Rattle.command_texts.specs.declared.status.Status.TheVariants as statuses
 use Rattle.command_texts.specs.Ends.{IsRefusal, EndsEarly}
-use Rattle.command_texts.specs.TopoText.{IsBuilt}
+use Rattle.command_texts.specs.TopoText.{DescribesBuilt}
 use Rattle.command_texts.proofs.OnTopologies.{early_silent, err_again, not_refused}
 use Rattle.command_texts.specs.RunPlan.{RefusesPlan}
 use Rattle.clof_tool.specs.Checking.{RefusesChecked}
@@ -16,7 +16,7 @@ use Rattle.clof_tool.proofs.checking.check_on.Goals as goal
 
 -- the cause of a refusal on what is described
 cause_on : (asked : Checking) (described : Description) (left : Option (List ℕ)) (given given_now : ℕ) (status : Status)
-    → IsBuilt asked.description described
+    → DescribesBuilt asked.description described
     → RefusesPlan described (as_run asked) status ⊎ FoundUnchecked asked left given given_now status described
     → HasCause (Check asked) left given given_now status
 cause_on asked described left given given_now status built (inl refuses) =

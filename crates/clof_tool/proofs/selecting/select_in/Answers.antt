@@ -7,23 +7,23 @@ use Rattle.clof_tool.proofs.selecting.select_in.Goals as goal
 
 pub returns-in-Ok-clause-answer : goal.returns-in-Ok-clause-answer
 returns-in-Ok-clause-answer g c =
-    let terms = c.in-Ok.terms in
+    let criteria = c.in-Ok.criteria in
     IfOk-weaker c.selected.result _ _ (λ printed is.
-    (is.0, is.1, is.2, record { weights = terms.weights.items; keep = terms.keep; are = c.in-Ok.ensures.ok; prints = is.3 }))
+    (is.0, is.1, is.2, record { weights = criteria.weights.items; keep = criteria.keep; are = c.in-Ok.ensures.ok; prints = is.3 }))
     c.selected.ensures.answer
 
 pub returns-in-Ok-clause-cause : goal.returns-in-Ok-clause-cause
 returns-in-Ok-clause-cause g c =
-    let terms = c.in-Ok.terms in
+    let criteria = c.in-Ok.criteria in
     IfErr-weaker c.selected.result _ _ (λ status is refusal.
-    inr (record { weights = terms.weights.items; keep = terms.keep; are = c.in-Ok.ensures.ok }, is refusal))
+    inr (record { weights = criteria.weights.items; keep = criteria.keep; are = c.in-Ok.ensures.ok }, is refusal))
     c.selected.ensures.cause
 
-pub returns-in-Ok-clause-terms_refused : goal.returns-in-Ok-clause-terms_refused
-returns-in-Ok-clause-terms_refused g c status refuses = absurd (not_refused _ status (c.in-Ok.ensures.refused status refuses))
+pub returns-in-Ok-clause-criteria_refused : goal.returns-in-Ok-clause-criteria_refused
+returns-in-Ok-clause-criteria_refused g c status refuses = absurd (not_refused _ status (c.in-Ok.ensures.refused status refuses))
 
-pub returns-in-Ok-clause-terms_unread : goal.returns-in-Ok-clause-terms_unread
-returns-in-Ok-clause-terms_unread g c status refuses = absurd (not_refused _ status (c.in-Ok.ensures.refused status refuses))
+pub returns-in-Ok-clause-criteria_unread : goal.returns-in-Ok-clause-criteria_unread
+returns-in-Ok-clause-criteria_unread g c status refuses = absurd (not_refused _ status (c.in-Ok.ensures.refused status refuses))
 
 pub returns-in-Ok-clause-input_refused : goal.returns-in-Ok-clause-input_refused
 returns-in-Ok-clause-input_refused g c input status left refuses calm =
@@ -31,9 +31,10 @@ returns-in-Ok-clause-input_refused g c input status left refuses calm =
 
 pub returns-in-Ok-clause-complete : goal.returns-in-Ok-clause-complete
 returns-in-Ok-clause-complete g c input left words none calm =
-    let terms = c.in-Ok.terms in
+    let criteria = c.in-Ok.criteria in
     c.selected.ensures.complete input left
-    (λ status refuses. none status (record { weights = terms.weights.items; keep = terms.keep; are = c.in-Ok.ensures.ok }, refuses)) calm
+    (λ status refuses.
+    none status (record { weights = criteria.weights.items; keep = criteria.keep; are = c.in-Ok.ensures.ok }, refuses)) calm
 
 pub returns-in-Err-clause-cause : goal.returns-in-Err-clause-cause
 returns-in-Err-clause-cause g c refusal = elim c.in-Err.ensures.err [
@@ -41,8 +42,8 @@ returns-in-Err-clause-cause g c refusal = elim c.in-Err.ensures.err [
   | inr memory ↦ absurd (subst IsRefusal memory refusal)
 ]
 
-pub returns-in-Err-clause-terms_refused : goal.returns-in-Err-clause-terms_refused
-returns-in-Err-clause-terms_refused g c status refuses =
+pub returns-in-Err-clause-criteria_refused : goal.returns-in-Err-clause-criteria_refused
+returns-in-Err-clause-criteria_refused g c status refuses =
     err_again c.in-Err.status status (c.in-Err.ensures.refused status refuses)
 
 pub returns-in-Err-clause-input_refused : goal.returns-in-Err-clause-input_refused

@@ -6,8 +6,8 @@ use Rattle.command_words.specs.Plain.{plain_selection}
 use Rattle.command_texts.specs.declared.status.Status.{Status}
 use Rattle.command_texts.specs.declared.status.Status.TheVariants as statuses
 use Rattle.command_texts.specs.Ends.{IsRefusal, EndsEarly}
-use Rattle.command_texts.specs.SelectText.{RefusesTerms}
-use Rattle.command_texts.specs.TopoText.{IsBuilt}
+use Rattle.command_texts.specs.SelectText.{RefusesCriteria}
+use Rattle.command_texts.specs.TopoText.{DescribesBuilt}
 use Rattle.command_texts.proofs.OnTopologies.{early_silent, err_again, not_refused}
 use Rattle.clof_tool.specs.Selecting.{RefusesInput}
 use Rattle.clof_tool.specs.Outcome.{FoundRefused, HasCause}
@@ -16,8 +16,8 @@ use Rattle.clof_tool.proofs.selecting.select_on.Goals as goal
 
 -- the cause of a refusal on what is described
 cause_on : (asked : Selection) (described : Description) (left : Option (List ℕ)) (given given_now : ℕ) (status : Status)
-    → IsBuilt asked.description described
-    → RefusesTerms described asked status ⊎ FoundRefused asked left given given_now status described
+    → DescribesBuilt asked.description described
+    → RefusesCriteria described asked status ⊎ FoundRefused asked left given given_now status described
     → HasCause (Select asked) left given given_now status
 cause_on asked described left given given_now status built (inl refuses) =
     inl (inr (record { described = described; built = built; holds = refuses }))
@@ -42,8 +42,8 @@ returns-in-Ok-clause-answered g c =
       read_calm = found.read_calm;
       words_refused = λ status refuses. elim refuses [
         | inl topo ↦ absurd (not_refused _ status (built.refused status topo))
-        | inr on ↦ found.terms_refused status
-            (subst (λ described. RefusesTerms described asked status) (built.only on.described on.built.describes) on.holds)
+        | inr on ↦ found.criteria_refused status
+            (subst (λ described. RefusesCriteria described asked status) (built.only on.described on.built.describes) on.holds)
       ];
       input_refused = λ input status left refuses calm. found.input_refused input status left
           (subst (RefusesInput asked input status) (built.only refuses.described refuses.built.describes) refuses.holds) calm;
@@ -52,8 +52,8 @@ returns-in-Ok-clause-answered g c =
 pub returns-in-Ok-clause-words_unread : goal.returns-in-Ok-clause-words_unread
 returns-in-Ok-clause-words_unread g c status refuses = elim refuses [
   | inl topo ↦ absurd (not_refused _ status (c.in-Ok.ensures.refused status topo))
-  | inr on ↦ c.select_in.ensures.terms_unread status
-      (subst (λ described. RefusesTerms described (plain_selection c.args.asked.now) status)
+  | inr on ↦ c.select_in.ensures.criteria_unread status
+      (subst (λ described. RefusesCriteria described (plain_selection c.args.asked.now) status)
       (c.in-Ok.ensures.only on.described on.built.describes) on.holds)
 ]
 

@@ -1,4 +1,5 @@
-use Rattle.std.proofs.Common.{◌≡◌, ◌++◌, ℕ, List, sym, ap, ◌∙◌, append_assoc, rules}
+use Rattle.std.proofs.Common.{◌≡◌, ◌++◌, ℕ, List, sym, ap, ap₂, ◌∙◌, append_assoc, rules}
+use Rattle.std.proofs.lemmas.List.{take-append-drop}
 use Rattle.std.proofs.lemmas.Grind.{flat_map-append}
 use Rattle.placed_runner.specs.Text.{escaped, escaped_byte}
 use Rattle.placed_runner.proofs.escape.plain_blocks.Goals as goal
@@ -10,7 +11,8 @@ loop-block-preserved c =
     let rest = c.loop-block.rest.now in
     let block = c.in-Some.block.now in
     let behind = c.in-Some.behind.now in
-    let parts : block ++ behind ≡ rest = search rules in
+    let cases = c.in-Some.ensures.cases in
+    let parts : block ++ behind ≡ rest = ap₂ ◌++◌ cases.1 cases.2 ∙ take-append-drop c.args.size rest in
     let text_is : c.args.text.now ≡ (front ++ block) ++ behind =
     so_far.1 ∙ ap (λ (t : List ℕ). front ++ t) (sym parts) ∙ sym (append_assoc front block behind) in
     let block_plain : escaped block ≡ block = c.are_plain.ensures (search rules) in
