@@ -16,7 +16,11 @@ pub fn number_up_to(greatest: u64, text: &[u8]) -> Option<u64>
 {
     if text.len() <= FEW {
         let number = short_number(text)?;
-        return if number <= greatest { Some(number) } else { None };
+        return if number <= greatest {
+            Some(number)
+        } else {
+            None
+        };
     }
     match read_numeral(10, text, greatest) {
         Numeral::Number(number) => Some(number),

@@ -17,7 +17,7 @@ ghost use Rattle.clof_compose.specs.contracts.root.Root.{the_row};
 use crate::root::Root;
 use crate::token::{Climbing, Descending, Resting, Standing};
 use keep_local::Share;
-use lock_rules::{Payload, Step};
+use lock_rules::{Pauses, Payload, Step};
 use std::sync::Wait;
 
 /// A lock of one or more levels, whose holder reaches one root.
@@ -25,7 +25,7 @@ use std::sync::Wait;
 /// `level` is the number of its lowest level, `tag` is the tag of its root, and `count` is the number of its contexts, each of which has
 /// one pass. `name` tells the lock from all others: it has the names of all basic locks inside. `sound` says that the locks inside belong
 /// together, and `has` that a token of this lock may be of a context. A call that is handed a token asks for both, and gives a token of the
-/// same context. No call takes memory, and only `acquire` and `release` wait.
+/// same context. No call takes memory, and only the calls that are handed a `Wait` wait.
 pub trait Composed<P: Payload>: Sized {
     type Pass: Resting;
 
@@ -117,26 +117,6 @@ pub trait Composed<P: Payload>: Sized {
         ensures pass { IfGot result (λ p. (Self.Pass.rest p).context ≡ (Self.Leave.descent leave).context) }
         ensures tests { IfGot result (λ p. (Self.Pass.rest p).report ≡ (Self.Leave.descent leave).report) };
 
-    /// Waits until the pass holds the lock.
-    fn acquire<R: Wait>(&self, rt: &R, pass: Self::Pass, share: &mut Share) -> Self::Held
-        requires sound { sound self.now }
-        requires own { has self.now (Self.Pass.rest pass).context }
-        requires share { MayTurn (course_of (tag self.now)) (level self.now) (Self.Pass.rest pass).context.number share.old }
-        ensures held { (Self.Held.stand result).context ≡ (Self.Pass.rest pass).context }
-        ensures stands { Self.Held.stands result }
-        ensures made { share.new ≡ record share.old { made = share.old.made + 1 } }
-        ensures opened { IsSomeAnd (Self.Held.stand result).root (HasOpened P.calls P.tag (tag self.now) (level self.now) share.new) };
-
-    /// Leaves the lock, and waits until the pass is idle again.
-    fn release<R: Wait>(&self, rt: &R, held: Self::Held) -> Self::Pass
-        requires sound { sound self.now }
-        requires own { has self.now (Self.Held.stand held).context }
-        requires stands { Self.Held.stands held }
-        requires root { IsSomeAnd (Self.Held.stand held).root (MayRelease P.calls P.tag (tag self.now) (level self.now)
-            (Self.Held.stand held).context.number) }
-        ensures pass { (Self.Pass.rest result).context ≡ (Self.Held.stand held).context }
-        ensures tests { IsSomeAnd (Self.Held.stand held).root (ClosesWith (level self.now) (Self.Pass.rest result).report) };
-
     /// Takes the lock apart, with all its passes in the order of their numbers.
     fn close(self, passes: Vec<Self::Pass>) -> Root<P>
         requires sound { sound self }
@@ -172,5 +152,82 @@ pub trait Composed<P: Payload>: Sized {
             → Self.Held.stands (Self.Held.put_root held.old r) }
     {
         held.root()
+    }
+
+    /// Waits until the pass holds the lock: `begin`, and then `wait`.
+    #[inline(always)]
+    final fn acquire<R: Wait>(&self, rt: &R, pass: Self::Pass, share: &mut Share) -> Self::Held
+        requires sound { sound self.now }
+        requires own { has self.now (Self.Pass.rest pass).context }
+        requires share { MayTurn (course_of (tag self.now)) (level self.now) (Self.Pass.rest pass).context.number share.old }
+        ensures held { (Self.Held.stand result).context ≡ (Self.Pass.rest pass).context }
+        ensures stands { Self.Held.stands result }
+        ensures made { share.new ≡ record share.old { made = share.old.made + 1 } }
+        ensures opened { IsSomeAnd (Self.Held.stand result).root (HasOpened P.calls P.tag (tag self.now) (level self.now) share.new) }
+    {
+        match self.begin(pass, share) {
+            Step::Got(held) => held,
+            Step::Not(queue) => self.wait(rt, queue, share),
+        }
+    }
+
+    /// Polls until the pass holds the lock, and pauses behind each poll.
+    final fn wait<R: Wait>(&self, rt: &R, queue: Self::Queue, share: &mut Share) -> Self::Held
+        requires sound { sound self.now }
+        requires own { has self.now (Self.Queue.climb queue).context }
+        requires climbs { Self.Queue.climbs queue }
+        requires share { MayTurn (course_of (tag self.now)) (level self.now) (Self.Queue.climb queue).context.number share.old }
+        ensures held { (Self.Held.stand result).context ≡ (Self.Queue.climb queue).context }
+        ensures stands { Self.Held.stands result }
+        ensures made { share.new ≡ record share.old { made = share.old.made + 1 } }
+        ensures opened { IsSomeAnd (Self.Held.stand result).root (HasOpened P.calls P.tag (tag self.now) (level self.now) share.new) }
+    {
+        let mut queue = queue;
+        let mut pauses = Pauses::new();
+        for _ in rt.forever() {
+            match self.poll(queue, share) {
+                Step::Got(held) => return held,
+                Step::Not(next) => queue = next,
+            }
+            pauses.pause();
+        }
+        unreachable!()
+    }
+
+    /// Leaves the lock, and waits until the pass is idle again: `begin_release`, and then `wait_release`.
+    #[inline(always)]
+    final fn release<R: Wait>(&self, rt: &R, held: Self::Held) -> Self::Pass
+        requires sound { sound self.now }
+        requires own { has self.now (Self.Held.stand held).context }
+        requires stands { Self.Held.stands held }
+        requires root { IsSomeAnd (Self.Held.stand held).root (MayRelease P.calls P.tag (tag self.now) (level self.now)
+            (Self.Held.stand held).context.number) }
+        ensures pass { (Self.Pass.rest result).context ≡ (Self.Held.stand held).context }
+        ensures tests { IsSomeAnd (Self.Held.stand held).root (ClosesWith (level self.now) (Self.Pass.rest result).report) }
+    {
+        match self.begin_release(held) {
+            Step::Got(pass) => pass,
+            Step::Not(leave) => self.wait_release(rt, leave),
+        }
+    }
+
+    /// Polls a release until the pass is idle again, and pauses behind each poll.
+    final fn wait_release<R: Wait>(&self, rt: &R, leave: Self::Leave) -> Self::Pass
+        requires sound { sound self.now }
+        requires own { has self.now (Self.Leave.descent leave).context }
+        requires descends { Self.Leave.descends leave }
+        ensures pass { (Self.Pass.rest result).context ≡ (Self.Leave.descent leave).context }
+        ensures tests { (Self.Pass.rest result).report ≡ (Self.Leave.descent leave).report }
+    {
+        let mut leave = leave;
+        let mut pauses = Pauses::new();
+        for _ in rt.forever() {
+            match self.poll_release(leave) {
+                Step::Got(pass) => return pass,
+                Step::Not(next) => leave = next,
+            }
+            pauses.pause();
+        }
+        unreachable!()
     }
 }

@@ -7,19 +7,18 @@ ghost use Rattle.clof_compose.specs.Levels.{level_context};
 ghost use Rattle.clof_compose.specs.Passes.{AreAll};
 ghost use Rattle.clof_compose.specs.Roots.{root_tag, IsFit};
 
-use crate::climb::{keep_high, wait_for_high};
+use crate::climb::keep_high;
 use crate::closing::{close_nodes, take_passes};
 use crate::composed::Composed;
 use crate::level_tokens::{LevelHeld, LevelLeave, LevelPass, LevelQueue};
 use crate::node::{Node, lock_of};
 use crate::own::Own;
 use crate::passing::go_up;
-use crate::release::{let_go, let_go_and_wait, put_back};
+use crate::release::{let_go, put_back};
 use crate::root::Root;
 use crate::stage::{LeaveStage, QueueStage};
 use keep_local::Share;
 use lock_rules::{Basic, Held as Holds, Payload, Step};
-use std::sync::Wait;
 
 /// A basic lock for each node of a level, over a high lock of which each node has one context.
 #[derive(Drop)]
@@ -106,6 +105,7 @@ impl<
         }
     }
 
+    #[inline(always)]
     fn begin_release(
         &self,
         held: LevelHeld<P, H::Pass, H::Held>,
@@ -156,29 +156,6 @@ impl<
             }),
             Step::Got(low) => Step::Got(LevelPass { low, id, report }),
         }
-    }
-
-    #[inline(always)]
-    fn acquire<R: Wait>(
-        &self,
-        rt: &R,
-        pass: LevelPass<B::Pass>,
-        share: &mut Share,
-    ) -> LevelHeld<P, H::Pass, H::Held> {
-        let id = pass.id;
-        let mut low = lock_of(&self.nodes, id.node).acquire(rt, pass.low);
-        wait_for_high(&self.high, rt, &mut low.value, id.level, share);
-        LevelHeld { low, id, filler: 0 }
-    }
-
-    #[inline(always)]
-    fn release<R: Wait>(&self, rt: &R, held: LevelHeld<P, H::Pass, H::Held>) -> LevelPass<B::Pass> {
-        let LevelHeld { mut low, id, .. } = held;
-        let lock = lock_of(&self.nodes, id.node);
-        low.value.said = lock.waiter(&mut low);
-        let report = let_go_and_wait(&self.high, rt, &mut low.value, id.level, self.keep);
-        let low = lock.release(rt, low);
-        LevelPass { low, id, report }
     }
 
     fn close(self, passes: Vec<LevelPass<B::Pass>>) -> Root<P>

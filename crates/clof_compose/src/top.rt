@@ -14,7 +14,6 @@ use crate::top_tokens::{TopHeld, TopLeave, TopPass, TopQueue};
 use crate::turns::{close_turn, open_turn};
 use keep_local::Share;
 use lock_rules::{Basic, Held, Payload, Step};
-use std::sync::Wait;
 
 /// A basic lock at the top, whose value is the root.
 #[derive(Drop)]
@@ -87,6 +86,7 @@ impl<P: Payload, B: Basic<Root<P>, Held = Held<Root<P>>>> Composed<P> for Top<B,
         }
     }
 
+    #[inline(always)]
     fn begin_release(&self, held: TopHeld<P>) -> Step<TopLeave<B::Leave>, TopPass<B::Pass>> {
         let level = self.level;
         let mut low = held.low;
@@ -106,27 +106,6 @@ impl<P: Payload, B: Basic<Root<P>, Held = Held<Root<P>>>> Composed<P> for Top<B,
             Step::Not(low) => Step::Not(TopLeave { low, level, report }),
             Step::Got(low) => Step::Got(TopPass { low, level, report }),
         }
-    }
-
-    #[inline(always)]
-    fn acquire<R: Wait>(&self, rt: &R, pass: TopPass<B::Pass>, share: &mut Share) -> TopHeld<P> {
-        let level = self.level;
-        let mut low = self.low.acquire(rt, pass.low);
-        open_turn(&mut low.value, share, level);
-        TopHeld {
-            low,
-            level,
-            filler: 0,
-        }
-    }
-
-    #[inline(always)]
-    fn release<R: Wait>(&self, rt: &R, held: TopHeld<P>) -> TopPass<B::Pass> {
-        let level = self.level;
-        let mut low = held.low;
-        let report = close_turn(&mut low.value, level);
-        let low = self.low.release(rt, low);
-        TopPass { low, level, report }
     }
 
     fn close(self, passes: Vec<TopPass<B::Pass>>) -> Root<P>

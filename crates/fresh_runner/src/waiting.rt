@@ -5,9 +5,9 @@ ghost use Rattle.clof_compose.specs.Courses.{course_of};
 ghost use Rattle.fresh_runner.specs.Books.{fresh_book_calls, fresh_book_tag};
 
 use crate::book::FreshBook;
-use clof_compose::{Climbing, Composed, Resting, Standing};
+use clof_compose::{Composed, Resting, Standing};
 use keep_local::Share;
-use lock_rules::{Pauses, Step};
+use lock_rules::Step;
 use placed_runner::Gate;
 use std::sync::Wait;
 
@@ -33,35 +33,6 @@ pub(crate) fn acquire<'a, C: Composed<FreshBook<'a>>, G: Gate, R: Wait>(
     gate.queued(caller);
     match begun {
         Step::Got(held) => held,
-        Step::Not(queue) => wait(rt, lock, queue, share),
+        Step::Not(queue) => lock.wait(rt, queue, share),
     }
-}
-
-// Polls until the pass holds, with the pauses of a waiting call.
-fn wait<'a, C: Composed<FreshBook<'a>>, R: Wait>(
-    rt: &R,
-    lock: &C,
-    queue: C::Queue,
-    share: &mut Share,
-) -> C::Held
-    requires sound { C.sound lock.now }
-    requires own { C.has lock.now (C.Queue.climb queue).context }
-    requires climbs { C.Queue.climbs queue }
-    requires share { MayTurn (course_of (C.tag lock.now)) (C.level lock.now) (C.Queue.climb queue).context.number share.old }
-    ensures held { (C.Held.stand result).context ≡ (C.Queue.climb queue).context }
-    ensures stands { C.Held.stands result }
-    ensures made { share.new ≡ record share.old { made = share.old.made + 1 } }
-    ensures opened { IsSomeAnd (C.Held.stand result).root (HasOpened fresh_book_calls fresh_book_tag (C.tag lock.now) (C.level lock.now)
-        share.new) }
-{
-    let mut queue = queue;
-    let mut pauses = Pauses::new();
-    for _ in rt.forever() {
-        match lock.poll(queue, share) {
-            Step::Got(held) => return held,
-            Step::Not(next) => queue = next,
-        }
-        pauses.pause();
-    }
-    unreachable!()
 }

@@ -80,6 +80,7 @@ fn split_plain(text: &[u8]) -> Option<(&[u8], u8, &[u8])>
 
 // How many bytes are looked at together: so many at first, as long as all of them stand for themselves, and then fewer.
 const WIDE_BLOCK: usize = 32;
+
 const BLOCK: usize = 8;
 
 // How many bytes the blocks in front have all of whose bytes stand for themselves.

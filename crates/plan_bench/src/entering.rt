@@ -4,9 +4,9 @@ ghost use Rattle.lock_rules.specs.Tag.{leaf};
 ghost use Rattle.clof_compose.specs.Calls.{HasOpened, MayTurn};
 ghost use Rattle.clof_compose.specs.Courses.{course_of};
 
-use clof_compose::{Climbing, Composed, Resting, Standing};
+use clof_compose::{Composed, Resting, Standing};
 use keep_local::Share;
-use lock_rules::{Pauses, Step};
+use lock_rules::Step;
 use own_payload::Noted;
 use std::sync::Wait;
 
@@ -40,36 +40,7 @@ pub(crate) fn enter<C: Composed<Noted<u64>>, R: Wait>(
         Entering::Acquire => lock.acquire(rt, pass, share),
         Entering::Poll => match lock.begin(pass, share) {
             Step::Got(held) => held,
-            Step::Not(queue) => wait(rt, lock, queue, share),
+            Step::Not(queue) => lock.wait(rt, queue, share),
         },
     }
-}
-
-// Polls until the caller holds, with the pauses of a waiting call.
-fn wait<C: Composed<Noted<u64>>, R: Wait>(
-    rt: &R,
-    lock: &C,
-    queue: C::Queue,
-    share: &mut Share,
-) -> C::Held
-    requires sound { C.sound lock.now }
-    requires own { C.has lock.now (C.Queue.climb queue).context }
-    requires climbs { C.Queue.climbs queue }
-    requires share { MayTurn (course_of (C.tag lock.now)) (C.level lock.now) (C.Queue.climb queue).context.number share.old }
-    ensures held { (C.Held.stand result).context ≡ (C.Queue.climb queue).context }
-    ensures stands { C.Held.stands result }
-    ensures made { share.new ≡ record share.old { made = share.old.made + 1 } }
-    ensures opened { IsSomeAnd (C.Held.stand result).root (HasOpened (λ n. n.calls.callers) (λ _. leaf 0) (C.tag lock.now)
-        (C.level lock.now) share.new) }
-{
-    let mut queue = queue;
-    let mut pauses = Pauses::new();
-    for _ in rt.forever() {
-        match lock.poll(queue, share) {
-            Step::Got(held) => return held,
-            Step::Not(next) => queue = next,
-        }
-        pauses.pause();
-    }
-    unreachable!()
 }

@@ -17,8 +17,8 @@ returns-then-byte-lt48 c numeral =
     let byte = get_or c.args.text.now c.loop-byte.byte-index 0 in
     let digit = digit_from_value byte (digit_at 10 c.args.text.now c.loop-byte.byte-index numeral.1 c.loop-byte-test.true) in
     elim c.then-byte-lt48.branch [
-      then-byte-lt48-via-then-byte-lt48 w ↦ absurd (omega (arith, digit.0, w.if-byte-lt48))
-    | then-byte-lt48-via-else-byte-lt48+then-byte-gt57 w ↦ absurd (omega (arith, digit.1, w.if-byte-gt57))
+      | then-byte-lt48-via-then-byte-lt48 w ↦ absurd (omega (arith, digit.0, w.if-byte-lt48))
+      | then-byte-lt48-via-else-byte-lt48+then-byte-gt57 w ↦ absurd (omega (arith, digit.1, w.if-byte-gt57))
     ]
 
 pub overflow_mul-number : goal.overflow_mul-number
