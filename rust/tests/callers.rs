@@ -1,5 +1,5 @@
 //! Threads exclude one another, a guard gives the lock back, and the last caller takes the value with it.
-use clof::{callers, Kind, NotMade};
+use clof::{callers, composed_callers, Kind, NotMade, Plan};
 use std::mem::forget;
 use std::panic::{catch_unwind, AssertUnwindSafe};
 use std::sync::Arc;
@@ -69,4 +69,68 @@ fn a_forgotten_guard_is_told() {
 #[test]
 fn no_callers_are_refused() {
     assert_eq!(callers(Kind::Clh, (), 0).err(), Some(NotMade::Refused));
+}
+
+const MACHINE: &str = "Package:2 Core:4 PU:2";
+
+const PLANS: [Plan<'static>; 3] = [
+    Plan {
+        description: MACHINE,
+        levels: "machine",
+        locks: "mcs",
+        keeps: "9",
+    },
+    Plan {
+        description: MACHINE,
+        levels: "package,machine",
+        locks: "tkt-mcs",
+        keeps: "9",
+    },
+    Plan {
+        description: MACHINE,
+        levels: "core,machine",
+        locks: "",
+        keeps: "3",
+    },
+];
+
+#[test]
+fn threads_exclude_one_another_under_composed_locks() {
+    for plan in &PLANS {
+        for pus in [&[0, 15][..], &[0, 1, 8, 9], &[3; 16]] {
+            let mut all = composed_callers(plan, pus, (0_u64, false)).unwrap();
+            scope(|scope| {
+                for caller in &mut all {
+                    scope.spawn(move || {
+                        for _ in 0..2000 {
+                            let mut value = caller.lock();
+                            assert!(!value.1);
+                            value.1 = true;
+                            value.0 += 1;
+                            value.1 = false;
+                        }
+                    });
+                }
+            });
+            assert_eq!(all[0].lock().0, 2000 * pus.len() as u64);
+        }
+    }
+}
+
+#[test]
+fn refused_plans_are_told_with_their_place() {
+    let unknown = Plan {
+        levels: "package,die,machine",
+        ..PLANS[1]
+    };
+    let told = Some(NotMade::Texts {
+        code: 41,
+        first: 1,
+        second: 0,
+    });
+    assert_eq!(composed_callers(&unknown, &[0], ()).err(), told);
+    assert_eq!(
+        composed_callers(&PLANS[1], &[], ()).err(),
+        Some(NotMade::Refused)
+    );
 }

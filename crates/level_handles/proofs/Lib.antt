@@ -1,0 +1,4 @@
+pub mod Sent
+pub mod Values
+pub mod Boxed
+pub mod Ready

@@ -1,0 +1,105 @@
+//! A caller of a composed lock of each depth, under a name of its own, so that what is said of a caller of any depth names no lock.
+ghost use Rattle.std.specs.Prelude.{◌≡◌};
+ghost use Rattle.level_handles.specs.Calls.{Acts};
+
+use crate::act::{Call, act};
+use level_callers::{Caller, Reply, Standing};
+use lock_levels::{LevelOver, LockKind, TopOf};
+use own_payload::Noted;
+use std::marker::{Model, PhantomData};
+
+/// A lock of one level.
+pub(crate) type FirstLock = TopOf<Noted<()>>;
+
+/// A lock of two levels.
+pub(crate) type SecondLock = LevelOver<Noted<()>, FirstLock>;
+
+/// A caller of a lock of one level.
+#[derive(Drop)]
+pub struct OneLevel {
+    caller: Caller<FirstLock>,
+    kinds: PhantomData<LockKind>,
+}
+
+impl Model for OneLevel {
+    ghost use Rattle.level_callers.specs.Seen.{Seen, seen_code};
+
+    ghost Value = { Seen };
+
+    ghost coded = { seen_code };
+
+    ghost view = { λ c. c.caller };
+
+    ghost invariant = { λ _. Unit {0} };
+}
+
+impl OneLevel {
+    /// This caller.
+    pub(crate) fn of(caller: Caller<FirstLock>) -> OneLevel
+        ensures same { result ≡ caller }
+    {
+        OneLevel {
+            caller,
+            kinds: PhantomData,
+        }
+    }
+
+    /// Where the caller stands.
+    pub(crate) fn standing(&self) -> Standing
+        ensures stands { result ≡ self.now.standing }
+    {
+        self.caller.standing()
+    }
+
+    /// Does a call.
+    pub(crate) fn act(&mut self, call: Call) -> Reply
+        ensures acts { Acts call self.old self.new result }
+    {
+        act::<FirstLock>(&mut self.caller, call)
+    }
+}
+
+/// A caller of a lock of two levels.
+#[derive(Drop)]
+pub struct TwoLevels {
+    caller: Caller<SecondLock>,
+    kinds: PhantomData<LockKind>,
+}
+
+impl Model for TwoLevels {
+    ghost use Rattle.level_callers.specs.Seen.{Seen, seen_code};
+
+    ghost Value = { Seen };
+
+    ghost coded = { seen_code };
+
+    ghost view = { λ c. c.caller };
+
+    ghost invariant = { λ _. Unit {0} };
+}
+
+impl TwoLevels {
+    /// This caller.
+    pub(crate) fn of(caller: Caller<SecondLock>) -> TwoLevels
+        ensures same { result ≡ caller }
+    {
+        TwoLevels {
+            caller,
+            kinds: PhantomData,
+        }
+    }
+
+    /// Where the caller stands.
+    pub(crate) fn standing(&self) -> Standing
+        ensures stands { result ≡ self.now.standing }
+    {
+        self.caller.standing()
+    }
+
+    /// Does a call.
+    pub(crate) fn act(&mut self, call: Call) -> Reply
+        ensures acts { Acts call self.old self.new result }
+    {
+        act::<SecondLock>(&mut self.caller, call)
+    }
+}
