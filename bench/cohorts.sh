@@ -10,8 +10,8 @@
 #
 #   bench/cohorts.sh [ROW..]    the rows pthread, ck (a ticket lock), ck-ck (a cohort lock of two), ck/count, ck-ck/count (the same, whose
 #                               holders count), and kinds as of `clof run --locks`, of one to five levels: alone with a trail that keeps
-#                               its turns in memory, with /free behind it with one that keeps none, and with /polled with one that keeps
-#                               none by callers who begin and poll where the others acquire; by default twenty-five rows, in some minutes
+#                               its turns in memory, and with /free behind it with one that keeps none; by default twenty-one rows, in
+#                               some minutes
 #   bench/cohorts.sh > table && bench/cohorts_picture.py < table > docs/cohorts.svg
 #
 # HOLDS is how many holds all threads of a run make together, 1,000,000 by default; ROUNDS how often each is run, 5 by default; PLAN_BENCH
@@ -20,7 +20,7 @@ set -eu
 cd "$(dirname "$0")/.."
 . bench/timing.sh
 [ $# -gt 0 ] || set -- pthread ck ck-ck ck/count ck-ck/count tkt mcs clh hem tkt-tkt mcs-mcs clh-clh hem-hem mcs-tkt tkt-tkt-tkt \
-  mcs-mcs-mcs tkt-tkt-tkt-tkt-tkt {tkt,tkt-tkt,tkt-tkt-tkt,tkt-tkt-tkt-tkt-tkt}/{free,polled}
+  mcs-mcs-mcs tkt-tkt-tkt-tkt-tkt {tkt,tkt-tkt,tkt-tkt-tkt,tkt-tkt-tkt-tkt-tkt}/free
 holds=${HOLDS:-1000000} rounds=${ROUNDS:-5} counts='1 2 4'
 for row in "$@"; do
   case $row in
@@ -92,7 +92,6 @@ ratios tkt-tkt/free ck-ck/count 1 4
 ratios tkt/free ck/count 1
 ratios $five tkt 1
 ratios $five/free tkt/free 1
-for levels in tkt tkt-tkt tkt-tkt-tkt $five; do ratios $levels/polled $levels/free 1; done
 
 command -v valgrind > /dev/null || exit 0
 printf '\n%-27s %10s\n' 'instructions a hold' '1 thread'

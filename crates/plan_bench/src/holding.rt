@@ -4,24 +4,16 @@ ghost use Rattle.clof_compose.specs.Calls.{MayTurn};
 ghost use Rattle.clof_compose.specs.Courses.{course_of};
 ghost use Rattle.own_payload.specs.Jobs.{HasServed, MayWork};
 
-use crate::entering::{Entering, enter};
 use clof_compose::{Composed, Resting, Root, Standing};
 use keep_local::Share;
 use own_payload::{Job, Noted};
 use std::sync::Wait;
 
-/// What each caller of a lock does: how often it holds, and how it comes to hold.
-#[derive(Clone, Copy)]
-pub(crate) struct Task {
-    pub(crate) holds: u32,
-    pub(crate) entering: Entering,
-}
-
-/// Holds the lock as often as the task says, or until the share allows no further turn.
+/// Holds the lock so often, or until the share allows no further turn.
 pub(crate) fn hold_often<C: Composed<Noted<u64>>, R: Wait>(
     rt: &R,
     lock: &C,
-    task: Task,
+    holds: u32,
     job: Job<C::Pass>,
 ) -> Job<C::Pass>
     requires { MayWork C.Pass.rest (C.has lock.now) (C.sound lock.now) (C.level lock.now) (C.tag lock.now) job }
@@ -31,13 +23,13 @@ pub(crate) fn hold_often<C: Composed<Noted<u64>>, R: Wait>(
         mut pass,
         mut share,
     } = job;
-    let mut left = task.holds;
+    let mut left = holds;
     for _ in share.turns_made()..share.turns_allowed() {
         if left == 0 {
             return Job { pass, share };
         }
         left -= 1;
-        pass = hold(rt, lock, task.entering, pass, &mut share);
+        pass = hold(rt, lock, pass, &mut share);
     }
     Job { pass, share }
 }
@@ -46,7 +38,6 @@ pub(crate) fn hold_often<C: Composed<Noted<u64>>, R: Wait>(
 fn hold<C: Composed<Noted<u64>>, R: Wait>(
     rt: &R,
     lock: &C,
-    entering: Entering,
     pass: C::Pass,
     share: &mut Share,
 ) -> C::Pass
@@ -57,7 +48,7 @@ fn hold<C: Composed<Noted<u64>>, R: Wait>(
     ensures pass { (C.Pass.rest result).context ≡ (C.Pass.rest pass).context }
     ensures made { share.new ≡ record share.old { made = share.old.made + 1 } }
 {
-    let mut held = enter(rt, lock, entering, pass, share);
+    let mut held = lock.acquire(rt, pass, share);
     call(held.root(), share.caller());
     lock.release(rt, held)
 }

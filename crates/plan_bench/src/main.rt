@@ -3,11 +3,9 @@
 //!
 //! The words are the kinds of the levels, the lowest first, as of `clof run --locks`; how many turns in a row a node keeps the lock above
 //! for; the number of threads; how often each thread holds the lock; and one or more ways to hold it, joined by dashes: with a trail that
-//! keeps its turns in memory (`recorded`), with one that keeps none (`free`), and with one that keeps none by callers who begin and poll
-//! (`polled`). The threads stand two by two under a node of the lowest level.
+//! keeps its turns in memory (`recorded`), and with one that keeps none (`free`). The threads stand two by two under a node of the lowest level.
 #![tactic(auto)]
 
-mod entering;
 mod holding;
 mod jobs;
 mod kinds;
@@ -41,7 +39,7 @@ fn main(rt: HostRuntime) -> anyhow::Result<()> {
         bail!("name 1, 2 or 4 threads");
     }
     for word in ways.split('-') {
-        let way = way_named(word).context("the ways are recorded, free and polled")?;
+        let way = way_named(word).context("the ways are recorded and free")?;
         let (turns, calls) = counts(&rt, alloc, way, &kinds, keep, threads, holds)?;
         println!(rt; "{locks} {keep} {threads} {word} {turns} {calls}")?;
     }

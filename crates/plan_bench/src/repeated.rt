@@ -5,7 +5,7 @@ ghost use Rattle.lock_rising.specs.Ready.{AreBack, IsSet};
 ghost use Rattle.own_payload.specs.Jobs.{HasServed, MayWork};
 ghost use Rattle.own_runner.specs.Runs.{AreBrought, AreOpen, HaveEnded};
 
-use crate::holding::{Task, hold_often};
+use crate::holding::hold_often;
 use crate::jobs::{Jobs, closed, deal_jobs, gathered};
 use clof_compose::{Composed, Resting, Root};
 use keep_local::Share;
@@ -18,7 +18,7 @@ use std::sync::Wait;
 /// Callers who each hold again and again, in a thread of its own.
 pub(crate) struct Repeated;
 
-impl<Q: Resting> OnThread<Noted<u64>, Q, (), Job<Q>, Task> for Repeated {
+impl<Q: Resting> OnThread<Noted<u64>, Q, (), Job<Q>, u32> for Repeated {
     // the job is that of a caller of this lock
     ghost may = { λ _ has level tag sound _ j. MayWork Q.rest has sound level tag j };
 
@@ -28,18 +28,18 @@ impl<Q: Resting> OnThread<Noted<u64>, Q, (), Job<Q>, Task> for Repeated {
     fn serve<C: Composed<Noted<u64>, Pass = Q>, R: Wait>(
         rt: &R,
         lock: &C,
-        task: &Task,
+        holds: &u32,
         _floor: &(),
         job: Job<Q>,
     ) -> Job<Q>
         requires { MayWork Q.rest (C.has lock.now) (C.sound lock.now) (C.level lock.now) (C.tag lock.now) job }
         ensures { HasServed Q.rest (λ _. Unit {0}) job result }
     {
-        hold_often(rt, lock, *task, job)
+        hold_often(rt, lock, *holds, job)
     }
 }
 
-impl<Q: Resting> UnderLock<Noted<u64>, Q, (), Job<Q>, Vec<Share>, u64, Task> for Repeated {
+impl<Q: Resting> UnderLock<Noted<u64>, Q, (), Job<Q>, Vec<Share>, u64, u32> for Repeated {
     type Aside = Lists<Q>;
 
     type Crew = Option<Jobs<Q>>;
@@ -57,7 +57,7 @@ impl<Q: Resting> UnderLock<Noted<u64>, Q, (), Job<Q>, Vec<Share>, u64, Task> for
         _rt: &R,
         alloc: Global,
         lock: &C,
-        _task: &Task,
+        _holds: &u32,
         passes: Vec<Q>,
         shares: Vec<Share>,
     ) -> Result<Dealt<(), Job<Q>, Lists<Q>>, Option<Jobs<Q>>>
@@ -79,7 +79,7 @@ impl<Q: Resting> UnderLock<Noted<u64>, Q, (), Job<Q>, Vec<Share>, u64, Task> for
     fn gather<C: Composed<Noted<u64>, Pass = Q>, R: Wait>(
         _rt: &R,
         lock: &C,
-        _task: &Task,
+        _holds: &u32,
         _floor: (),
         jobs: Vec<Job<Q>>,
         lists: Lists<Q>,
@@ -97,7 +97,7 @@ impl<Q: Resting> UnderLock<Noted<u64>, Q, (), Job<Q>, Vec<Share>, u64, Task> for
     fn close<C: Composed<Noted<u64>, Pass = Q> + Drop, R: Wait>(
         _rt: &R,
         lock: C,
-        _task: &Task,
+        _holds: &u32,
         crew: Option<Jobs<Q>>,
     ) -> Result<u64, OutOfMemory>
         requires sound { C.sound lock }
@@ -111,7 +111,7 @@ impl<Q: Resting> UnderLock<Noted<u64>, Q, (), Job<Q>, Vec<Share>, u64, Task> for
         }
     }
 
-    fn refused(_task: &Task, _root: Root<Noted<u64>>) -> Result<u64, OutOfMemory>
+    fn refused(_holds: &u32, _root: Root<Noted<u64>>) -> Result<u64, OutOfMemory>
         requires fit { IsFit (λ n. n.calls.callers) _root }
         ensures { IfOk result (λ _. Unit {0}) }
     {

@@ -6,7 +6,6 @@ ghost use Rattle.clof_compose.specs.Roots.{IsFit, root_tag};
 ghost use Rattle.lock_rising.specs.Ready.{MayRise};
 ghost use Rattle.own_runner.specs.Runs.{AreBrought};
 
-use crate::holding::Task;
 use crate::repeated::Repeated;
 use clof_compose::{Root, TopPass};
 use keep_local::Share;
@@ -19,7 +18,7 @@ use std::thread::Threads;
 
 /// Holds of a lock of one level.
 pub(crate) fn hold_flat<'r, R: Threads + Wait + Sync>(
-    given: Given<'r, Vec<Share>, R, Task>,
+    given: Given<'r, Vec<Share>, R, u32>,
     root: Root<Noted<u64>>,
 ) -> Option<u64>
     requires top { top_of given.shape.now ≡ 0 }
@@ -28,7 +27,7 @@ pub(crate) fn hold_flat<'r, R: Threads + Wait + Sync>(
     requires shape { root.trail.shape ≡ given.shape.now }
     requires may { MayRise (root_tag (λ _. leaf 0) root) given.shape.now given.plan.now.kinds AreBrought given.brought }
 {
-    match rise_flat::<Noted<u64>, (), Job<TopPass<Pass>>, Vec<Share>, u64, Task, Repeated, R>(
+    match rise_flat::<Noted<u64>, (), Job<TopPass<Pass>>, Vec<Share>, u64, u32, Repeated, R>(
         given, root,
     ) {
         Ok(count) => Some(count),
@@ -38,7 +37,7 @@ pub(crate) fn hold_flat<'r, R: Threads + Wait + Sync>(
 
 /// Holds of a lock of two to five levels.
 pub(crate) fn hold_deep<'r, R: Threads + Wait + Sync>(
-    given: Given<'r, Vec<Share>, R, Task>,
+    given: Given<'r, Vec<Share>, R, u32>,
     root: Root<Noted<u64>>,
     top: u32,
 ) -> Option<u64>
@@ -50,7 +49,7 @@ pub(crate) fn hold_deep<'r, R: Threads + Wait + Sync>(
     requires shape { root.trail.shape ≡ given.shape.now }
     requires may { MayRise (root_tag (λ _. leaf 0) root) given.shape.now given.plan.now.kinds AreBrought given.brought }
 {
-    match rise::<Noted<u64>, (), Job<LowPass>, Vec<Share>, u64, Task, Repeated, R>(
+    match rise::<Noted<u64>, (), Job<LowPass>, Vec<Share>, u64, u32, Repeated, R>(
         given, root, top,
     ) {
         Ok(count) => Some(count),

@@ -2,7 +2,6 @@
 ghost use Rattle.std.specs.Prelude.{◌≡◌, ◌+◌, ◌^◌, ◌<◌, ◌≤◌, length, IfSome};
 ghost use Rattle.keep_local.specs.Shapes.{IsWellFormed, callers_of, top_of};
 
-use crate::holding::Task;
 use crate::rising::{hold_deep, hold_flat};
 use crate::shapes::two_by_two;
 use keep_local::Shape;
@@ -14,7 +13,7 @@ use std::alloc::Global;
 use std::sync::Wait;
 use std::thread::Threads;
 
-/// Up to four callers hold a lock of these kinds, each in a thread of its own and as its task says. The answer is how many holds they have
+/// Up to four callers hold a lock of these kinds, each in a thread of its own and so often. The answer is how many holds they have
 /// counted, or `None` for want of memory, and where there is no level, or more than five.
 pub(crate) fn hold_unrecorded<R: Threads + Wait + Sync>(
     rt: &R,
@@ -22,14 +21,14 @@ pub(crate) fn hold_unrecorded<R: Threads + Wait + Sync>(
     kinds: &[LockKind],
     keep: u32,
     threads: usize,
-    task: Task,
+    holds: u32,
 ) -> Option<u64>
     requires some { 0 < threads }
     requires few { threads ≤ 4 }
 {
     let shape = two_by_two(alloc, kinds.len(), keep, threads)?;
     let plan = plan_of(alloc, kinds, &shape)?;
-    run_plan(rt, alloc, &plan, &shape, task)
+    run_plan(rt, alloc, &plan, &shape, holds)
 }
 
 // A plan of these kinds with the keeps of the shape. Its depths are left out, since a lock is made without them.
@@ -45,13 +44,13 @@ fn plan_of(alloc: Global, kinds: &[LockKind], shape: &Shape) -> Option<Plan>
     })
 }
 
-// The callers of a shape hold the lock of a plan as their task says.
+// The callers of a shape hold the lock of a plan so often.
 fn run_plan<R: Threads + Wait + Sync>(
     rt: &R,
     alloc: Global,
     plan: &Plan,
     shape: &Shape,
-    task: Task,
+    holds: u32,
 ) -> Option<u64>
     requires plan { length plan.now.kinds ≡ top_of shape.now + 1 }
     requires levels { top_of shape.now < 5 }
@@ -68,7 +67,7 @@ fn run_plan<R: Threads + Wait + Sync>(
         plan,
         shape,
         brought: shares,
-        shared: &task,
+        shared: &holds,
     };
     let top = plan.kinds.as_slice().len() - 1;
     if top == 0 {

@@ -1,8 +1,6 @@
 //! What is told of a run, in each way to hold a lock.
 ghost use Rattle.std.specs.Prelude.{◌<◌, ◌≤◌};
 
-use crate::entering::Entering;
-use crate::holding::Task;
 use crate::recorded::hold_recorded;
 use crate::unrecorded::hold_unrecorded;
 use anyhow::{Context, bail};
@@ -18,16 +16,15 @@ use tree_harness::{End, Outcome};
 pub(crate) enum Way {
     /// Its trail keeps the turns in memory, and a list the callers of the holds.
     Recorded,
-    /// Its trail keeps no turns, and its value counts the holds, which callers come to so.
-    Free(Entering),
+    /// Its trail keeps no turns, and its value counts the holds.
+    Free,
 }
 
 /// The way that a word names.
 pub(crate) fn way_named(word: &str) -> Option<Way> {
     match word {
         "recorded" => Some(Way::Recorded),
-        "free" => Some(Way::Free(Entering::Acquire)),
-        "polled" => Some(Way::Free(Entering::Poll)),
+        "free" => Some(Way::Free),
         _ => None,
     }
 }
@@ -52,9 +49,8 @@ pub(crate) fn counts<R: Threads + Wait + Sync>(
             )?;
             recorded(outcome)
         }
-        Way::Free(entering) => {
-            let task = Task { holds, entering };
-            let count = hold_unrecorded(rt, alloc, kinds, keep, threads, task).context(
+        Way::Free => {
+            let count = hold_unrecorded(rt, alloc, kinds, keep, threads, holds).context(
                 "there was no memory, or these are too many levels",
             )?;
             Ok((0, count))
