@@ -28,6 +28,14 @@ pub record SinkState : Type 0 where
   pub faults : ℕ
   pub stalls : ℕ
 
+-- what a source tells of itself, by what its kind of source tells
+abbrev pub source_state : {S : Type 0} → (S → Option (List ℕ)) → (S → ℕ) → (S → ℕ) → S → SourceState
+source_state left given faults source = record { left = left source; given = given source; faults = faults source }
+
+-- what a sink tells of itself, by what its kind of sink tells
+abbrev pub sink_state : {K : Type 0} → (K → Option (List ℕ)) → (K → Option ℕ) → (K → ℕ) → (K → ℕ) → K → SinkState
+sink_state held room faults stalls sink = record { held = held sink; room = room sink; faults = faults sink; stalls = stalls sink }
+
 -- the words are read first; nothing else is where they ask for nothing, and no source where what they ask for reads none
 pub record ByWords (words : List (String Global)) (source source_now : SourceState) (status : Status) : Type 0 where
   pub usage : status ≡ statuses.Usage → IsUsage words

@@ -7,4 +7,5 @@ pub mod Process
 pub mod Room
 pub mod Run
 pub mod Selecting
+pub mod InMemory
 pub mod Laws

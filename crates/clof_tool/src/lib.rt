@@ -2,6 +2,7 @@
 #![tactic(auto)]
 
 mod answer;
+mod calling;
 mod checking;
 mod drilling;
 mod in_memory;

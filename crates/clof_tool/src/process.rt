@@ -1,17 +1,17 @@
-// The process that the program runs in: its words, its streams and its exit status.
+//! The process that the program runs in: its words, its streams and its exit status.
 ghost use Rattle.std.specs.Prelude.{◌≡◌, ◌≢◌, ◌⊎◌, drop, IfErr, IfOk};
 ghost use Rattle.std.specs.IoError.{error_kind};
 ghost use Rattle.std.specs.Process.{exit_status};
 ghost use Rattle.command_texts.specs.declared.status.Status.{Status as AnyStatus};
-ghost use Rattle.clof_tool.specs.Process.{words_of_process, input_of, output_of, errors_of, source_state, sink_state};
-ghost use Rattle.clof_tool.specs.Process.{IsUnread, IsUnwritten};
-ghost use Rattle.clof_tool.specs.Ended.{Ended, EndedWordless};
+ghost use Rattle.clof_tool.specs.Process.{words_of_process, input_of, output_of, errors_of, IsUnread, IsUnwritten};
+ghost use Rattle.clof_tool.specs.Ended.{Ended, EndedWordless, source_state, sink_state};
 ghost use Rattle.command_texts.specs.Status.{code_of};
 ghost use Rattle.command_words.specs.Words.{NamesCommand, IsUsage};
 ghost use Rattle.edge_io.specs.Standard.{reader_left, reader_given, reader_faults, writer_held, writer_room, writer_faults, writer_stalls};
 
+use crate::Status;
+use crate::calling::call_top;
 use crate::report::report;
-use crate::{Status, top};
 use edge_io::{Sink, Source, StdSink, StdSource};
 use std::alloc::Global;
 use std::io::{ErrorKind, Stderr, Stdin, Stdout};
@@ -135,7 +135,7 @@ impl<S: Source, K: Sink, E: Sink> Process<S, K, E> {
             errors,
         } = self;
         match words {
-            Ok(words) => top(rt, alloc, words, input, output, errors),
+            Ok(words) => call_top(rt, alloc, words, input, output, errors),
             Err(error) => {
                 let status = status_of(error.kind());
                 report(errors, &status);
