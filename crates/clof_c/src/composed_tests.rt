@@ -208,56 +208,58 @@ fn making_a_composed_lock_answers_by_the_handles(rt: HostRuntime) {
     }
 }
 
+// The texts of a plan, and the code and numbers that they are refused with.
+const REFUSED: [(&[u8], &[u8], &[u8], &[u8], u32, u64, u64); 12] = [
+    (b"", b"machine", b"mcs", b"9", 21, 0, 0),
+    (
+        b"Package:2 Cores:2 PU:1",
+        b"machine",
+        b"mcs",
+        b"9",
+        22,
+        10,
+        0,
+    ),
+    (b"Package:0 PU:1", b"machine", b"mcs", b"9", 23, 0, 0),
+    (
+        b"Package:2 PU:2(indexes=0,1)",
+        b"machine",
+        b"mcs",
+        b"9",
+        31,
+        2,
+        4,
+    ),
+    (
+        b"PU:2(indexes=0,4096)",
+        b"machine",
+        b"mcs",
+        b"9",
+        32,
+        4096,
+        0,
+    ),
+    (b"PU:2(indexes=1,1)", b"machine", b"mcs", b"9", 33, 1, 0),
+    (MACHINE, b"core,die,machine", b"mcs-mcs-mcs", b"9", 41, 1, 0),
+    (MACHINE, b"machine,package", b"mcs-mcs", b"9", 43, 1, 0),
+    (MACHINE, b"package,machine", b"mcs-tas", b"9", 44, 1, 0),
+    (MACHINE, b"package,machine", b"mcs", b"9", 45, 2, 1),
+    (MACHINE, b"package,machine", b"mcs-mcs", b"65536", 46, 0, 0),
+    (
+        MACHINE,
+        b"core,package,machine",
+        b"mcs-mcs-mcs",
+        b"9",
+        8,
+        0,
+        0,
+    ),
+];
+
 #[test]
 fn refused_texts_are_told_with_their_place(rt: HostRuntime) {
     let alloc = rt.alloc();
-    let refused: [(&[u8], &[u8], &[u8], &[u8], u32, u64, u64); 12] = [
-        (b"", b"machine", b"mcs", b"9", 21, 0, 0),
-        (
-            b"Package:2 Cores:2 PU:1",
-            b"machine",
-            b"mcs",
-            b"9",
-            22,
-            10,
-            0,
-        ),
-        (b"Package:0 PU:1", b"machine", b"mcs", b"9", 23, 0, 0),
-        (
-            b"Package:2 PU:2(indexes=0,1)",
-            b"machine",
-            b"mcs",
-            b"9",
-            31,
-            2,
-            4,
-        ),
-        (
-            b"PU:2(indexes=0,4096)",
-            b"machine",
-            b"mcs",
-            b"9",
-            32,
-            4096,
-            0,
-        ),
-        (b"PU:2(indexes=1,1)", b"machine", b"mcs", b"9", 33, 1, 0),
-        (MACHINE, b"core,die,machine", b"mcs-mcs-mcs", b"9", 41, 1, 0),
-        (MACHINE, b"machine,package", b"mcs-mcs", b"9", 43, 1, 0),
-        (MACHINE, b"package,machine", b"mcs-tas", b"9", 44, 1, 0),
-        (MACHINE, b"package,machine", b"mcs", b"9", 45, 2, 1),
-        (MACHINE, b"package,machine", b"mcs-mcs", b"65536", 46, 0, 0),
-        (
-            MACHINE,
-            b"core,package,machine",
-            b"mcs-mcs-mcs",
-            b"9",
-            8,
-            0,
-            0,
-        ),
-    ];
-    for (description, levels, locks, keeps, code, first, second) in refused {
+    for (description, levels, locks, keeps, code, first, second) in REFUSED {
         let words = Words {
             description,
             levels,

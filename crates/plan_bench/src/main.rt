@@ -3,7 +3,8 @@
 //!
 //! The words are the kinds of the levels, the lowest first, as of `clof run --locks`; how many turns in a row a node keeps the lock above
 //! for; the number of threads; how often each thread holds the lock; and one or more ways to hold it, joined by dashes: with a trail that
-//! keeps its turns in memory (`recorded`), and with one that keeps none (`free`). The threads stand two by two under a node of the lowest level.
+//! keeps its turns in memory (`recorded`), and with one that keeps none (`free`). The threads stand two by two under a node of the lowest
+//! level.
 #![tactic(auto)]
 
 mod holding;
