@@ -20,7 +20,7 @@ returns-in-Err c = record {
     fault = c.in-Err.fault;
     refused = c.in-Err.ensures.refused;
     same = refl;
-    code_is = c.fault_answer.ensures.code;
-    numbers_are = c.fault_answer.ensures.numbers;
+    code_is = c.fault_answer-code.ensures.code;
+    numbers_are = c.fault_answer-code.ensures.numbers;
   });
 }
