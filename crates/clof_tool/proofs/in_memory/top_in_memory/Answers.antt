@@ -1,4 +1,4 @@
-use Rattle.std.proofs.Common.{arith, sym, ◌∙◌}
+use Rattle.std.proofs.Common.{arith}
 use Rattle.clof_tool.proofs.Room.{for_left, never_full}
 use Rattle.clof_tool.proofs.in_memory.top_in_memory.Goals as goal
 
