@@ -22,5 +22,5 @@ pub few_digits : (text : List ℕ) (i : ℕ) → i < length text → length text
 few_digits text i within few digits =
     let long : length (take i text) ≡ i = length-take-le i text (omega arith) in
     let power : 10 ^ length (take i text) ≤ 10 ^ 18
-        = pow-le-pow_right (omega arith) {i = length (take i text)} {j = 18} (omega (arith, long)) in
+    = pow-le-pow_right (omega arith) {i = length (take i text)} {j = 18} (omega (arith, long)) in
     omega (arith, power, digits_value-lt 10 (take i text) digits)
