@@ -1,6 +1,7 @@
 //! Scripts of reads and writes over sources and sinks in memory, and the adapters over std's.
-ghost use Rattle.std.specs.Prelude.{◌<◌, ◌≤◌};
+ghost use Rattle.std.specs.Prelude.{◌≤◌};
 
+use super::{expect_equal, expect_words};
 use edge_io::{
     Failed, MemSink, MemSource, ReadAllFault, Sink, Source, StdSink, StdSource, Stopped, SureSink,
     SureSource, read_all, write_all,
@@ -8,147 +9,139 @@ use edge_io::{
 use std::alloc::Global;
 use std::io::{Error, ErrorKind, Read, Write};
 use std::process::Abort;
-use std::test::Fail;
 
-fn source(rt: &HostRuntime, bytes: &[u8], piece: usize, failing: &[u32]) -> Result<MemSource, Fail>
+fn source(rt: &impl Abort, alloc: Global, bytes: &[u8], piece: usize, failing: &[u32]) -> MemSource
     requires { 1 ≤ piece }
 {
-    Ok(MemSource::new(
-        bytes.to_vec(rt.alloc())?,
-        piece,
-        failing.to_vec(rt.alloc())?,
-    ))
+    let bytes = bytes.to_vec(alloc).expect(rt, "memory");
+    let failing = failing.to_vec(alloc).expect(rt, "memory");
+    MemSource::new(bytes, piece, failing)
 }
 
-fn reads_all<R: Abort, S: Source>(
-    rt: &R,
+// All is read up to a limit.
+fn expect_all(
+    rt: &impl Abort,
     alloc: Global,
-    source: &mut S,
-    limit: usize,
-    want: Result<&[u8], ReadAllFault>,
-)
-    requires { limit < usize.MAX }
-{
-    match (read_all(alloc, source, limit), want) {
-        (Ok(bytes), Ok(want)) => assert_eq!(rt; bytes.as_slice(), want),
-        (Err(fault), Err(want)) => assert_eq!(rt; fault, want),
-        (Ok(_), Err(_)) => panic!(rt; "the bytes were read, and a fault was wanted"),
-        (Err(_), Ok(_)) => panic!(rt; "a fault came, and bytes were wanted"),
+    source: &mut impl Source,
+    limit: u8,
+    wanted: Result<&[u8], ReadAllFault>,
+) {
+    match read_all(alloc, source, usize::from(limit)) {
+        Ok(bytes) => expect_equal(rt, "all bytes", Ok(bytes.as_slice()), wanted),
+        Err(fault) => expect_equal(rt, "a fault", Err(fault), wanted),
+    }
+}
+
+// The bytes of a source that gives three a call, the calls that fail, the limit, and what is read.
+const WHOLE: &[(&[u8], &[u32], u8, Result<&[u8], ReadAllFault>)] = &[
+    (b"abcdefgh", &[], 8, Ok(b"abcdefgh")),
+    (b"", &[], 0, Ok(b"")),
+    (b"abcdefgh", &[], 7, Err(ReadAllFault::TooLong)),
+    (b"abcdefgh", &[2], 100, Err(ReadAllFault::Fault)),
+    (b"abcdefgh", &[5], 100, Ok(b"abcdefgh")),
+];
+
+#[test]
+fn reads_to_the_end_or_says_why_not(rt: HostRuntime) {
+    for (bytes, failing, limit, wanted) in WHOLE {
+        let mut source = source(&rt, rt.alloc(), bytes, 3, failing);
+        expect_all(&rt, rt.alloc(), &mut source, *limit, *wanted);
     }
 }
 
 #[test]
-fn reads_to_the_end_or_says_why_not(rt: HostRuntime) -> Result<(), Fail> {
-    reads_all(
-        &rt,
-        rt.alloc(),
-        &mut source(&rt, b"abcdefgh", 3, &[])?,
-        8,
-        Ok(b"abcdefgh"),
-    );
-    reads_all(&rt, rt.alloc(), &mut source(&rt, b"", 3, &[])?, 0, Ok(b""));
-    reads_all(
-        &rt,
-        rt.alloc(),
-        &mut source(&rt, b"abcdefgh", 3, &[])?,
-        7,
-        Err(ReadAllFault::TooLong),
-    );
-    reads_all(
-        &rt,
-        rt.alloc(),
-        &mut source(&rt, b"abcdefgh", 3, &[2])?,
-        100,
-        Err(ReadAllFault::Fault),
-    );
-    reads_all(
-        &rt,
-        rt.alloc(),
-        &mut source(&rt, b"abcdefgh", 3, &[5])?,
-        100,
-        Ok(b"abcdefgh"),
-    );
-    reads_all(
-        &rt,
-        rt.alloc(),
-        &mut SureSource::new(b"abc".to_vec(rt.alloc())?),
-        3,
-        Ok(b"abc"),
-    );
-    Ok(())
+fn a_sure_source_is_read_to_its_end(rt: HostRuntime) {
+    let bytes = b"abc".to_vec(rt.alloc()).expect(&rt, "memory");
+    expect_all(&rt, rt.alloc(), &mut SureSource::new(bytes), 3, Ok(b"abc"));
 }
 
-#[test]
-fn a_source_gives_pieces_and_fails_as_listed(rt: HostRuntime) -> Result<(), Fail> {
-    let mut source = source(&rt, b"abcde", 2, &[1])?;
-    let mut buf = [0; 4];
-    assert_eq!(rt; source.read(&mut buf), Ok(2));
-    assert_eq!(rt; buf[..2], b"ab"[..]);
-    assert_eq!(rt; source.read(&mut buf), Err(Failed));
-    assert_eq!(rt; source.read(&mut buf[..1]), Ok(1));
-    assert_eq!(rt; source.read(&mut buf), Ok(2));
-    assert_eq!(rt; buf[..2], b"de"[..]);
-    assert_eq!(rt; source.read(&mut buf), Ok(0));
-    Ok(())
+// How many bytes are asked for, at most four; how many are given; and the buffer behind that, with `.` for what stays.
+type Asked<'a> = (usize, Result<usize, Failed>, &'a str);
+
+fn expect_reads(rt: &impl Abort, source: &mut impl Source, script: &[Asked]) {
+    for (size, given, wanted) in script {
+        let mut buf = [b'.'; 4];
+        assert!(rt; *size <= 4);
+        let found = source.read(&mut buf[..*size]);
+        expect_equal(rt, wanted, found, *given);
+        expect_equal(rt, wanted, buf.as_slice(), wanted.as_bytes());
+    }
 }
+
+const PIECES: &[Asked] = &[
+    (4, Ok(2), "ab.."),
+    (4, Err(Failed), "...."),
+    (1, Ok(1), "c..."),
+    (4, Ok(2), "de.."),
+    (4, Ok(0), "...."),
+];
+
+#[test]
+fn a_source_gives_pieces_and_fails_as_listed(rt: HostRuntime) {
+    let mut source = source(&rt, rt.alloc(), b"abcde", 2, &[1]);
+    expect_reads(&rt, &mut source, PIECES);
+}
+
+const BEHIND_A_FAULT: &[Asked] = &[(4, Err(Failed), "...."), (4, Ok(3), "def.")];
 
 // Nothing is read behind a fault: the source goes on with its next call and its next byte.
 #[test]
-fn reads_no_further_than_a_fault(rt: HostRuntime) -> Result<(), Fail> {
-    let mut source = source(&rt, b"abcdefgh", 3, &[1, 2])?;
-    assert!(rt;
-        matches!(
-            &read_all(rt.alloc(), &mut source, 100),
-            Err(ReadAllFault::Fault)
-        )
-    );
-    let mut buf = [0; 4];
-    assert_eq!(rt; source.read(&mut buf), Err(Failed));
-    assert_eq!(rt; source.read(&mut buf), Ok(3));
-    assert_eq!(rt; buf[..3], b"def"[..]);
-    Ok(())
+fn reads_no_further_than_a_fault(rt: HostRuntime) {
+    let mut source = source(&rt, rt.alloc(), b"abcdefgh", 3, &[1, 2]);
+    let fault = Err(ReadAllFault::Fault);
+    expect_all(&rt, rt.alloc(), &mut source, 100, fault);
+    expect_reads(&rt, &mut source, BEHIND_A_FAULT);
+}
+
+// The room of a sink, how much it takes a call, the calls that fail, what writing answers, and what the sink holds then.
+type Written<'a> = (usize, usize, &'a [u32], Result<(), Stopped>, &'a [u8]);
+
+fn expect_written(rt: &impl Abort, alloc: Global, bytes: &[u8], row: &Written) {
+    let (room, piece, failing, wanted, held) = row;
+    assert!(rt; 1 <= *piece);
+    let failing = failing.to_vec(alloc).expect(rt, "memory");
+    let mut sink = MemSink::new(alloc, *room, *piece, failing).expect(rt, "memory");
+    expect_equal(rt, "writing", write_all(&mut sink, bytes), *wanted);
+    expect_equal(rt, "the sink", sink.bytes(), held);
+}
+
+const WRITTEN: &[Written] = &[
+    (5, 2, &[], Ok(()), b"abcde"),
+    (4, 3, &[], Err(Stopped { written: 4 }), b"abcd"),
+    (9, 2, &[1], Err(Stopped { written: 2 }), b"ab"),
+];
+
+#[test]
+fn writes_all_or_stops_behind_a_prefix(rt: HostRuntime) {
+    for row in WRITTEN {
+        expect_written(&rt, rt.alloc(), b"abcde", row);
+    }
 }
 
 #[test]
-fn writes_all_or_stops_behind_a_prefix(rt: HostRuntime) -> Result<(), Fail> {
-    let mut whole = MemSink::new(rt.alloc(), 5, 2, Vec::new(rt.alloc()))?;
-    assert_eq!(rt; write_all(&mut whole, b"abcde"), Ok(()));
-    assert_eq!(rt; whole.bytes(), b"abcde".as_slice());
-    let mut full = MemSink::new(rt.alloc(), 4, 3, Vec::new(rt.alloc()))?;
-    assert_eq!(rt; write_all(&mut full, b"abcde"), Err(Stopped { written: 4 }));
-    assert_eq!(rt; full.bytes(), b"abcd".as_slice());
-    let mut failing = MemSink::new(rt.alloc(), 9, 2, [1].to_vec(rt.alloc())?)?;
-    assert_eq!(rt;
-        write_all(&mut failing, b"abcde"),
-        Err(Stopped { written: 2 })
-    );
-    assert_eq!(rt; failing.bytes(), b"ab".as_slice());
-    let mut sure = SureSink::new(rt.alloc(), 3)?;
-    assert_eq!(rt; write_all(&mut sure, b"abc"), Ok(()));
-    assert_eq!(rt; sure.write(b"d"), Ok(0));
-    assert_eq!(rt; sure.bytes(), b"abc".as_slice());
-    Ok(())
+fn a_sure_sink_takes_what_fits(rt: HostRuntime) {
+    let mut sink = SureSink::new(rt.alloc(), 3).expect(&rt, "memory");
+    expect_equal(&rt, "what fits", write_all(&mut sink, b"abc"), Ok(()));
+    expect_equal(&rt, "what doesn't", sink.write(b"d"), Ok(0));
+    expect_equal(&rt, "the sink", sink.bytes(), b"abc");
 }
 
 // Each write is handed all that is still to be written, so a sink that takes as much as fits has it after one call.
 #[test]
-fn writes_all_that_fits_in_one_call(rt: HostRuntime) -> Result<(), Fail> {
-    let bytes = vec![in rt.alloc(); b'x'; 100_000]?;
-    let mut sink = MemSink::new(rt.alloc(), 100_000, 100_000, [1].to_vec(rt.alloc())?)?;
-    assert_eq!(rt; write_all(&mut sink, &bytes), Ok(()));
-    assert_eq!(rt; sink.bytes(), bytes.as_slice());
-    Ok(())
+fn writes_all_that_fits_in_one_call(rt: HostRuntime) {
+    let bytes = b"x".repeat(rt.alloc(), 100_000).expect(&rt, "memory");
+    let row = (100_000, 100_000, [1].as_slice(), Ok(()), bytes.as_slice());
+    expect_written(&rt, rt.alloc(), &bytes, &row);
 }
 
 #[test]
-fn adapters_pass_bytes_on(rt: HostRuntime) -> Result<(), Fail> {
+fn adapters_pass_bytes_on(rt: HostRuntime) {
     let mut source = StdSource::new(b"hello".as_slice());
-    let bytes = read_all(rt.alloc(), &mut source, 10)?;
-    assert_eq!(rt; bytes.as_slice(), b"hello".as_slice());
+    expect_all(&rt, rt.alloc(), &mut source, 10, Ok(b"hello"));
     let mut kept = Vec::new(rt.alloc());
-    write_all(&mut StdSink::new(&mut kept), &bytes)?;
-    assert_eq!(rt; kept.as_slice(), b"hello".as_slice());
-    Ok(())
+    let written = write_all(&mut StdSink::new(&mut kept), b"hello");
+    expect_equal(&rt, "writing", written, Ok(()));
+    expect_equal(&rt, "the sink", kept.as_slice(), b"hello");
 }
 
 // A stream of one byte whose first calls fail, with the given kinds.
@@ -194,56 +187,49 @@ impl<'a> Write for Halting<'a> {
     }
 }
 
-#[test]
-fn adapters_make_an_interrupted_call_again(rt: HostRuntime) {
-    let kinds = [ErrorKind::Interrupted; 1_000];
-    let mut buf = [0; 2];
-    let mut source = StdSource::new(Halting {
-        kinds: &kinds,
+fn stream_of(kinds: &[ErrorKind]) -> Halting<'_> {
+    Halting {
+        kinds,
         written: None,
-    });
-    assert_eq!(rt; source.read(&mut buf), Ok(1));
-    assert_eq!(rt; buf, [b'x', 0]);
-    let mut stream = Halting {
-        kinds: &kinds,
-        written: None,
-    };
-    assert_eq!(rt; StdSink::new(&mut stream).write(b"yz"), Ok(1));
-    assert_eq!(rt; stream.written, Some(b'y'));
+    }
 }
 
 #[test]
+fn adapters_make_an_interrupted_call_again(rt: HostRuntime) {
+    let kinds = [ErrorKind::Interrupted; 1_000];
+    let mut source = StdSource::new(stream_of(&kinds));
+    expect_reads(&rt, &mut source, &[(2, Ok(1), "x...")]);
+    let mut stream = stream_of(&kinds);
+    let written = StdSink::new(&mut stream).write(b"yz");
+    expect_equal(&rt, "writing", written, Ok(1));
+    expect_equal(&rt, "the stream", stream.written, Some(b'y'));
+}
+
+const BROKEN: &[ErrorKind] = &[ErrorKind::Interrupted, ErrorKind::BrokenPipe];
+
+const AFTER_BROKEN: &[Asked] = &[(1, Err(Failed), "...."), (1, Ok(1), "x...")];
+
+#[test]
 fn adapters_tell_of_another_failure(rt: HostRuntime) {
-    let kinds = [ErrorKind::Interrupted, ErrorKind::BrokenPipe];
-    let mut source = StdSource::new(Halting {
-        kinds: &kinds,
-        written: None,
-    });
-    assert_eq!(rt; source.read(&mut [0]), Err(Failed));
-    assert_eq!(rt; source.read(&mut [0]), Ok(1));
-    let mut sink = StdSink::new(Halting {
-        kinds: &kinds,
-        written: None,
-    });
-    assert_eq!(rt; sink.write(b"y"), Err(Failed));
-    assert_eq!(rt; sink.write(b"y"), Ok(1));
+    expect_reads(&rt, &mut StdSource::new(stream_of(BROKEN)), AFTER_BROKEN);
+    let mut sink = StdSink::new(stream_of(BROKEN));
+    expect_equal(&rt, "a failure", sink.write(b"y"), Err(Failed));
+    expect_equal(&rt, "what follows", sink.write(b"y"), Ok(1));
 }
 
 // Each fault has its words.
 #[test]
-fn tells_each_fault(rt: HostRuntime) -> Result<(), Fail> {
-    let rows = [
-        (ReadAllFault::Fault, "a read failed"),
-        (ReadAllFault::TooLong, "more bytes than the limit"),
-        (ReadAllFault::OutOfMemory, "out of memory"),
-    ];
-    for (fault, wanted) in rows {
-        let told = format!(in rt.alloc(); "{fault}")?;
-        assert_eq!(rt; told.as_str(), wanted);
-    }
-    let failed = format!(in rt.alloc(); "{Failed}")?;
-    assert_eq!(rt; failed.as_str(), "the read or the write failed");
-    let stopped = format!(in rt.alloc(); "{}", Stopped { written: 12 })?;
-    assert_eq!(rt; stopped.as_str(), "the writing stopped behind 12 bytes");
-    Ok(())
+fn tells_each_fault(rt: HostRuntime) {
+    let alloc = rt.alloc();
+    expect_words(&rt, alloc, &ReadAllFault::Fault, "a read failed");
+    expect_words(
+        &rt,
+        alloc,
+        &ReadAllFault::TooLong,
+        "more bytes than the limit",
+    );
+    expect_words(&rt, alloc, &ReadAllFault::OutOfMemory, "out of memory");
+    expect_words(&rt, alloc, &Failed, "the read or the write failed");
+    let stopped = Stopped { written: 12 };
+    expect_words(&rt, alloc, &stopped, "the writing stopped behind 12 bytes");
 }
