@@ -1,9 +1,10 @@
+//! Topologies and trees: what is asked of them, their two texts, and what is refused.
 ghost use Rattle.topo_tree.specs.Objects.{IsLayer, IsObject};
 
 use cpu_set::CpuSet;
 use std::alloc::Global;
+use std::fmt::Debug;
 use std::process::Abort;
-use std::test::Fail;
 use synth_text::{Kind, read};
 use topo_tree::{AsTree, BuildFault, Layer, Object, Topology, Tree};
 
@@ -13,20 +14,15 @@ mod naming;
 mod objects;
 mod texts;
 
-// The topology of a text, or the fault of its numbers.
-fn try_built(rt: &impl Abort, alloc: Global, text: &[u8]) -> Result<Topology, BuildFault> {
-    match read(alloc, text) {
-        Ok(description) => Topology::build(alloc, description),
-        Err(_) => panic!(rt; "not a description"),
-    }
+// What was found at a row of a table is what the row wants.
+fn expect_equal<T: PartialEq + Debug + Drop>(rt: &impl Abort, row: &str, found: T, wanted: T) {
+    assert_eq!(rt; found, wanted, "at {row}");
 }
 
 // The topology of a text.
-fn built(rt: &impl Abort, alloc: Global, text: &[u8]) -> Topology {
-    match try_built(rt, alloc, text) {
-        Ok(topology) => topology,
-        Err(_) => panic!(rt; "not a topology"),
-    }
+fn built(rt: &impl Abort, alloc: Global, text: &str) -> Topology {
+    let description = read(alloc, text.as_bytes()).expect(rt, text);
+    Topology::build(alloc, description).expect(rt, text)
 }
 
 fn check_layer(rt: &impl Abort, topology: &Topology, layer: Layer)
@@ -43,11 +39,6 @@ fn count(rt: &impl Abort, topology: &Topology, layer: Layer) -> u32 {
     topology.count(layer)
 }
 
-fn kind(rt: &impl Abort, topology: &Topology, depth: u32) -> Kind {
-    assert!(rt; depth < topology.depths());
-    topology.kind(depth)
-}
-
 fn object(rt: &impl Abort, topology: &Topology, layer: Layer, index: u32) -> Object
     ensures { IsObject topology.now result }
 {
@@ -56,26 +47,24 @@ fn object(rt: &impl Abort, topology: &Topology, layer: Layer, index: u32) -> Obj
     Object { layer, index }
 }
 
-fn parent(rt: &impl Abort, topology: &Topology, layer: Layer, index: u32) -> Option<Object> {
-    topology.parent(object(rt, topology, layer, index))
-}
-
-fn children(rt: &impl Abort, topology: &Topology, layer: Layer, index: u32) -> (u32, u32) {
-    topology.children(object(rt, topology, layer, index))
-}
-
-fn physical(rt: &impl Abort, topology: &Topology, layer: Layer, index: u32) -> u32 {
-    topology.physical(object(rt, topology, layer, index))
-}
-
 // The set of an object, which its tree finds too.
 fn set(rt: &impl Abort, topology: &Topology, layer: Layer, index: u32) -> CpuSet {
     let object = object(rt, topology, layer, index);
     let set = *topology.set(object);
-    let tree = topology.as_tree();
-    let found = tree.set_of(object);
-    assert!(rt; found.inside(&set) && set.inside(&found));
-    assert!(rt; tree.meets(object, &set) && tree.inside(object, &set));
-    assert!(rt; !tree.meets(object, &CpuSet::empty()) && !tree.inside(object, &CpuSet::empty()));
+    expect_found(rt, topology.as_tree(), object, &set);
     set
+}
+
+// A tree finds the set of an object: the same numbers, some of which are in it, and all.
+fn expect_found(rt: &impl Abort, tree: &Tree, object: Object, set: &CpuSet)
+    requires { IsObject tree.now object }
+{
+    let found = tree.set_of(object);
+    let empty = CpuSet::empty();
+    let same = [found.inside(set), set.inside(&found)];
+    expect_equal(rt, "one set", same, [true; 2]);
+    let own = [tree.meets(object, set), tree.inside(object, set)];
+    expect_equal(rt, "its own set", own, [true; 2]);
+    let none = [tree.meets(object, &empty), tree.inside(object, &empty)];
+    expect_equal(rt, "no number", none, [false; 2]);
 }

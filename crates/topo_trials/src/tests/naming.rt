@@ -1,81 +1,107 @@
 //! Which layer a word names.
 use super::*;
 
-fn check_names(rt: &impl Abort, topology: &Topology, cases: &[(&[u8], Option<Layer>)]) {
-    for (word, layer) in cases {
-        assert_eq!(rt; topology.layer_named(word), *layer);
+fn expect_names(rt: &impl Abort, alloc: Global, text: &str, rows: &[(&str, Option<Layer>)]) {
+    let topology = built(rt, alloc, text);
+    for (word, layer) in rows {
+        expect_equal(rt, word, topology.layer_named(word.as_bytes()), *layer);
     }
 }
 
+// Names of kinds, in several cases.
+const KINDS: &[(&str, Option<Layer>)] = &[
+    ("Machine", Some(Layer::Depth(0))),
+    ("mAcHiNe", Some(Layer::Depth(0))),
+    ("PACKAGE", Some(Layer::Depth(1))),
+    ("Pack", Some(Layer::Depth(1))),
+    ("sockeT", Some(Layer::Depth(1))),
+    ("dIe", Some(Layer::Depth(2))),
+    ("L2", Some(Layer::Depth(3))),
+    ("l2CACHE", Some(Layer::Depth(3))),
+    ("L1", Some(Layer::Depth(4))),
+    ("l1Cache", Some(Layer::Depth(4))),
+    ("L1DCache", Some(Layer::Depth(4))),
+    ("L1i", Some(Layer::Depth(5))),
+    ("l1ICACHE", Some(Layer::Depth(5))),
+    ("cOrE", Some(Layer::Depth(6))),
+    ("Pu", Some(Layer::Depth(7))),
+    ("NUMA", Some(Layer::Memory)),
+    ("NumaNode", Some(Layer::Memory)),
+    ("nodE", Some(Layer::Memory)),
+];
+
+// Names where there are two layers of Groups.
+const TWO_GROUPS: &[(&str, Option<Layer>)] = &[
+    ("group", None),
+    ("group0", Some(Layer::Depth(1))),
+    ("GrouP0", Some(Layer::Depth(1))),
+    ("group1", Some(Layer::Depth(3))),
+    ("GROUP0001", Some(Layer::Depth(3))),
+    ("group2", None),
+    ("group7", None),
+    ("group4294967296", None),
+    ("group18446744073709551617", None),
+];
+
+// Names where there is one.
+const ONE_GROUP: &[(&str, Option<Layer>)] = &[
+    ("group", Some(Layer::Depth(1))),
+    ("Group0", Some(Layer::Depth(1))),
+    ("group1", None),
+];
+
+// Words that name none.
+const NO_LAYERS: &[(&str, Option<Layer>)] = &[
+    ("", None),
+    ("cpu", None),
+    ("pu ", None),
+    (" pu", None),
+    ("pu0", None),
+    ("l", None),
+    ("l3d", None),
+    ("core", None),
+    ("group", None),
+    ("group0", None),
+    ("node", None),
+];
+
 #[test]
 fn kinds_in_any_case(rt: HostRuntime) {
-    let topology = built(
-        &rt,
-        rt.alloc(),
-        b"socket:1 [numa] die:1 l2:1 l1d:1 l1i:1 2 2",
-    );
-    let cases: [(&[u8], Option<Layer>); 18] = [
-        (b"Machine", Some(Layer::Depth(0))),
-        (b"mAcHiNe", Some(Layer::Depth(0))),
-        (b"PACKAGE", Some(Layer::Depth(1))),
-        (b"Pack", Some(Layer::Depth(1))),
-        (b"sockeT", Some(Layer::Depth(1))),
-        (b"dIe", Some(Layer::Depth(2))),
-        (b"L2", Some(Layer::Depth(3))),
-        (b"l2CACHE", Some(Layer::Depth(3))),
-        (b"L1", Some(Layer::Depth(4))),
-        (b"l1Cache", Some(Layer::Depth(4))),
-        (b"L1DCache", Some(Layer::Depth(4))),
-        (b"L1i", Some(Layer::Depth(5))),
-        (b"l1ICACHE", Some(Layer::Depth(5))),
-        (b"cOrE", Some(Layer::Depth(6))),
-        (b"Pu", Some(Layer::Depth(7))),
-        (b"NUMA", Some(Layer::Memory)),
-        (b"NumaNode", Some(Layer::Memory)),
-        (b"nodE", Some(Layer::Memory)),
-    ];
-    check_names(&rt, &topology, &cases);
+    let text = "socket:1 [numa] die:1 l2:1 l1d:1 l1i:1 2 2";
+    expect_names(&rt, rt.alloc(), text, KINDS);
 }
 
 #[test]
 fn groups_by_number(rt: HostRuntime) {
-    let two = built(&rt, rt.alloc(), b"group7:1 package:1 group:1 pu:2");
-    let cases: [(&[u8], Option<Layer>); 9] = [
-        (b"group", None),
-        (b"group0", Some(Layer::Depth(1))),
-        (b"GrouP0", Some(Layer::Depth(1))),
-        (b"group1", Some(Layer::Depth(3))),
-        (b"GROUP0001", Some(Layer::Depth(3))),
-        (b"group2", None),
-        (b"group7", None),
-        (b"group4294967296", None),
-        (b"group18446744073709551617", None),
-    ];
-    check_names(&rt, &two, &cases);
-    let one = built(&rt, rt.alloc(), b"Group:2 PU:1");
-    let cases: [(&[u8], Option<Layer>); 3] = [
-        (b"group", Some(Layer::Depth(1))),
-        (b"Group0", Some(Layer::Depth(1))),
-        (b"group1", None),
-    ];
-    check_names(&rt, &one, &cases);
+    let text = "group7:1 package:1 group:1 pu:2";
+    expect_names(&rt, rt.alloc(), text, TWO_GROUPS);
+    expect_names(&rt, rt.alloc(), "Group:2 PU:1", ONE_GROUP);
 }
 
 #[test]
 fn words_without_a_layer(rt: HostRuntime) {
-    let topology = built(&rt, rt.alloc(), b"l3:2 pu:1");
-    let cases: [(&[u8], Option<Layer>); 11] = [
-        (b"", None),
-        (b"cpu", None),
-        (b"pu ", None),
-        (b" pu", None),
-        (b"pu0", None),
-        (b"l", None),
-        (b"l3d", None),
-        (b"core", None),
-        (b"group", None),
-        (b"group0", None),
-        (b"node", None),
-    ];
-    check_names(&rt, &topology, &cases);
+    expect_names(&rt, rt.alloc(), "l3:2 pu:1", NO_LAYERS);
+}
+
+fn expect_depths(rt: &impl Abort, alloc: Global, text: &str, rows: &[(&str, Option<u32>)]) {
+    let topology = built(rt, alloc, text);
+    for (word, depth) in rows {
+        expect_equal(rt, word, topology.depth_named(word.as_bytes()), *depth);
+    }
+}
+
+// Words, and the depths that they name.
+const DEPTHS: &[(&str, Option<u32>)] = &[
+    ("machine", Some(0)),
+    ("node", Some(1)),
+    ("package", Some(1)),
+    ("PU", Some(3)),
+    ("l3", None),
+    ("group0", None),
+];
+
+#[test]
+fn depths_by_name(rt: HostRuntime) {
+    expect_depths(&rt, rt.alloc(), "Package:2 [numa] Core:3 PU:2", DEPTHS);
+    expect_depths(&rt, rt.alloc(), "Core:2 PU:2", &[("numa", None)]);
 }

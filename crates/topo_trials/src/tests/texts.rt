@@ -1,30 +1,28 @@
 //! The two texts of whole topologies.
 use super::*;
 
-fn check_texts(
-    rt: &impl Abort,
-    alloc: Global,
-    text: &[u8],
-    canonical: &[u8],
-    shown: &[u8],
-) -> Result<(), Fail> {
-    let tree = Tree::build(alloc, read(alloc, text)?)?;
-    assert_eq!(rt; tree.export(alloc)?.as_slice(), canonical);
-    assert_eq!(rt; tree.show(alloc)?.as_slice(), shown);
-    let topology = Topology::from_tree(alloc, tree)?;
-    assert_eq!(rt; topology.export(alloc)?.as_slice(), canonical);
-    assert_eq!(rt; topology.show(alloc)?.as_slice(), shown);
-    Ok(())
+fn expect_texts(rt: &impl Abort, alloc: Global, text: &str, canonical: &str, shown: &str) {
+    let description = read(alloc, text.as_bytes()).expect(rt, text);
+    let tree = Tree::build(alloc, description).expect(rt, text);
+    expect_text(rt, &tree.export(alloc).expect(rt, "memory"), canonical);
+    expect_text(rt, &tree.show(alloc).expect(rt, "memory"), shown);
+    let topology = Topology::from_tree(alloc, tree).expect(rt, "memory");
+    expect_text(rt, &topology.export(alloc).expect(rt, "memory"), canonical);
+    expect_text(rt, &topology.show(alloc).expect(rt, "memory"), shown);
+}
+
+pub fn expect_text(rt: &impl Abort, found: &[u8], wanted: &str) {
+    expect_equal(rt, wanted, found, wanted.as_bytes());
 }
 
 #[test]
-fn memory_below_packages(rt: HostRuntime) -> Result<(), Fail> {
-    check_texts(
+fn memory_below_packages(rt: HostRuntime) {
+    expect_texts(
         &rt,
         rt.alloc(),
-        b"Package:2 [NUMANode(memory=1GiB)] L3Cache:1(size=8MiB) Core:2 PU:2",
-        b"Package:2 [NUMANode(memory=1073741824)] L3Cache:1(size=8388608) Core:2 PU:2\n",
-        b"Machine L#0
+        "Package:2 [NUMANode(memory=1GiB)] L3Cache:1(size=8MiB) Core:2 PU:2",
+        "Package:2 [NUMANode(memory=1073741824)] L3Cache:1(size=8388608) Core:2 PU:2\n",
+        "Machine L#0
   Package L#0
     NUMANode L#0 (P#0 1GiB)
     L3 L#0 (8MiB)
@@ -44,17 +42,17 @@ fn memory_below_packages(rt: HostRuntime) -> Result<(), Fail> {
         PU L#6 (P#6)
         PU L#7 (P#7)
 ",
-    )
+    );
 }
 
 #[test]
-fn memory_of_the_machine(rt: HostRuntime) -> Result<(), Fail> {
-    check_texts(
+fn memory_of_the_machine(rt: HostRuntime) {
+    expect_texts(
         &rt,
         rt.alloc(),
-        b"[numa(indexes=7)] 1 2 L5:1(size=0) 1 2(indexes=0,4,1,5)",
-        b"[NUMANode(indexes=7)] Group:1 Group:2 L5Cache:1(size=0) Core:1 PU:2(indexes=0,4,1,5)\n",
-        b"Machine L#0
+        "[numa(indexes=7)] 1 2 L5:1(size=0) 1 2(indexes=0,4,1,5)",
+        "[NUMANode(indexes=7)] Group:1 Group:2 L5Cache:1(size=0) Core:1 PU:2(indexes=0,4,1,5)\n",
+        "Machine L#0
   NUMANode L#0 (P#7)
   Group0 L#0
     Group1 L#0
@@ -68,17 +66,17 @@ fn memory_of_the_machine(rt: HostRuntime) -> Result<(), Fail> {
           PU L#2 (P#1)
           PU L#3 (P#5)
 ",
-    )
+    );
 }
 
 #[test]
-fn memory_below_cores(rt: HostRuntime) -> Result<(), Fail> {
-    check_texts(
+fn memory_below_cores(rt: HostRuntime) {
+    expect_texts(
         &rt,
         rt.alloc(),
-        b"pack:1 core:2 [ node(indexes=5,2 memory=3MiB) ] pu:2(indexes=2*2:1*2)",
-        b"Package:1 Core:2 [NUMANode(memory=3145728 indexes=5,2)] PU:2(indexes=2*2:1*2)\n",
-        b"Machine L#0
+        "pack:1 core:2 [ node(indexes=5,2 memory=3MiB) ] pu:2(indexes=2*2:1*2)",
+        "Package:1 Core:2 [NUMANode(memory=3145728 indexes=5,2)] PU:2(indexes=2*2:1*2)\n",
+        "Machine L#0
   Package L#0
     Core L#0
       NUMANode L#0 (P#5 3MiB)
@@ -89,19 +87,19 @@ fn memory_below_cores(rt: HostRuntime) -> Result<(), Fail> {
       PU L#2 (P#1)
       PU L#3 (P#3)
 ",
-    )
+    );
 }
 
 #[test]
-fn sizes_by_their_units(rt: HostRuntime) -> Result<(), Fail> {
-    check_texts(
+fn sizes_by_their_units(rt: HostRuntime) {
+    expect_texts(
         &rt,
         rt.alloc(),
-        b"l5:1(size=1023KiB) l4:1(size=1025) l3:1(size=3TiB) l2:1(size=1025GiB) l1d:1(size=2048MiB) l1i:1(size=1024) \
+        "l5:1(size=1023KiB) l4:1(size=1025) l3:1(size=3TiB) l2:1(size=1025GiB) l1d:1(size=2048MiB) l1i:1(size=1024) \
          numa:1(memory=1kB) pu:1",
-        b"L5Cache:1(size=1047552) L4Cache:1(size=1025) L3Cache:1(size=3298534883328) L2Cache:1(size=1100585369600) \
+        "L5Cache:1(size=1047552) L4Cache:1(size=1025) L3Cache:1(size=3298534883328) L2Cache:1(size=1100585369600) \
          L1dCache:1(size=2147483648) L1iCache:1(size=1024) Group:1 [NUMANode(memory=1000)] PU:1\n",
-        b"Machine L#0
+        "Machine L#0
   L5 L#0 (1023KiB)
     L4 L#0 (1025B)
       L3 L#0 (3TiB)
@@ -112,20 +110,20 @@ fn sizes_by_their_units(rt: HostRuntime) -> Result<(), Fail> {
                 NUMANode L#0 (P#0 1000B)
                 PU L#0 (P#0)
 ",
-    )
+    );
 }
 
 #[test]
-fn sizes_at_the_edges(rt: HostRuntime) -> Result<(), Fail> {
-    check_texts(
+fn sizes_at_the_edges(rt: HostRuntime) {
+    expect_texts(
         &rt,
         rt.alloc(),
-        b"l5:1(size=18446744073709551615) l4:1(size=1024TiB) l3:1(size=1025KiB) l2:1(size=9223372036854775808) l1:1(size=1023) \
+        "l5:1(size=18446744073709551615) l4:1(size=1024TiB) l3:1(size=1025KiB) l2:1(size=9223372036854775808) l1:1(size=1023) \
          l1i:1(size=1023GiB) numa:1(memory=0) pu:1",
-        b"L5Cache:1(size=18446744073709551615) L4Cache:1(size=1125899906842624) L3Cache:1(size=1049600) \
+        "L5Cache:1(size=18446744073709551615) L4Cache:1(size=1125899906842624) L3Cache:1(size=1049600) \
          L2Cache:1(size=9223372036854775808) L1dCache:1(size=1023) L1iCache:1(size=1098437885952) Group:1 [NUMANode(memory=0)] \
          PU:1\n",
-        b"Machine L#0
+        "Machine L#0
   L5 L#0 (18446744073709551615B)
     L4 L#0 (1024TiB)
       L3 L#0 (1025KiB)
@@ -136,17 +134,17 @@ fn sizes_at_the_edges(rt: HostRuntime) -> Result<(), Fail> {
                 NUMANode L#0 (P#0 0B)
                 PU L#0 (P#0)
 ",
-    )
+    );
 }
 
 #[test]
-fn sixteen_levels(rt: HostRuntime) -> Result<(), Fail> {
-    check_texts(
+fn sixteen_levels(rt: HostRuntime) {
+    expect_texts(
         &rt,
         rt.alloc(),
-        b"1 1 1 1 1 1 1 1 1 1 1 1 group3:1 l1i:1 1 1",
-        b"Group:1 Group:1 Group:1 Group:1 Group:1 Group:1 Group:1 Group:1 Group:1 Group:1 Group:1 Group:1 Group:1 L1iCache:1 Core:1 PU:1\n",
-        b"Machine L#0
+        "1 1 1 1 1 1 1 1 1 1 1 1 group3:1 l1i:1 1 1",
+        "Group:1 Group:1 Group:1 Group:1 Group:1 Group:1 Group:1 Group:1 Group:1 Group:1 Group:1 Group:1 Group:1 L1iCache:1 Core:1 PU:1\n",
+        "Machine L#0
   Group0 L#0
     Group1 L#0
       Group2 L#0
@@ -164,5 +162,5 @@ fn sixteen_levels(rt: HostRuntime) -> Result<(), Fail> {
                               Core L#0
                                 PU L#0 (P#0)
 ",
-    )
+    );
 }
