@@ -1,17 +1,18 @@
+//! Locations and answers about them, as values and as texts.
 ghost use Rattle.topo_tree.specs.Objects.{IsLayer};
 ghost use Rattle.calc_query.specs.Selection.{HaveLayers};
 
-use byte_text::{Words, cut_at, number_in};
+use byte_text::Words;
 use calc_query::{
-    CalcFault, Numbering, Path, Term, hierarchical, intersecting, largest, read_location,
-    read_term, select,
+    CalcFault, Numbering, Term, hierarchical, intersecting, largest, read_location, read_term,
+    select,
 };
 use cpu_set::CpuSet;
 use std::alloc::Global;
+use std::fmt::Debug;
 use std::process::Abort;
-use std::test::Fail;
 use synth_text::read;
-use topo_tree::{Layer, Object, Topology};
+use topo_tree::{Layer, Object, Topology, Tree};
 
 mod answers;
 mod faults;
@@ -19,14 +20,18 @@ mod sets;
 mod texts;
 mod trees;
 
-fn built(rt: &impl Abort, alloc: Global, text: &[u8]) -> Topology {
-    match read(alloc, text) {
-        Ok(description) => match Topology::build(alloc, description) {
-            Ok(topology) => topology,
-            Err(_) => panic!(rt; "not a topology"),
-        },
-        Err(_) => panic!(rt; "not a description"),
-    }
+// What was found at a row of a table is what the row wants.
+fn expect_equal<T: PartialEq + Debug + Drop>(rt: &impl Abort, row: &str, found: T, wanted: T) {
+    assert_eq!(rt; found, wanted, "at {row}");
+}
+
+fn tree(rt: &impl Abort, alloc: Global, text: &str) -> Tree {
+    let description = read(alloc, text.as_bytes()).expect(rt, text);
+    Tree::build(alloc, description).expect(rt, text)
+}
+
+fn built(rt: &impl Abort, alloc: Global, text: &str) -> Topology {
+    Topology::from_tree(alloc, tree(rt, alloc, text)).expect(rt, "memory")
 }
 
 // The set that words with spaces between them select.
@@ -36,13 +41,13 @@ fn selected(
     topology: &Topology,
     words: &[u8],
     numbering: Numbering,
-) -> Result<CpuSet, Fail> {
+) -> CpuSet {
     let mut terms = Vec::new(alloc);
     let mut reader = Words::new(words);
     while let Some(word) = reader.next() {
-        push_term(rt, alloc, topology, &mut terms, word)?;
+        push_term(rt, alloc, topology, &mut terms, word);
     }
-    Ok(select(topology, terms.as_slice(), numbering))
+    select(topology, terms.as_slice(), numbering)
 }
 
 // Appends the term that a word is.
@@ -52,38 +57,24 @@ fn push_term(
     topology: &Topology,
     terms: &mut Vec<Term>,
     word: &[u8],
-) -> Result<(), Fail>
+)
     requires { HaveLayers topology.now terms.old.items }
     ensures { HaveLayers topology.now terms.new.items }
 {
-    match read_term(alloc, topology, word, 0) {
-        Ok(term) => Ok(terms.push(term)?),
-        Err(_) => panic!(rt; "not a term"),
-    }
+    let term = read_term(alloc, topology, word, 0).expect(rt, "a term");
+    terms.push(term).expect(rt, "memory");
 }
 
-// What stands before and behind the `=` of a line.
-fn halves<'a>(rt: &impl Abort, line: &'a [u8]) -> (&'a [u8], &'a [u8]) {
-    match cut_at(line, b'=') {
-        Some(parts) => parts,
-        None => panic!(rt; "no `=`"),
-    }
-}
-
-// A set in hexadecimal.
-fn hex(rt: &impl Abort, text: &[u8]) -> CpuSet {
-    match CpuSet::read_hex(text) {
-        Ok(set) => set,
-        Err(_) => panic!(rt; "not a set"),
-    }
+// The set is the one in hexadecimal.
+fn expect_set(rt: &impl Abort, row: &str, set: &CpuSet, hex: &str) {
+    let wanted = CpuSet::read_hex(hex.as_bytes()).expect(rt, hex);
+    let same = [set.inside(&wanted), wanted.inside(set)];
+    expect_equal(rt, row, same, [true; 2]);
 }
 
 // The layer that a word names.
-fn layer(rt: &impl Abort, topology: &Topology, word: &[u8]) -> Layer
+fn layer(rt: &impl Abort, topology: &Topology, word: &str) -> Layer
     ensures { IsLayer topology.now result }
 {
-    match topology.layer_named(word) {
-        Some(layer) => layer,
-        None => panic!(rt; "not a layer"),
-    }
+    topology.layer_named(word.as_bytes()).expect(rt, word)
 }

@@ -1,14 +1,10 @@
 //! Words read, and answers printed. Those of `command_trials` are compared with those of hwloc-calc.
+use super::{expect_equal, tree};
 use calc_query::{CalcFault, Numbering, select};
 use calc_text::{AnswerKind, AnswerStyle, answer_text, read_layers, read_terms, set_text};
-use std::alloc::Global;
-use std::test::Fail;
-use synth_text::read;
-use topo_tree::{Layer, Tree};
+use topo_tree::Layer;
 
-fn tree(alloc: Global) -> Result<Tree, Fail> {
-    Ok(Tree::build(alloc, read(alloc, b"Package:2 Core:2 PU:2")?)?)
-}
+const PLAIN: &str = "Package:2 Core:2 PU:2";
 
 const STYLE: AnswerStyle<'static> = AnswerStyle {
     numbering: Numbering::Logical,
@@ -17,47 +13,45 @@ const STYLE: AnswerStyle<'static> = AnswerStyle {
 };
 
 #[test]
-fn reads_and_prints(rt: HostRuntime) -> Result<(), Fail> {
+fn reads_and_prints(rt: HostRuntime) {
     let alloc = rt.alloc();
-    let tree = tree(alloc)?;
+    let tree = tree(&rt, alloc, PLAIN);
     let words: [&[u8]; 2] = [b"package:1.core:0-", b"~pu:5"];
-    let terms = read_terms(alloc, &tree, &words)?;
+    let terms = read_terms(alloc, &tree, &words).expect(&rt, "terms");
     let set = select(&tree, &terms, Numbering::Logical);
-    let text = answer_text(alloc, &tree, &set, &AnswerKind::Largest, STYLE)?;
-    assert_eq!(rt; text.as_slice(), b"PU:4 Core:3".as_slice());
-    assert_eq!(rt; set_text(alloc, true, &set)?.as_slice(), b"0xd0".as_slice());
-    let text = answer_text(alloc, &tree, &set, &AnswerKind::Set, STYLE)?;
-    assert_eq!(rt; text.as_slice(), b"0x000000d0".as_slice());
-    Ok(())
+    let text = answer_text(alloc, &tree, &set, &AnswerKind::Largest, STYLE).expect(&rt, "memory");
+    expect_equal(&rt, "the largest", text.as_slice(), b"PU:4 Core:3");
+    let text = set_text(alloc, true, &set).expect(&rt, "memory");
+    expect_equal(&rt, "taskset's form", text.as_slice(), b"0xd0");
+    let text = answer_text(alloc, &tree, &set, &AnswerKind::Set, STYLE).expect(&rt, "memory");
+    expect_equal(&rt, "the set", text.as_slice(), b"0x000000d0");
 }
 
+// Names with dots between, and their layers.
+const LAYERS: &[(&str, Option<&[Layer]>)] = &[
+    ("package.PU", Some(&[Layer::Depth(1), Layer::Depth(3)])),
+    ("package.", None),
+    ("", None),
+    (".pu", None),
+    ("pu.die", None),
+];
+
 #[test]
-fn reads_layers(rt: HostRuntime) -> Result<(), Fail> {
-    let alloc = rt.alloc();
-    let tree = tree(alloc)?;
-    match read_layers(alloc, &tree, b"package.PU")? {
-        Some(layers) => {
-            assert_eq!(rt;
-                layers.as_slice(),
-                [Layer::Depth(1), Layer::Depth(3)].as_slice()
-            );
+fn reads_layers(rt: HostRuntime) {
+    let tree = tree(&rt, rt.alloc(), PLAIN);
+    for (names, wanted) in LAYERS {
+        match read_layers(rt.alloc(), &tree, names.as_bytes()).expect(&rt, "memory") {
+            Some(layers) => expect_equal(&rt, names, Some(layers.as_slice()), *wanted),
+            None => expect_equal(&rt, names, None, *wanted),
         }
-        None => panic!(rt; "no layers"),
     }
-    for names in [b"package.".as_slice(), b"", b".pu", b"pu.die"] {
-        assert!(rt; read_layers(alloc, &tree, names)?.is_none());
-    }
-    Ok(())
 }
 
 #[test]
-fn tells_the_first_bad_word(rt: HostRuntime) -> Result<(), Fail> {
-    let alloc = rt.alloc();
-    let tree = tree(alloc)?;
+fn tells_the_first_bad_word(rt: HostRuntime) {
+    let tree = tree(&rt, rt.alloc(), PLAIN);
     let words: [&[u8]; 3] = [b"all", b"^pu:0.pu:x", b"die:0"];
-    match read_terms(alloc, &tree, &words) {
-        Err(fault) => assert_eq!(rt; fault, CalcFault::Location { word: 1, at: 6 }),
-        Ok(_) => panic!(rt; "terms"),
-    }
-    Ok(())
+    let found = read_terms(rt.alloc(), &tree, &words).err();
+    let wanted = CalcFault::Location { word: 1, at: 6 };
+    expect_equal(&rt, "a bad word", found, Some(wanted));
 }
