@@ -16,6 +16,7 @@ use distrib_rules::DistribFault;
 use lock_plan::PlanFault;
 use lock_select::SelectFault;
 use out_of_memory::OutOfMemory;
+use plan::plan_text;
 use run_faults::{CheckFault, SectionFault};
 use std::alloc::Global;
 use std::process::Abort;
@@ -23,100 +24,155 @@ use std::test::Fail;
 use synth_text::SynthFault;
 use topo_tree::BuildFault;
 
-// What is printed for words, or the status.
-fn answered(alloc: Global, words: &[&str]) -> Result<Result<Vec<u8>, Status>, Fail> {
-    let mut owned = Vec::new(alloc);
-    for word in words {
-        owned.push(String::from_str(alloc, word)?)?;
-    }
-    Ok(match read_words(alloc, &owned) {
-        Ok(Asked::Run(asked)) => plan::of(alloc, asked).map(|_| Vec::new(alloc)),
-        Ok(Asked::Select(_)) => Err(Status::Usage),
-        Ok(Asked::Drill(_)) => Err(Status::Usage),
-        Ok(Asked::Check(asked)) => plan::of(alloc, asked.as_run()).map(|_| Vec::new(alloc)),
-        Ok(Asked::Set { list, text }) => set_output(alloc, list, text),
-        Ok(Asked::Topo { export, text }) => topo_output(alloc, export, text),
-        Ok(Asked::Calc(asked)) => calc_output(alloc, &asked),
-        Ok(Asked::Distrib(asked)) => distrib_output(alloc, &asked),
-        Err(WordsFault::Usage) => Err(Status::Usage),
-        Err(WordsFault::OutOfMemory) => Err(Status::OutOfMemory),
-    })
-}
+// Descriptions, and the rows of each, one a line. A row has words, between which a space stands, and behind a bar the lines
+// that they print, with a `;` between two, or how they are refused. A `*` stands for the description.
+type Tables = &'static [(&'static str, &'static str)];
 
-// Checks what is printed for words, or the status and its line.
-fn prints<R: Abort>(
-    rt: &R,
-    alloc: Global,
-    words: &[&str],
-    status: Status,
-    out: &str,
-    err: &str,
-) -> Result<(), Fail> {
-    match answered(alloc, words)? {
-        Ok(text) => {
-            assert_eq!(rt; status, Status::Ok);
-            assert_eq!(rt; text.as_slice(), out.as_bytes());
-        }
-        Err(found) => {
-            assert_eq!(rt; found, status);
-            assert_eq!(rt; line_of(&found).as_str(), err);
-        }
+// Checks what the words of rows print, behind the words in front.
+fn answers(rt: &impl Abort, alloc: Global, front: &str, tables: Tables) -> Result<(), Fail> {
+    for (description, rows) in tables {
+        expect_rows(rt, alloc, front, description, "0 ", rows)?;
     }
     Ok(())
 }
 
-// The text that is printed for words.
-fn text<R: Abort>(rt: &R, alloc: Global, words: &[&str]) -> Result<Vec<u8>, Fail> {
-    match answered(alloc, words)? {
-        Ok(text) => Ok(text),
-        Err(_) => panic!(rt; "the words are refused"),
+// Checks how the words of rows are refused, behind the words in front: the status's code and its line.
+fn refuses(rt: &impl Abort, alloc: Global, front: &str, tables: Tables) -> Result<(), Fail> {
+    for (description, rows) in tables {
+        expect_rows(rt, alloc, front, description, "", rows)?;
+    }
+    Ok(())
+}
+
+// Checks rows on a description: behind the words in front, and with the code before what is told.
+fn expect_rows(
+    rt: &impl Abort,
+    alloc: Global,
+    front: &str,
+    description: &str,
+    code: &str,
+    rows: &str,
+) -> Result<(), Fail> {
+    for row in rows.split('\n') {
+        let (words, told) = row.split_once('|').ok_or("a row without a bar")?;
+        let line = format!(in alloc; "{front}{words}")?;
+        let wanted = lines_of(alloc, code, told)?;
+        expect(rt, alloc, &listed(alloc, &line, description)?, &wanted)?;
+    }
+    Ok(())
+}
+
+// The lines that a row tells, behind a code.
+fn lines_of(alloc: Global, code: &str, told: &str) -> Result<String, Fail> {
+    let mut text = String::from_str(alloc, code)?;
+    for line in told.split(';') {
+        text.push_str(line)?;
+        text.push('\n')?;
+    }
+    Ok(text)
+}
+
+// The words of a line, between which a space stands. A `*` stands for the description.
+fn listed<'a>(alloc: Global, line: &'a str, description: &'a str) -> Result<Vec<&'a str>, Fail> {
+    let mut words = Vec::new(alloc);
+    for word in line.split(' ') {
+        words.push(if word == "*" { description } else { word })?;
+    }
+    Ok(words)
+}
+
+// Checks how words end: the status's code, a space, and what is printed or the status's line.
+fn expect(rt: &impl Abort, alloc: Global, words: &[&str], wanted: &str) -> Result<(), Fail> {
+    let found = ended(alloc, words)?;
+    assert_eq!(rt; found.as_slice(), wanted.as_bytes(), "at {words:?}");
+    Ok(())
+}
+
+// How words end.
+fn ended(alloc: Global, words: &[&str]) -> Result<Vec<u8>, Fail> {
+    let mut owned = Vec::new(alloc);
+    for word in words {
+        owned.push(String::from_str(alloc, word)?)?;
+    }
+    match read_words(alloc, &owned) {
+        Ok(asked) => told(alloc, output(alloc, &asked)),
+        Err(WordsFault::Usage) => told(alloc, Err(Status::Usage)),
+        Err(WordsFault::OutOfMemory) => told(alloc, Err(Status::OutOfMemory)),
     }
 }
+
+// What is printed for what is asked, or the status.
+fn output(alloc: Global, asked: &Asked<'_>) -> Result<Vec<u8>, Status> {
+    match asked {
+        Asked::Run(asked) => plan_text(alloc, *asked),
+        Asked::Check(asked) => plan_text(alloc, asked.as_run()),
+        Asked::Set { list, text } => set_output(alloc, *list, text),
+        Asked::Topo { export, text } => topo_output(alloc, *export, text),
+        Asked::Calc(asked) => calc_output(alloc, asked),
+        Asked::Distrib(asked) => distrib_output(alloc, asked),
+        Asked::Select(_) | Asked::Drill(_) => Err(Status::Usage),
+    }
+}
+
+fn told(alloc: Global, output: Result<Vec<u8>, Status>) -> Result<Vec<u8>, Fail> {
+    match output {
+        Ok(printed) => {
+            let mut text = b"0 ".to_vec(alloc)?;
+            text.extend_from_slice(&printed)?;
+            Ok(text)
+        }
+        Err(status) => {
+            let line = line_of(&status);
+            Ok(format!(in alloc; "{} {}", status.code(), line.as_str())?.into_bytes())
+        }
+    }
+}
+
+const FAULTS: &[(Fault, &str)] = &[
+    (
+        Fault::Set(SetFault::Infinite { at: 4 }),
+        "the set: the set at byte 4 has no end",
+    ),
+    (Fault::Synth(SynthFault::Empty), "the description: no level"),
+    (
+        Fault::Build(BuildFault::IndexTwice { number: 5 }),
+        "the topology: the physical number 5 comes twice",
+    ),
+    (
+        Fault::Calc(CalcFault::NoSuchType { word: 1 }),
+        "the locations: no such type in word 1",
+    ),
+    (Fault::TypeOf(OptionName::At), "the type of an option"),
+    (
+        Fault::Distrib(DistribFault::ZeroMasks),
+        "the distribution: no mask",
+    ),
+    (
+        Fault::Plan(PlanFault::TooDeep),
+        "the plan: more than 5 levels",
+    ),
+    (
+        Fault::Section(SectionFault::TooManyCallers),
+        "the sections: more than 256 sections",
+    ),
+    (Fault::Select(SelectFault::Keep), "the choice: the keep"),
+    (Fault::Input, "the input is too long"),
+    (
+        Fault::Check(CheckFault::BadHead),
+        "the check: the head of the input",
+    ),
+    (
+        Fault::Check(CheckFault::Short),
+        "the check: the bytes behind the head of the input",
+    ),
+];
 
 // Each fault has its words.
 #[test]
 fn tells_each_fault(rt: HostRuntime) -> Result<(), Fail> {
-    let rows = [
-        (
-            Fault::Set(SetFault::Infinite { at: 4 }),
-            "the set: the set at byte 4 has no end",
-        ),
-        (Fault::Synth(SynthFault::Empty), "the description: no level"),
-        (
-            Fault::Build(BuildFault::IndexTwice { number: 5 }),
-            "the topology: the physical number 5 comes twice",
-        ),
-        (
-            Fault::Calc(CalcFault::NoSuchType { word: 1 }),
-            "the locations: no such type in word 1",
-        ),
-        (Fault::TypeOf(OptionName::At), "the type of an option"),
-        (
-            Fault::Distrib(DistribFault::ZeroMasks),
-            "the distribution: no mask",
-        ),
-        (
-            Fault::Plan(PlanFault::TooDeep),
-            "the plan: more than 5 levels",
-        ),
-        (
-            Fault::Section(SectionFault::TooManyCallers),
-            "the sections: more than 256 sections",
-        ),
-        (Fault::Select(SelectFault::Keep), "the choice: the keep"),
-        (Fault::Input, "the input is too long"),
-        (
-            Fault::Check(CheckFault::BadHead),
-            "the check: the head of the input",
-        ),
-        (
-            Fault::Check(CheckFault::Short),
-            "the check: the bytes behind the head of the input",
-        ),
-    ];
-    for (fault, wanted) in rows {
+    for (fault, wanted) in FAULTS {
         let told = format!(in rt.alloc(); "{fault}")?;
-        assert_eq!(rt; told.as_str(), wanted);
+        assert_eq!(rt; told.as_str(), *wanted);
     }
     Ok(())
 }
@@ -124,10 +180,9 @@ fn tells_each_fault(rt: HostRuntime) -> Result<(), Fail> {
 // Want of memory has a line too, which no words call forth.
 #[test]
 fn tells_of_wanted_memory(rt: HostRuntime) -> Result<(), Fail> {
-    let told = format!(in rt.alloc(); "{OutOfMemory}")?;
-    assert_eq!(rt; told.as_str(), "out of memory");
-    let told = line_of(&Status::OutOfMemory);
-    assert_eq!(rt; Status::OutOfMemory.code(), 7);
-    assert_eq!(rt; told.as_str(), "clof: out of memory\n");
+    let line = line_of(&Status::OutOfMemory);
+    let code = Status::OutOfMemory.code();
+    let told = format!(in rt.alloc(); "{OutOfMemory} {code} {}", line.as_str())?;
+    assert_eq!(rt; told.as_str(), "out of memory 7 clof: out of memory\n");
     Ok(())
 }
