@@ -1,5 +1,6 @@
 //! Topologies and trees: what is asked of them, their two texts, and what is refused.
-ghost use Rattle.topo_tree.specs.Objects.{IsLayer, IsObject};
+ghost use Rattle.std.specs.Prelude.{◌<◌};
+ghost use Rattle.topo_tree.specs.Objects.{IsLayer, IsObject, count_of};
 
 use cpu_set::CpuSet;
 use std::alloc::Global;
@@ -39,11 +40,18 @@ fn count(rt: &impl Abort, topology: &Topology, layer: Layer) -> u32 {
     topology.count(layer)
 }
 
+fn check_index(rt: &impl Abort, topology: &Topology, layer: Layer, index: u32)
+    requires { IsLayer topology.now layer }
+    ensures { index < count_of topology.now layer }
+{
+    assert!(rt; index < topology.count(layer));
+}
+
 fn object(rt: &impl Abort, topology: &Topology, layer: Layer, index: u32) -> Object
     ensures { IsObject topology.now result }
 {
     check_layer(rt, topology, layer);
-    assert!(rt; index < topology.count(layer));
+    check_index(rt, topology, layer, index);
     Object { layer, index }
 }
 

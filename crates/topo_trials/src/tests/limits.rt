@@ -58,12 +58,17 @@ const MOST_PUS_BEGIN: &str = "Machine L#0\n  NUMANode L#0 (P#0)\n  PU L#0 (P#0)\
 
 const MOST_PUS_END: &str = "\n  PU L#4094 (P#4094)\n  PU L#4095 (P#4095)\n";
 
+// The node of memory has all PUs, to the last.
+fn expect_all(rt: &impl Abort, most: &Topology) {
+    let all = set(rt, most, Layer::Memory, 0);
+    expect_equal(rt, "the node", all.weight(), 4096);
+    expect_equal(rt, "the last PU", most.leaf_of(4095), Some(4095));
+}
+
 #[test]
 fn most_pus(rt: HostRuntime) {
     let most = built(&rt, rt.alloc(), "[numa] PU:4096(indexes=1*4096)");
-    let all = set(&rt, &most, Layer::Memory, 0);
-    expect_equal(&rt, "the node", all.weight(), 4096);
-    expect_equal(&rt, "the last PU", most.leaf_of(4095), Some(4095));
+    expect_all(&rt, &most);
     let shown = most.show(rt.alloc()).expect(&rt, "memory");
     expect_long(&rt, &shown, (4098, 83829), MOST_PUS_BEGIN, MOST_PUS_END);
 }
@@ -73,15 +78,18 @@ const USUAL: &str =
     "Package:2 [NUMANode(memory=34359738368)] L3Cache:1(size=33554432) L2Cache:16(size=1048576) L1dCache:1(size=32768) \
      L1iCache:1(size=32768) Core:1 PU:2(indexes=2*32:1*2)";
 
+fn expect_packages(rt: &impl Abort, usual: &Topology) {
+    let first = set(rt, usual, Layer::Depth(1), 0);
+    let found = [first.has(0), first.has(15), first.has(32), first.has(47)];
+    expect_equal(rt, "package 0", found, [true; 4]);
+    let package = set(rt, usual, Layer::Depth(1), 1);
+    expect_equal(rt, "package 1", package.weight(), 32);
+    expect_equal(rt, "package 1", package.first(), Some(16));
+    let found = [package.has(63), package.has(47)];
+    expect_equal(rt, "package 1", found, [true, false]);
+}
+
 #[test]
 fn usual(rt: HostRuntime) {
-    let usual = built(&rt, rt.alloc(), USUAL);
-    let first = set(&rt, &usual, Layer::Depth(1), 0);
-    let found = [first.has(0), first.has(15), first.has(32), first.has(47)];
-    expect_equal(&rt, "package 0", found, [true; 4]);
-    let package = set(&rt, &usual, Layer::Depth(1), 1);
-    expect_equal(&rt, "package 1", package.weight(), 32);
-    expect_equal(&rt, "package 1", package.first(), Some(16));
-    let found = [package.has(63), package.has(47)];
-    expect_equal(&rt, "package 1", found, [true, false]);
+    expect_packages(&rt, &built(&rt, rt.alloc(), USUAL));
 }

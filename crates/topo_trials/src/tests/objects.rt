@@ -29,19 +29,25 @@ fn expect_depth(rt: &impl Abort, topology: &Topology, depth: u32, wanted: (Kind,
 }
 
 // A description, how many depths it has, which of them carries the memory, and how many nodes there are.
-const CARRIERS: &[(&str, u32, Option<u32>, u32)] = &[
+type Layers<'a> = (&'a str, u32, Option<u32>, u32);
+
+const LAYERS: &[Layers] = &[
     (UNEVEN, 4, Some(1), 2),
     ("PU:3", 2, None, 0),
     ("[numa] PU:3", 2, Some(0), 1),
 ];
 
+fn expect_layers(rt: &impl Abort, topology: &Topology, row: &Layers) {
+    let (text, depths, carrier, nodes) = row;
+    expect_equal(rt, text, topology.depths(), *depths);
+    expect_equal(rt, text, topology.carrier(), *carrier);
+    expect_equal(rt, text, count(rt, topology, Layer::Memory), *nodes);
+}
+
 #[test]
 fn layers(rt: HostRuntime) {
-    for (text, depths, carrier, nodes) in CARRIERS {
-        let topology = built(&rt, rt.alloc(), text);
-        expect_equal(&rt, text, topology.depths(), *depths);
-        expect_equal(&rt, text, topology.carrier(), *carrier);
-        expect_equal(&rt, text, count(&rt, &topology, Layer::Memory), *nodes);
+    for row in LAYERS {
+        expect_layers(&rt, &built(&rt, rt.alloc(), row.0), row);
     }
     let uneven = built(&rt, rt.alloc(), UNEVEN);
     for (depth, kind, count) in DEPTHS {
@@ -247,14 +253,21 @@ fn depths<T: AsTree>(topology: &T) -> u32 {
     topology.as_tree().depths()
 }
 
+fn expect_tree(rt: &impl Abort, tree: &Tree) {
+    expect_equal(rt, "depths", depths(tree), 4);
+    expect_equal(rt, "the carrier", tree.carrier(), Some(1));
+    expect_equal(rt, "a PU", tree.leaf_of(4095), Some(11));
+    expect_equal(rt, "a layer", tree.layer_named(b"core"), Some(CORE));
+    expect_equal(rt, "a depth", tree.depth_named(b"numa"), Some(1));
+}
+
 #[test]
 fn topologies_and_trees_have_a_tree(rt: HostRuntime) {
     let topology = built(&rt, rt.alloc(), UNEVEN);
+    expect_equal(&rt, "depths", depths(&topology), 4);
     let description = read(rt.alloc(), UNEVEN.as_bytes()).expect(&rt, UNEVEN);
-    let tree = Tree::build(rt.alloc(), description).expect(&rt, UNEVEN);
-    expect_equal(&rt, "depths", [depths(&topology), depths(&tree)], [4, 4]);
-    expect_equal(&rt, "the carrier", tree.carrier(), Some(1));
-    expect_equal(&rt, "a PU", tree.leaf_of(4095), Some(11));
-    expect_equal(&rt, "a layer", tree.layer_named(b"core"), Some(CORE));
-    expect_equal(&rt, "a depth", tree.depth_named(b"numa"), Some(1));
+    expect_tree(
+        &rt,
+        &Tree::build(rt.alloc(), description).expect(&rt, UNEVEN),
+    );
 }

@@ -4,11 +4,19 @@ use super::*;
 fn expect_texts(rt: &impl Abort, alloc: Global, text: &str, canonical: &str, shown: &str) {
     let description = read(alloc, text.as_bytes()).expect(rt, text);
     let tree = Tree::build(alloc, description).expect(rt, text);
-    expect_text(rt, &tree.export(alloc).expect(rt, "memory"), canonical);
-    expect_text(rt, &tree.show(alloc).expect(rt, "memory"), shown);
+    expect_tree(rt, alloc, &tree, (canonical, shown));
     let topology = Topology::from_tree(alloc, tree).expect(rt, "memory");
-    expect_text(rt, &topology.export(alloc).expect(rt, "memory"), canonical);
-    expect_text(rt, &topology.show(alloc).expect(rt, "memory"), shown);
+    expect_topology(rt, alloc, &topology, (canonical, shown));
+}
+
+fn expect_tree(rt: &impl Abort, alloc: Global, tree: &Tree, wanted: (&str, &str)) {
+    expect_text(rt, &tree.export(alloc).expect(rt, "memory"), wanted.0);
+    expect_text(rt, &tree.show(alloc).expect(rt, "memory"), wanted.1);
+}
+
+fn expect_topology(rt: &impl Abort, alloc: Global, topology: &Topology, wanted: (&str, &str)) {
+    expect_text(rt, &topology.export(alloc).expect(rt, "memory"), wanted.0);
+    expect_text(rt, &topology.show(alloc).expect(rt, "memory"), wanted.1);
 }
 
 pub fn expect_text(rt: &impl Abort, found: &[u8], wanted: &str) {
