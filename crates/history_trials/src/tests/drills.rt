@@ -11,61 +11,90 @@ use out_of_memory::OutOfMemory;
 use std::alloc::Global;
 use std::test::Fail;
 
+// A drill and what its keys hold at the end.
+type Drill = (u32, &'static [(&'static [u8], &'static [u8])]);
+
+const DRILLS: &[Drill] = &[
+    (
+        7,
+        &[
+            (b"k0", b"1257500"),
+            (b"k1", b"1240000"),
+            (b"k2", b"1242500"),
+            (b"k3", b"1245000"),
+            (b"k4", b"1247500"),
+            (b"k5", b"1250000"),
+            (b"k6", b"1252500"),
+            (b"k7", b"1255000"),
+        ],
+    ),
+    (
+        0,
+        &[
+            (b"k0", b"1240000"),
+            (b"k1", b"1242500"),
+            (b"k2", b"1245000"),
+            (b"k3", b"1247500"),
+            (b"k4", b"1250000"),
+            (b"k5", b"1252500"),
+            (b"k6", b"1255000"),
+            (b"k7", b"1257500"),
+        ],
+    ),
+    (
+        4_294_967_292,
+        &[
+            (b"k0", b"1250000"),
+            (b"k1", b"1252500"),
+            (b"k2", b"1255000"),
+            (b"k3", b"1257500"),
+            (b"k4", b"1240000"),
+            (b"k5", b"1242500"),
+            (b"k6", b"1245000"),
+            (b"k7", b"1247500"),
+        ],
+    ),
+];
+
+// Answers all commands of a section, and counts them.
+fn replay(store: &mut Store, replies: &mut Vec<u8>, section: &[u8]) -> Result<u32, OutOfMemory> {
+    let mut count: u32 = 0;
+    let mut commands = Commands::new(section);
+    while let Some(command) = commands.next() {
+        store.answer(&command, replies)?;
+        count = count.saturating_add(1);
+    }
+    Ok(count)
+}
+
 // The store behind all commands of some sections, one section after the other, and how many commands these are.
 fn replayed(alloc: Global, sections: &[Vec<u8>]) -> Result<(Store, u32), OutOfMemory> {
     let mut store = Store::new(alloc);
     let mut replies = Vec::new(alloc);
     let mut count: u32 = 0;
     for section in sections {
-        let mut commands = Commands::new(section);
-        while let Some(command) = commands.next() {
-            store.answer(&command, &mut replies)?;
-            count = count.saturating_add(1);
-        }
+        count = count.saturating_add(replay(&mut store, &mut replies, section)?);
     }
     Ok((store, count))
 }
 
-// Whether a store has these values under the eight keys.
-fn has_values(store: &Store, values: [&[u8]; 8]) -> bool {
-    let names: [&[u8]; 8] = [b"k0", b"k1", b"k2", b"k3", b"k4", b"k5", b"k6", b"k7"];
-    names
-        .iter()
-        .zip(values.iter())
-        .all(|(name, value)| store.block(name) == Some(*value))
+// Whether a store has these values under these keys.
+fn has_values(store: &Store, values: &[(&[u8], &[u8])]) -> bool {
+    for (name, value) in values {
+        if store.block(name) != Some(*value) {
+            return false;
+        }
+    }
+    true
 }
 
 #[test]
 fn the_commands_add_up(rt: HostRuntime) -> Result<(), Fail> {
-    let drills: [(u32, [&[u8]; 8]); 3] = [
-        (
-            7,
-            [
-                b"1257500", b"1240000", b"1242500", b"1245000", b"1247500", b"1250000", b"1252500",
-                b"1255000",
-            ],
-        ),
-        (
-            0,
-            [
-                b"1240000", b"1242500", b"1245000", b"1247500", b"1250000", b"1252500", b"1255000",
-                b"1257500",
-            ],
-        ),
-        (
-            4_294_967_292,
-            [
-                b"1250000", b"1252500", b"1255000", b"1257500", b"1240000", b"1242500", b"1245000",
-                b"1247500",
-            ],
-        ),
-    ];
-    for (drill, values) in drills {
-        let made = sections(rt.alloc(), drill)?;
+    for (drill, values) in DRILLS {
+        let made = sections(rt.alloc(), *drill)?;
         assert!(rt; made.len() == CALLERS as usize);
         let (store, count) = replayed(rt.alloc(), &made)?;
-        assert!(rt; count == 20_512);
-        assert!(rt; has_values(&store, values));
+        assert!(rt; count == 20_512 && has_values(&store, values));
     }
     Ok(())
 }

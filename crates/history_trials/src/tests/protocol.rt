@@ -1,4 +1,7 @@
 //! Examples from outside the definitions, by memcached's protocol.txt and this project's profile.
+use crate::tests::protocol::First::{Bad, Good, Nothing};
+use crate::tests::{Parts, joined};
+use mc_text::LineFault::{Chunk, Format, TooLarge};
 use mc_text::{Command, Commands, LineFault, Tally, count};
 use std::process::Abort;
 use std::test::Fail;
@@ -14,64 +17,110 @@ pub(crate) enum First {
     Bad(LineFault),
 }
 
+// What texts begin with, and how many bytes that has.
+const BEGINNINGS: &[(&[u8], First, usize)] = &[
+    (b"set k 0 0 1\r\nx\n\nget a\r\n", Bad(Chunk), 15),
+    (b"set k 0 0 3\r\nx\n\nget a\r\n", Bad(Chunk), 23),
+];
+
+// Blocks that have not come to their end.
+const WAITING: &[(&[u8], First, usize)] = &[
+    (b"set k 0 0 1\r\nxyz", Nothing, 0),
+    (b"set k 0 0 3\r\nx\r\n", Nothing, 0),
+    (b"set k 0 0 1048577\r\nx\r\n", Nothing, 0),
+    (b"set k 0 0 2147483646\r\nx\r\n", Nothing, 0),
+    (b"set k 0 0 2147483648\r\nx\r\n", Nothing, 0),
+    (b"set k 0 0 4294967295\r\nx\r\n", Nothing, 0),
+];
+
+// Commands with keys of 250 and 251 bytes, and with values of the most bytes and of one more.
+const LIMITS: &[(Parts, First)] = &[
+    (&[(b"get ", b'k', 250), (b"\r\n", b' ', 0)], Good),
+    (&[(b"get ", b'k', 251), (b"\r\n", b' ', 0)], Bad(Format)),
+    (&[(b"gets a ", b'k', 250), (b" b\r\n", b' ', 0)], Good),
+    (
+        &[(b"gets a ", b'k', 251), (b" b\r\n", b' ', 0)],
+        Bad(Format),
+    ),
+    (&[(b"delete ", b'k', 250), (b" noreply\r\n", b' ', 0)], Good),
+    (
+        &[(b"delete ", b'k', 251), (b" noreply\r\n", b' ', 0)],
+        Bad(Format),
+    ),
+    (&[(b"incr ", b'k', 250), (b" 1\r\n", b' ', 0)], Good),
+    (&[(b"incr ", b'k', 251), (b" 1\r\n", b' ', 0)], Bad(Format)),
+    (&[(b"touch ", b'k', 250), (b" 1\r\n", b' ', 0)], Good),
+    (&[(b"touch ", b'k', 251), (b" 1\r\n", b' ', 0)], Bad(Format)),
+    (
+        &[
+            (b"set k 0 0 1048576\r\n", b'x', 1_048_576),
+            (b"\r\n", b' ', 0),
+        ],
+        Good,
+    ),
+    (
+        &[
+            (b"set k 0 0 1048577\r\n", b'x', 1_048_577),
+            (b"\r\n", b' ', 0),
+        ],
+        Bad(TooLarge),
+    ),
+];
+
 // What a text begins with, and how many bytes that has.
 fn beginning(text: &[u8]) -> (First, usize) {
     match Commands::new(text).next() {
-        None => (First::Nothing, 0),
-        Some(Command::Bad { fault, spelling }) => (First::Bad(fault), spelling.len()),
-        Some(command) => (First::Good, command.spelling().len()),
+        None => (Nothing, 0),
+        Some(Command::Bad { fault, spelling }) => (Bad(fault), spelling.len()),
+        Some(command) => (Good, command.spelling().len()),
     }
+}
+
+// Whether a text begins with no command wherever it is cut short.
+fn waits_where_cut(text: &[u8]) -> bool {
+    for end in 0..text.len() {
+        if beginning(&text[..end]) != (Nothing, 0) {
+            return false;
+        }
+    }
+    true
 }
 
 /// Each text is one command, which is this; and where it is cut short, it begins with none.
 pub(crate) fn agree(rt: &impl Abort, cases: &[(&[u8], First)]) {
     for (text, want) in cases {
         assert_eq!(rt; beginning(text), (*want, text.len()));
-        for end in 0..text.len() {
-            assert_eq!(rt; beginning(&text[..end]), (First::Nothing, 0));
-        }
+        assert!(rt; waits_where_cut(text));
+    }
+}
+
+fn expect_beginnings(rt: &impl Abort, rows: &[(&[u8], First, usize)]) {
+    for (text, want, length) in rows {
+        assert_eq!(rt; beginning(text), (*want, *length));
     }
 }
 
 #[test]
 fn waits_for_all_bytes_of_a_block(rt: HostRuntime) {
-    let cases: [&[u8]; 6] = [
-        b"set k 0 0 1\r\nxyz",
-        b"set k 0 0 3\r\nx\r\n",
-        b"set k 0 0 1048577\r\nx\r\n",
-        b"set k 0 0 2147483646\r\nx\r\n",
-        b"set k 0 0 2147483648\r\nx\r\n",
-        b"set k 0 0 4294967295\r\nx\r\n",
-    ];
-    for text in cases {
-        assert_eq!(rt; beginning(text), (First::Nothing, 0));
-    }
+    expect_beginnings(&rt, WAITING);
 }
 
 #[test]
 fn a_torn_block_ends_with_its_next_line(rt: HostRuntime) {
-    assert_eq!(rt;
-        beginning(b"set k 0 0 1\r\nx\n\nget a\r\n"),
-        (First::Bad(LineFault::Chunk), 15)
-    );
-    assert_eq!(rt;
-        beginning(b"set k 0 0 3\r\nx\n\nget a\r\n"),
-        (First::Bad(LineFault::Chunk), 23)
-    );
+    expect_beginnings(&rt, BEGINNINGS);
     assert_eq!(rt; count(b"set k 0 0 1\r\nxy\r\nget k\r\n"), 2);
 }
 
 #[test]
 fn no_command_stands_behind_quit(rt: HostRuntime) {
     let section = b"get a\r\nquit\r\nget b\r\nquit\r\n";
-    assert_eq!(rt; count(section), 2);
+    let rest = b"get b\r\nquit\r\n".as_slice();
     let tally = Tally::new(section);
-    assert_eq!(rt; tally.commands, 2);
-    assert!(rt; tally.rest == b"get b\r\nquit\r\n".as_slice());
+    assert!(rt; count(section) == 2 && tally.commands == 2 && tally.rest == rest);
     let mut commands = Commands::new(section);
     assert!(rt; commands.next().is_some() && commands.next().is_some());
     assert!(rt; commands.next().is_none() && commands.next().is_none());
-    assert!(rt; commands.rest() == b"get b\r\nquit\r\n".as_slice());
+    assert!(rt; commands.rest() == rest);
 }
 
 // `cas k 007 -0 8 9 noreply` and its block of eight bytes.
@@ -151,44 +200,9 @@ fn gives_the_parts_of_commands(rt: HostRuntime) -> Result<(), Fail> {
 
 #[test]
 fn keeps_the_limits_of_keys_and_values(rt: HostRuntime) -> Result<(), Fail> {
-    let lines: [(&[u8], &[u8]); 5] = [
-        (b"get ", b"\r\n"),
-        (b"gets a ", b" b\r\n"),
-        (b"delete ", b" noreply\r\n"),
-        (b"incr ", b" 1\r\n"),
-        (b"touch ", b" 1\r\n"),
-    ];
-    for (front, back) in lines {
-        for length in [250, 251] {
-            let mut line = Vec::new(rt.alloc());
-            line.extend_from_slice(front)?;
-            for _ in 0..length {
-                line.push(b'k')?;
-            }
-            line.extend_from_slice(back)?;
-            let want = if length == 250 {
-                First::Good
-            } else {
-                First::Bad(LineFault::Format)
-            };
-            assert_eq!(rt; beginning(&line), (want, line.len()));
-        }
-    }
-    for (bytes, want) in [
-        (1_048_576, First::Good),
-        (1_048_577, First::Bad(LineFault::TooLarge)),
-    ] {
-        let mut text = Vec::new(rt.alloc());
-        text.extend_from_slice(if bytes == 1_048_576 {
-            b"set k 0 0 1048576\r\n"
-        } else {
-            b"set k 0 0 1048577\r\n"
-        })?;
-        for _ in 0..bytes {
-            text.push(b'x')?;
-        }
-        text.extend_from_slice(b"\r\n")?;
-        assert_eq!(rt; beginning(&text), (want, text.len()));
+    for (parts, want) in LIMITS {
+        let text = joined(rt.alloc(), parts)?;
+        assert_eq!(rt; beginning(&text), (*want, text.len()));
     }
     Ok(())
 }

@@ -8,7 +8,7 @@ use Rattle.kv_history.proofs.Next.{is_next}
 use Rattle.history_trials.proofs.tests.both_applied.Goals as goal
 
 pub apply-requires : goal.apply-requires
-apply-requires c = is_next c.in_ok-journal.journal 0 (view c.in-Some.written) (record {
+apply-requires g c = is_next c.in_ok-journal.journal 0 (view c.in-Some.written) (record {
   section = c.args.writer.now;
   rest = commands_left c.next.new.self;
   place = ap (λ sections. slice_get sections 0) c.in_ok-journal.ensures.sections;
@@ -18,7 +18,7 @@ apply-requires c = is_next c.in_ok-journal.journal 0 (view c.in-Some.written) (r
 })
 
 pub apply-requires-2 : goal.apply-requires-2
-apply-requires-2 c =
+apply-requires-2 g c =
     let before = c.in_ok-journal.journal.entries in
     let none_yet : own c.apply.new.self.entries 1 ≡ [] =
     ap (λ entries. own entries 1) c.in_ok-first.ensures.applied
