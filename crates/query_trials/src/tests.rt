@@ -76,5 +76,8 @@ fn expect_set(rt: &impl Abort, row: &str, set: &CpuSet, hex: &str) {
 fn layer(rt: &impl Abort, topology: &Topology, word: &str) -> Layer
     ensures { IsLayer topology.now result }
 {
-    topology.layer_named(word.as_bytes()).expect(rt, word)
+    match topology.layer_named(word.as_bytes()) {
+        Some(layer) => layer,
+        None => panic!(rt; "no layer"),
+    }
 }

@@ -32,12 +32,18 @@ const LOOP_MEETINGS: &[Meeting] = &[("core", "pu:1 pu:6", &[0, 3]), ("core", "0x
 
 const NODE_MEETINGS: &[Meeting] = &[("numa", "pu:7", &[1]), ("node", "all", &[0, 1])];
 
+// Descriptions, each with the objects that meet sets.
+const MEETINGS: &[(&str, &[Meeting])] = &[
+    (PLAIN, PLAIN_MEETINGS),
+    (LOOPS, LOOP_MEETINGS),
+    (NODES, NODE_MEETINGS),
+];
+
 #[test]
 fn objects_that_meet_a_set(rt: HostRuntime) {
-    let alloc = rt.alloc();
-    expect_intersecting(&rt, alloc, &built(&rt, alloc, PLAIN), PLAIN_MEETINGS);
-    expect_intersecting(&rt, alloc, &built(&rt, alloc, LOOPS), LOOP_MEETINGS);
-    expect_intersecting(&rt, alloc, &built(&rt, alloc, NODES), NODE_MEETINGS);
+    for (text, rows) in MEETINGS {
+        expect_intersecting(&rt, rt.alloc(), &built(&rt, rt.alloc(), text), rows);
+    }
 }
 
 // The index and the position of each of two steps.

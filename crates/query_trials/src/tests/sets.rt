@@ -2,7 +2,7 @@
 //! their set in hexadecimal.
 use super::*;
 
-fn expect_sets(
+fn expect_sets_on(
     rt: &impl Abort,
     alloc: Global,
     topology: &Topology,
@@ -13,6 +13,16 @@ fn expect_sets(
         let set = selected(rt, alloc, topology, words.as_bytes(), numbering);
         expect_set(rt, words, &set, wanted);
     }
+}
+
+fn expect_sets(
+    rt: &impl Abort,
+    alloc: Global,
+    text: &str,
+    numbering: Numbering,
+    rows: &[(&str, &str)],
+) {
+    expect_sets_on(rt, alloc, &built(rt, alloc, text), numbering, rows);
 }
 
 // Operators, and sets in hexadecimal.
@@ -38,8 +48,8 @@ const OPERATORS: &[(&str, &str)] = &[
 
 #[test]
 fn indexes_and_operators(rt: HostRuntime) {
-    let topology = built(&rt, rt.alloc(), "Package:2 Core:2 PU:2");
-    expect_sets(&rt, rt.alloc(), &topology, Numbering::Logical, OPERATORS);
+    let text = "Package:2 Core:2 PU:2";
+    expect_sets(&rt, rt.alloc(), text, Numbering::Logical, OPERATORS);
 }
 
 // Each form of an index.
@@ -75,8 +85,8 @@ const INDEXES: &[(&str, &str)] = &[
 
 #[test]
 fn indexes(rt: HostRuntime) {
-    let topology = built(&rt, rt.alloc(), "Package:2 Core:2 PU:2");
-    expect_sets(&rt, rt.alloc(), &topology, Numbering::Logical, INDEXES);
+    let text = "Package:2 Core:2 PU:2";
+    expect_sets(&rt, rt.alloc(), text, Numbering::Logical, INDEXES);
 }
 
 // Logical numbers of interleaved PUs.
@@ -93,8 +103,8 @@ const INTERLEAVED: &[(&str, &str)] = &[
 
 #[test]
 fn interleaved_pus(rt: HostRuntime) {
-    let topology = built(&rt, rt.alloc(), "Core:4 PU:2(indexes=2*4:1*2)");
-    expect_sets(&rt, rt.alloc(), &topology, Numbering::Logical, INTERLEAVED);
+    let text = "Core:4 PU:2(indexes=2*4:1*2)";
+    expect_sets(&rt, rt.alloc(), text, Numbering::Logical, INTERLEAVED);
 }
 
 // Physical numbers of interleaved PUs.
@@ -119,8 +129,8 @@ const PHYSICAL: &[(&str, &str)] = &[
 
 #[test]
 fn physical_numbers(rt: HostRuntime) {
-    let topology = built(&rt, rt.alloc(), "Core:4 PU:2(indexes=2*4:1*2)");
-    expect_sets(&rt, rt.alloc(), &topology, Numbering::Physical, PHYSICAL);
+    let text = "Core:4 PU:2(indexes=2*4:1*2)";
+    expect_sets(&rt, rt.alloc(), text, Numbering::Physical, PHYSICAL);
 }
 
 // Groups by the number of their level.
@@ -135,8 +145,8 @@ const GROUPS: &[(&str, &str)] = &[
 
 #[test]
 fn groups_by_number(rt: HostRuntime) {
-    let topology = built(&rt, rt.alloc(), "Group:2 Package:1 Group:2 PU:2");
-    expect_sets(&rt, rt.alloc(), &topology, Numbering::Logical, GROUPS);
+    let text = "Group:2 Package:1 Group:2 PU:2";
+    expect_sets(&rt, rt.alloc(), text, Numbering::Logical, GROUPS);
 }
 
 // Nodes of memory.
@@ -152,8 +162,8 @@ const NODES: &[(&str, &str)] = &[
 
 #[test]
 fn nodes_of_memory(rt: HostRuntime) {
-    let topology = built(&rt, rt.alloc(), "Package:2 [numa] Core:3 PU:2");
-    expect_sets(&rt, rt.alloc(), &topology, Numbering::Logical, NODES);
+    let text = "Package:2 [numa] Core:3 PU:2";
+    expect_sets(&rt, rt.alloc(), text, Numbering::Logical, NODES);
 }
 
 // Physical numbers of nodes of memory.
@@ -169,8 +179,8 @@ const NUMBERED: &[(&str, &str)] = &[
 
 #[test]
 fn physical_numbers_of_nodes(rt: HostRuntime) {
-    let topology = built(&rt, rt.alloc(), "Package:2 [numa(indexes=4,7)] Core:3 PU:2");
-    expect_sets(&rt, rt.alloc(), &topology, Numbering::Physical, NUMBERED);
+    let text = "Package:2 [numa(indexes=4,7)] Core:3 PU:2";
+    expect_sets(&rt, rt.alloc(), text, Numbering::Physical, NUMBERED);
 }
 
 const USUAL_MACHINE: &str =
@@ -187,6 +197,5 @@ const USUAL: &[(&str, &str)] = &[
 
 #[test]
 fn usual_machine(rt: HostRuntime) {
-    let topology = built(&rt, rt.alloc(), USUAL_MACHINE);
-    expect_sets(&rt, rt.alloc(), &topology, Numbering::Logical, USUAL);
+    expect_sets(&rt, rt.alloc(), USUAL_MACHINE, Numbering::Logical, USUAL);
 }

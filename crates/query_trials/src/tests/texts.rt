@@ -2,7 +2,10 @@
 use super::{expect_equal, tree};
 use calc_query::{CalcFault, Numbering, select};
 use calc_text::{AnswerKind, AnswerStyle, answer_text, read_layers, read_terms, set_text};
-use topo_tree::Layer;
+use cpu_set::CpuSet;
+use std::alloc::Global;
+use std::process::Abort;
+use topo_tree::{Layer, Tree};
 
 const PLAIN: &str = "Package:2 Core:2 PU:2";
 
@@ -12,19 +15,22 @@ const STYLE: AnswerStyle<'static> = AnswerStyle {
     separator: None,
 };
 
+fn expect_printed(rt: &impl Abort, alloc: Global, tree: &Tree, set: &CpuSet) {
+    let text = answer_text(alloc, tree, set, &AnswerKind::Largest, STYLE).expect(rt, "memory");
+    expect_equal(rt, "the largest", text.as_slice(), b"PU:4 Core:3");
+    let text = set_text(alloc, true, set).expect(rt, "memory");
+    expect_equal(rt, "taskset's form", text.as_slice(), b"0xd0");
+    let text = answer_text(alloc, tree, set, &AnswerKind::Set, STYLE).expect(rt, "memory");
+    expect_equal(rt, "the set", text.as_slice(), b"0x000000d0");
+}
+
 #[test]
 fn reads_and_prints(rt: HostRuntime) {
-    let alloc = rt.alloc();
-    let tree = tree(&rt, alloc, PLAIN);
+    let tree = tree(&rt, rt.alloc(), PLAIN);
     let words: [&[u8]; 2] = [b"package:1.core:0-", b"~pu:5"];
-    let terms = read_terms(alloc, &tree, &words).expect(&rt, "terms");
+    let terms = read_terms(rt.alloc(), &tree, &words).expect(&rt, "terms");
     let set = select(&tree, &terms, Numbering::Logical);
-    let text = answer_text(alloc, &tree, &set, &AnswerKind::Largest, STYLE).expect(&rt, "memory");
-    expect_equal(&rt, "the largest", text.as_slice(), b"PU:4 Core:3");
-    let text = set_text(alloc, true, &set).expect(&rt, "memory");
-    expect_equal(&rt, "taskset's form", text.as_slice(), b"0xd0");
-    let text = answer_text(alloc, &tree, &set, &AnswerKind::Set, STYLE).expect(&rt, "memory");
-    expect_equal(&rt, "the set", text.as_slice(), b"0x000000d0");
+    expect_printed(&rt, rt.alloc(), &tree, &set);
 }
 
 // Names with dots between, and their layers.
