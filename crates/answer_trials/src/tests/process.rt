@@ -4,8 +4,10 @@ use edge_io::{MemSink, MemSource, Sink, Source, SureSink, SureSource};
 use std::alloc::Global;
 use std::io;
 use std::io::ErrorKind;
-use std::process::ExitCode;
+use std::process::{Abort, ExitCode};
+use std::sync::Wait;
 use std::test::Fail;
+use std::thread::Threads;
 
 // A process with words, between which a bar stands.
 fn process<S: Source + Drop, K: Sink + Drop>(
@@ -22,59 +24,68 @@ fn process<S: Source + Drop, K: Sink + Drop>(
     Ok(Process::over(Ok(owned), input, output, errors))
 }
 
-// A process whose words can't be had for an error of this kind.
-fn wordless(
-    alloc: Global,
-    kind: ErrorKind,
-) -> Result<Process<SureSource, SureSink, SureSink>, Fail> {
-    let (output, errors) = (SureSink::new(alloc, 100)?, SureSink::new(alloc, 100)?);
-    let words = Err(io::Error::from(kind));
-    Ok(Process::over(words, source(alloc, b"")?, output, errors))
-}
-
 // A source with these bytes.
 fn source(alloc: Global, input: &[u8]) -> Result<SureSource, Fail> {
     Ok(SureSource::new(input.to_vec(alloc)?))
 }
 
+// Checks that a process with words and an input ends so: its exit code, and what its output and standard error then hold.
+fn serves<R: Threads + Wait + Sync + Abort, S: Source + Drop>(
+    rt: &R,
+    alloc: Global,
+    words: &str,
+    input: S,
+    told: (u8, &str, &str),
+) -> Result<(), Fail> {
+    let mut run = process(alloc, words, input, SureSink::new(alloc, 200)?)?;
+    let (code, out, err) = told;
+    assert_eq!(rt; run.serve(rt, alloc), ExitCode::from(code), "at {words}");
+    assert_eq!(rt; run.output().bytes(), out.as_bytes(), "at {words}");
+    assert_eq!(rt; run.errors().bytes(), err.as_bytes(), "at {words}");
+    Ok(())
+}
+
+// Words, the input, the exit code, and what is written to the output and to standard error: a run on a description, twenty words of which
+// the last decides, and a refused section.
+const CALLS: &[(&str, &str, u8, &str, &str)] = &[
+    (
+        "run|Core:2 PU:1",
+        "worker core:1 7\nget a\r\n\n",
+        0,
+        "turn 0 caller 0 pu 1 climb 0 tests 0 left 0 \"get a\\r\\n\" \"END\\r\\n\"\ncaller 0 pu 1 commands 1 rest 0\n",
+        "",
+    ),
+    (
+        "calc|--taskset|PU:20|pu:0|pu:1|pu:2|pu:3|pu:4|pu:5|pu:6|pu:7|pu:8|pu:9|pu:10|pu:11|pu:12|pu:13|pu:14|pu:15|~pu:0",
+        "",
+        0,
+        "0xfffe\n",
+        "",
+    ),
+    (
+        "run|PU:1",
+        "walker * 0\n\n",
+        3,
+        "",
+        "clof: section BadHead 0\n",
+    ),
+];
+
 #[test]
-fn runs_on_a_description(rt: HostRuntime) -> Result<(), Fail> {
+fn serves_calls(rt: HostRuntime) -> Result<(), Fail> {
     let alloc = rt.alloc();
-    let input = source(alloc, b"worker core:1 7\nget a\r\n\n")?;
-    let mut run = process(alloc, "run|Core:2 PU:1", input, SureSink::new(alloc, 200)?)?;
-    assert_eq!(&rt; run.serve(&rt, alloc), ExitCode::from(0));
-    let text =
-        b"turn 0 caller 0 pu 1 climb 0 tests 0 left 0 \"get a\\r\\n\" \"END\\r\\n\"\ncaller 0 pu 1 commands 1 rest 0\n";
-    assert_eq!(&rt; run.output().bytes(), text.as_slice());
-    assert_eq!(&rt; run.errors().bytes().len(), 0);
+    for (words, input, code, out, err) in CALLS {
+        let input = source(alloc, input.as_bytes())?;
+        serves(&rt, alloc, words, input, (*code, *out, *err))?;
+    }
     Ok(())
 }
 
 #[test]
-fn reads_each_of_twenty_words(rt: HostRuntime) -> Result<(), Fail> {
+fn tells_of_an_input_that_fails(rt: HostRuntime) -> Result<(), Fail> {
     let alloc = rt.alloc();
-    let words =
-        "calc|--taskset|PU:20|pu:0|pu:1|pu:2|pu:3|pu:4|pu:5|pu:6|pu:7|pu:8|pu:9|pu:10|pu:11|pu:12|pu:13|pu:14|pu:15|~pu:0";
-    let output = SureSink::new(alloc, 100)?;
-    let mut calc = process(alloc, words, source(alloc, b"")?, output)?;
-    assert_eq!(&rt; calc.serve(&rt, alloc), ExitCode::from(0));
-    assert_eq!(&rt; calc.output().bytes(), b"0xfffe\n".as_slice());
-    assert_eq!(&rt; calc.errors().bytes().len(), 0);
-    Ok(())
-}
-
-#[test]
-fn tells_of_a_refused_section(rt: HostRuntime) -> Result<(), Fail> {
-    let alloc = rt.alloc();
-    let input = source(alloc, b"walker * 0\n\n")?;
-    let mut run = process(alloc, "run|PU:1", input, SureSink::new(alloc, 100)?)?;
-    assert_eq!(&rt; run.serve(&rt, alloc), ExitCode::from(3));
-    assert_eq!(&rt; run.output().bytes().len(), 0);
-    assert_eq!(&rt;
-        run.errors().bytes(),
-        b"clof: section BadHead 0\n".as_slice()
-    );
-    Ok(())
+    let input = MemSource::new(b"worker * 0\n\n".to_vec(alloc)?, 8, [1].to_vec(alloc)?);
+    serves(&rt, alloc, "run", input, (5, "", "clof: read fault\n"))
 }
 
 #[test]
@@ -88,30 +99,32 @@ fn tells_of_a_full_output(rt: HostRuntime) -> Result<(), Fail> {
     Ok(())
 }
 
-#[test]
-fn tells_of_an_input_that_fails(rt: HostRuntime) -> Result<(), Fail> {
-    let alloc = rt.alloc();
-    let input = MemSource::new(b"worker * 0\n\n".to_vec(alloc)?, 8, [1].to_vec(alloc)?);
-    let mut run = process(alloc, "run", input, SureSink::new(alloc, 100)?)?;
-    assert_eq!(&rt; run.serve(&rt, alloc), ExitCode::from(5));
-    assert_eq!(&rt; run.output().bytes().len(), 0);
-    assert_eq!(&rt; run.errors().bytes(), b"clof: read fault\n".as_slice());
+// Checks how a process ends whose words can't be had for an error of this kind.
+fn ends_wordless<R: Threads + Wait + Sync + Abort>(
+    rt: &R,
+    alloc: Global,
+    kind: ErrorKind,
+    code: u8,
+    err: &str,
+) -> Result<(), Fail> {
+    let (output, errors) = (SureSink::new(alloc, 100)?, SureSink::new(alloc, 100)?);
+    let words = Err(io::Error::from(kind));
+    let mut wordless = Process::over(words, source(alloc, b"")?, output, errors);
+    assert_eq!(rt; wordless.serve(rt, alloc), ExitCode::from(code));
+    assert_eq!(rt; wordless.output().bytes().len(), 0);
+    assert_eq!(rt; wordless.errors().bytes(), err.as_bytes());
     Ok(())
 }
 
 #[test]
 fn tells_why_there_are_no_words(rt: HostRuntime) -> Result<(), Fail> {
     let alloc = rt.alloc();
-    let mut untold = wordless(alloc, ErrorKind::InvalidData)?;
-    assert_eq!(&rt; untold.serve(&rt, alloc), ExitCode::from(2));
-    assert_eq!(&rt; untold.output().bytes().len(), 0);
-    assert_eq!(&rt; untold.errors().bytes(), b"clof: usage\n".as_slice());
-    let mut wanting = wordless(alloc, ErrorKind::OutOfMemory)?;
-    assert_eq!(&rt; wanting.serve(&rt, alloc), ExitCode::from(7));
-    assert_eq!(&rt; wanting.output().bytes().len(), 0);
-    assert_eq!(&rt;
-        wanting.errors().bytes(),
-        b"clof: out of memory\n".as_slice()
-    );
-    Ok(())
+    ends_wordless(&rt, alloc, ErrorKind::InvalidData, 2, "clof: usage\n")?;
+    ends_wordless(
+        &rt,
+        alloc,
+        ErrorKind::OutOfMemory,
+        7,
+        "clof: out of memory\n",
+    )
 }
