@@ -1,8 +1,8 @@
 //! The top call over sources and sinks in memory.
 mod checks;
 mod cohorts;
-mod drills;
 mod faults;
+mod gates;
 mod kinds;
 mod plans;
 mod receipts;
@@ -15,107 +15,135 @@ use placed_runner::{Gate, OpenGate};
 use std::alloc::Global;
 use std::process::Abort;
 use std::sync::Wait;
-use std::sync::atomic::{AtomicU32, Ordering};
 use std::test::Fail;
 use std::thread::Threads;
 
-// How a call ended, what it wrote to the output, and what to standard error.
-#[derive(Drop)]
-struct Ended {
-    status: Status,
-    out: Vec<u8>,
-    err: Vec<u8>,
-}
+// A command line, the input, and what is printed.
+type Printed = (&'static str, &'static str, &'static str);
 
-// Texts of their own.
-fn owned(alloc: Global, words: &[&str]) -> Result<Vec<String>, Fail> {
-    let mut owned = Vec::new(alloc);
-    for word in words {
-        owned.push(String::from_str(alloc, word)?)?;
+// A command line, the input, how the program ends, and its line on standard error.
+type Refused = (&'static str, &'static str, Status, &'static str);
+
+// The words of a command line, of which some may stand between quotes and have spaces.
+fn words_of(alloc: Global, line: &str) -> Result<Vec<String>, Fail> {
+    let mut words = Vec::new(alloc);
+    for (number, part) in line.split('\'').enumerate() {
+        if number % 2 == 1 {
+            push(&mut words, alloc, part)?;
+        } else {
+            push_each(&mut words, alloc, part)?;
+        }
     }
-    Ok(owned)
+    Ok(words)
 }
 
-// Calls the program with a gate.
-fn call_with<R: Threads + Wait + Sync, G: Gate + Sync>(
+fn push(words: &mut Vec<String>, alloc: Global, word: &str) -> Result<(), Fail> {
+    words.push(String::from_str(alloc, word)?)?;
+    Ok(())
+}
+
+fn push_each(words: &mut Vec<String>, alloc: Global, part: &str) -> Result<(), Fail> {
+    for word in part.split(' ') {
+        if !word.is_empty() {
+            push(words, alloc, word)?;
+        }
+    }
+    Ok(())
+}
+
+// Calls the program with a gate, and checks how it ends and what it tells standard error. The answer has what it printed.
+fn call<R: Threads + Wait + Sync + Abort, G: Gate + Sync>(
     rt: &R,
     alloc: Global,
-    words: &[&str],
+    line: &str,
     input: &[u8],
     gate: &G,
-) -> Result<Ended, Fail> {
-    let words = owned(alloc, words)?;
+    ending: (Status, &str),
+) -> Result<SureSink, Fail> {
+    let words = words_of(alloc, line)?;
     let mut source = SureSource::new(input.to_vec(alloc)?);
     let mut out = SureSink::new(alloc, 100_000)?;
     let mut err = SureSink::new(alloc, 100)?;
     let status = top_with(rt, alloc, &words, &mut source, &mut out, &mut err, gate);
-    Ok(Ended {
-        status,
-        out: out.bytes().to_vec(alloc)?,
-        err: err.bytes().to_vec(alloc)?,
-    })
+    has_status(rt, line, status, ending.0);
+    has_text(rt, line, err.bytes(), ending.1);
+    Ok(out)
 }
 
-// Checks how the program ends, what it prints, and what it tells standard error.
-fn ends<R: Threads + Wait + Sync + Abort>(
-    rt: &R,
-    alloc: Global,
-    words: &[&str],
-    input: &[u8],
-    status: Status,
-    told: (&[u8], &[u8]),
-) -> Result<(), Fail> {
-    let ended = call_with(rt, alloc, words, input, &OpenGate)?;
-    assert_eq!(rt; ended.status, status);
-    assert_eq!(rt; ended.out.as_slice(), told.0);
-    assert_eq!(rt; ended.err.as_slice(), told.1);
-    Ok(())
+fn has_status(rt: &impl Abort, line: &str, status: Status, wanted: Status) {
+    assert_eq!(rt; status, wanted, "at {line}");
+}
+
+fn has_text(rt: &impl Abort, line: &str, text: &[u8], wanted: &str) {
+    assert_eq!(rt; text, wanted.as_bytes(), "at {line}");
+}
+
+// Checks what a text ends with.
+fn has_end(rt: &impl Abort, line: &str, text: &[u8], end: &str) {
+    let start = text.len().saturating_sub(end.len());
+    has_text(rt, line, &text[start..], end);
+}
+
+fn has_number(rt: &impl Abort, line: &str, number: usize, wanted: usize) {
+    assert_eq!(rt; number, wanted, "at {line}");
 }
 
 // Checks what the program prints.
 fn prints<R: Threads + Wait + Sync + Abort>(
     rt: &R,
     alloc: Global,
-    words: &[&str],
-    input: &[u8],
-    text: &[u8],
+    (line, input, text): (&str, &str, &str),
 ) -> Result<(), Fail> {
-    ends(rt, alloc, words, input, Status::Ok, (text, b""))
+    let out = call(
+        rt,
+        alloc,
+        line,
+        input.as_bytes(),
+        &OpenGate,
+        (Status::Ok, ""),
+    )?;
+    has_text(rt, line, out.bytes(), text);
+    Ok(())
 }
 
-// How often a part stands in a text.
-fn count_of(text: &[u8], part: &[u8]) -> usize {
-    let mut count: usize = 0;
-    for (place, _) in text.iter().enumerate() {
-        if text[place..].starts_with(part) {
-            count = count.wrapping_add(1);
-        }
+fn prints_each<R: Threads + Wait + Sync + Abort>(
+    rt: &R,
+    alloc: Global,
+    rows: &[Printed],
+) -> Result<(), Fail> {
+    for row in rows {
+        prints(rt, alloc, *row)?;
     }
-    count
+    Ok(())
 }
 
-// A gate that counts how often callers told it that they hold the lock.
-#[derive(Drop)]
-struct Counter {
-    inside: AtomicU32,
+// Checks with which code and status the program ends, its line on standard error, and that it prints nothing.
+fn refuses<R: Threads + Wait + Sync + Abort>(
+    rt: &R,
+    alloc: Global,
+    code: u8,
+    (line, input, status, told): (&str, &str, Status, &str),
+) -> Result<(), Fail> {
+    let out = call(rt, alloc, line, input.as_bytes(), &OpenGate, (status, told))?;
+    has_text(rt, line, out.bytes(), "");
+    has_number(rt, line, usize::from(status.code()), usize::from(code));
+    Ok(())
 }
 
-impl Counter {
-    fn new() -> Counter {
-        Counter {
-            inside: AtomicU32::new(0),
-        }
+fn refuses_each<R: Threads + Wait + Sync + Abort>(
+    rt: &R,
+    alloc: Global,
+    code: u8,
+    rows: &[Refused],
+) -> Result<(), Fail> {
+    for row in rows {
+        refuses(rt, alloc, code, *row)?;
     }
-
-    fn count(&self) -> u32 {
-        self.inside.load(Ordering::SeqCst)
-    }
+    Ok(())
 }
 
-impl Gate for Counter {
-    fn queued(&self, _caller: u32) {}
-
-    fn inside(&self, _caller: u32) {
-        self.inside.fetch_add(1, Ordering::SeqCst);
-    }
+// The input of callers who count together.
+fn counting(alloc: Global, callers: usize) -> Result<String, Fail> {
+    let section = "worker * 43\nadd n 0 0 1\r\n0\r\nget a\r\nincr n 1\r\nincr n 1\r\n\n";
+    Ok(section.repeat(alloc, callers)?)
 }

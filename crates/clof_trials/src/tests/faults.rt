@@ -1,118 +1,127 @@
 //! Streams that fail, and inputs that are cut.
-ghost use Rattle.std.specs.Prelude.{◌≤◌};
-
-use super::owned;
-use clof_tool::{Status, top, top_in_memory};
+use super::{call, has_end, has_status, has_text, words_of};
+use clof_tool::Status::{self, ReadFault, Usage, WriteFault};
+use clof_tool::{top, top_in_memory};
 use edge_io::{MemSink, MemSource, SureSink, SureSource};
+use placed_runner::OpenGate;
 use std::alloc::Global;
 use std::process::Abort;
 use std::sync::Wait;
 use std::test::Fail;
 use std::thread::Threads;
 
-// A read that fails, at whatever call: nothing is written.
-#[test]
-fn reads_fail_at_each_call(rt: HostRuntime) -> Result<(), Fail> {
-    let alloc = rt.alloc();
-    let input = b"worker * 23\nset a 5 0 1\r\nx\r\nget a\r\n\n";
-    let words = owned(alloc, &["run"])?;
-    for failing in 0..6 {
-        let mut source = MemSource::new(input.to_vec(alloc)?, 8, [failing].to_vec(alloc)?);
-        let mut out = SureSink::new(alloc, 1_000)?;
-        let mut err = SureSink::new(alloc, 100)?;
-        let status = top(&rt, alloc, &words, &mut source, &mut out, &mut err);
-        assert_eq!(rt; status, Status::ReadFault);
-        assert_eq!(rt; out.bytes().len(), 0);
-        assert_eq!(rt; err.bytes(), b"clof: read fault\n".as_slice());
-    }
-    Ok(())
+// Streams in memory: the source gives eight bytes a call, the output takes ten while it has room, and standard error takes all. Each fails
+// at the calls that are listed.
+#[derive(Clone, Copy)]
+struct Streams<'a> {
+    reads: &'a [u32],
+    room: usize,
+    writes: &'a [u32],
+    lines: &'a [u32],
 }
 
-const CUT_SHORT: &[u8] = b"worker * 5\nget a\n";
+const SURE: Streams<'static> = Streams {
+    reads: &[],
+    room: 1_000,
+    writes: &[],
+    lines: &[],
+};
 
-const CUT_SHORT_TEXT: &[u8] = b"caller 0 pu 0 commands 0 rest 5\n";
-
-// Checks how a run ends over an output with some room that takes ten bytes a call, and fails at some calls.
-fn stops<R: Threads + Wait + Sync + Abort>(
+// Checks over these streams how the program ends, and what the output and standard error have then.
+fn ends_over<R: Threads + Wait + Sync + Abort>(
     rt: &R,
     alloc: Global,
-    room: usize,
-    failing: Vec<u32>,
-    written: usize,
+    (line, input): (&str, &str),
+    streams: Streams<'_>,
+    (status, printed, told): (Status, &str, &str),
 ) -> Result<(), Fail> {
-    let words = owned(alloc, &["run"])?;
-    let mut source = SureSource::new(CUT_SHORT.to_vec(alloc)?);
-    let mut out = MemSink::new(alloc, room, 10, failing)?;
-    let mut err = SureSink::new(alloc, 100)?;
-    let status = top(rt, alloc, &words, &mut source, &mut out, &mut err);
-    assert_eq!(rt; status, Status::WriteFault { written });
-    assert!(rt; written < CUT_SHORT_TEXT.len());
-    assert!(rt; CUT_SHORT_TEXT.starts_with(out.bytes()));
-    assert_eq!(rt; out.bytes().len(), written);
+    let words = words_of(alloc, line)?;
+    let bytes = input.as_bytes().to_vec(alloc)?;
+    let mut source = MemSource::new(bytes, 8, streams.reads.to_vec(alloc)?);
+    let mut out = MemSink::new(alloc, streams.room, 10, streams.writes.to_vec(alloc)?)?;
+    let mut err = MemSink::new(alloc, 100, 100, streams.lines.to_vec(alloc)?)?;
+    let ended = top(rt, alloc, &words, &mut source, &mut out, &mut err);
+    has_status(rt, line, ended, status);
+    has_text(rt, line, out.bytes(), printed);
+    has_text(rt, line, err.bytes(), told);
     Ok(())
 }
 
-// A write that fails, at whatever call, and an output that is full: what was written before stays.
+// Checks that nothing is written where this read fails.
+fn fails_at<R: Threads + Wait + Sync + Abort>(
+    rt: &R,
+    alloc: Global,
+    call: (&str, &str),
+    read: u32,
+) -> Result<(), Fail> {
+    let streams = Streams {
+        reads: &[read],
+        ..SURE
+    };
+    ends_over(
+        rt,
+        alloc,
+        call,
+        streams,
+        (ReadFault, "", "clof: read fault\n"),
+    )
+}
+
+#[test]
+fn reads_fail_at_each_call(rt: HostRuntime) -> Result<(), Fail> {
+    let call = ("run", "worker * 23\nset a 5 0 1\r\nx\r\nget a\r\n\n");
+    for read in 0..6 {
+        fails_at(&rt, rt.alloc(), call, read)?;
+    }
+    Ok(())
+}
+
+#[test]
+fn a_read_fails(rt: HostRuntime) -> Result<(), Fail> {
+    for read in 0..3 {
+        fails_at(&rt, rt.alloc(), ("check", "input 3\nabc\nturn "), read)?;
+    }
+    Ok(())
+}
+
+// Writes that fail, and an output that is full: its room, the calls that fail, how many bytes were written, and which they are.
+const WRITES: &[(usize, &[u32], usize, &str, &str)] = &[
+    (100, &[0], 0, "", "clof: write fault 0\n"),
+    (100, &[1], 10, "caller 0 p", "clof: write fault 10\n"),
+    (
+        100,
+        &[2],
+        20,
+        "caller 0 pu 0 comman",
+        "clof: write fault 20\n",
+    ),
+    (
+        100,
+        &[3],
+        30,
+        "caller 0 pu 0 commands 0 rest ",
+        "clof: write fault 30\n",
+    ),
+    (12, &[], 12, "caller 0 pu ", "clof: write fault 12\n"),
+];
+
 #[test]
 fn writes_fail_at_each_call(rt: HostRuntime) -> Result<(), Fail> {
-    let alloc = rt.alloc();
-    for (failing, written) in [(0, 0), (1, 10), (2, 20), (3, 30)] {
-        stops(&rt, alloc, 100, [failing].to_vec(alloc)?, written)?;
-    }
-    stops(&rt, alloc, 12, Vec::new(alloc), 12)
-}
-
-// The commands of a section.
-const WHOLE: &[u8] =
-    b"set n 0 0 20\r\n18446744073709551615\r\nincr n 1\r\ndecr n 5\r\ncas n 0 0 1 1\r\n7\r\n\
-      cas n 0 0 1 3\r\n7\r\ngets n\r\nset n 0 0 1 noreply\r\n8\r\n";
-
-// Where each of them ends.
-const ENDS: [usize; 7] = [36, 46, 56, 74, 92, 100, 124];
-
-// The last line of a run of the section, cut behind so many bytes.
-fn last_line(alloc: Global, size: usize) -> Result<Vec<u8>, Fail> {
-    let (mut commands, mut behind) = (0_u64, 0_usize);
-    for end in ENDS {
-        if end <= size {
-            commands = commands.saturating_add(1);
-            behind = end;
-        }
-    }
-    let mut line = Vec::new(alloc);
-    line.extend_from_slice(b"caller 0 pu 0 commands ")?;
-    byte_text::push_decimal(&mut line, commands)?;
-    line.extend_from_slice(b" rest ")?;
-    byte_text::push_decimal(&mut line, size.saturating_sub(behind) as u64)?;
-    line.push(b'\n')?;
-    Ok(line)
-}
-
-// The section is cut behind so many bytes: what stands behind its last whole command is the rest.
-fn cut_at<R: Threads + Wait + Sync + Abort>(rt: &R, alloc: Global, size: usize) -> Result<(), Fail>
-    requires { size ≤ 124 }
-{
-    let mut input = Vec::new(alloc);
-    input.extend_from_slice(b"worker * ")?;
-    byte_text::push_decimal(&mut input, size as u64)?;
-    input.push(b'\n')?;
-    input.extend_from_slice(&WHOLE[..size])?;
-    input.push(b'\n')?;
-    let words = owned(alloc, &["run"])?;
-    let mut source = SureSource::new(input);
-    let mut out = SureSink::new(alloc, 2_000)?;
-    let mut err = SureSink::new(alloc, 100)?;
-    let status = top(rt, alloc, &words, &mut source, &mut out, &mut err);
-    assert_eq!(rt; status, Status::Ok);
-    let line = last_line(alloc, size)?;
-    assert!(rt; out.bytes().ends_with(&line));
-    Ok(())
-}
-
-#[test]
-fn cuts_a_section_behind_each_byte(rt: HostRuntime) -> Result<(), Fail> {
-    for size in 0..125 {
-        cut_at(&rt, rt.alloc(), size)?;
+    let call = ("run", "worker * 5\nget a\n");
+    for row in WRITES {
+        let (room, writes, written, printed, told) = *row;
+        let streams = Streams {
+            room,
+            writes,
+            ..SURE
+        };
+        ends_over(
+            &rt,
+            rt.alloc(),
+            call,
+            streams,
+            (WriteFault { written }, printed, told),
+        )?;
     }
     Ok(())
 }
@@ -120,15 +129,61 @@ fn cuts_a_section_behind_each_byte(rt: HostRuntime) -> Result<(), Fail> {
 // Standard error may fail: the call ends as it would.
 #[test]
 fn ends_as_well_where_standard_error_fails(rt: HostRuntime) -> Result<(), Fail> {
-    let alloc = rt.alloc();
-    let words = owned(alloc, &["frob"])?;
-    let mut source = SureSource::new(Vec::new(alloc));
-    let mut out = SureSink::new(alloc, 100)?;
-    let mut err = MemSink::new(alloc, 100, 100, [0].to_vec(alloc)?)?;
-    let status = top(&rt, alloc, &words, &mut source, &mut out, &mut err);
-    assert_eq!(rt; status, Status::Usage);
-    assert_eq!(rt; status.code(), 2);
-    assert_eq!(rt; err.bytes().len(), 0);
+    let streams = Streams {
+        lines: &[0],
+        ..SURE
+    };
+    ends_over(&rt, rt.alloc(), ("frob", ""), streams, (Usage, "", ""))
+}
+
+// The commands of a section.
+const WHOLE: &str =
+    "set n 0 0 20\r\n18446744073709551615\r\nincr n 1\r\ndecr n 5\r\ncas n 0 0 1 1\r\n7\r\n\
+     cas n 0 0 1 3\r\n7\r\ngets n\r\nset n 0 0 1 noreply\r\n8\r\n";
+
+// Where none, the first, the first two of them end, and so on, and where the next one ends.
+const ENDS: &[(usize, usize)] = &[
+    (0, 36),
+    (36, 46),
+    (46, 56),
+    (56, 74),
+    (74, 92),
+    (92, 100),
+    (100, 124),
+    (124, 125),
+];
+
+// Checks the last line of a run of the section, cut behind so many bytes: what stands behind its last whole command is the rest.
+fn cuts_at<R: Threads + Wait + Sync + Abort>(
+    rt: &R,
+    alloc: Global,
+    size: usize,
+    commands: usize,
+    rest: usize,
+) -> Result<(), Fail> {
+    let section = WHOLE.get(..size).ok_or("the section is shorter")?;
+    let input = format!(in alloc; "worker * {size}\n{section}\n")?;
+    let last = format!(in alloc; "caller 0 pu 0 commands {commands} rest {rest}\n")?;
+    let out = call(
+        rt,
+        alloc,
+        "run",
+        input.as_bytes(),
+        &OpenGate,
+        (Status::Ok, ""),
+    )?;
+    has_end(rt, &input, out.bytes(), &last);
+    Ok(())
+}
+
+#[test]
+fn cuts_a_section_behind_each_byte(rt: HostRuntime) -> Result<(), Fail> {
+    for (commands, ends) in ENDS.iter().enumerate() {
+        let (end, next) = *ends;
+        for size in end..next {
+            cuts_at(&rt, rt.alloc(), size, commands, size - end)?;
+        }
+    }
     Ok(())
 }
 
@@ -136,13 +191,13 @@ fn ends_as_well_where_standard_error_fails(rt: HostRuntime) -> Result<(), Fail> 
 #[test]
 fn writes_all_into_memory(rt: HostRuntime) -> Result<(), Fail> {
     let alloc = rt.alloc();
-    let words = owned(alloc, &["set", "0x1"])?;
+    let words = words_of(alloc, "set 0x1")?;
     let mut source = SureSource::new(Vec::new(alloc));
     let mut out = SureSink::new(alloc, 17)?;
     let mut err = SureSink::new(alloc, 100)?;
     let status = top_in_memory(&rt, alloc, &words, &mut source, &mut out, &mut err);
-    assert_eq!(rt; status, Status::Ok);
-    assert_eq!(rt; out.bytes(), b"0x00000001\n0\n0x1\n".as_slice());
-    assert_eq!(rt; err.bytes().len(), 0);
+    has_status(&rt, "set 0x1", status, Status::Ok);
+    has_text(&rt, "set 0x1", out.bytes(), "0x00000001\n0\n0x1\n");
+    has_text(&rt, "set 0x1", err.bytes(), "");
     Ok(())
 }

@@ -1,7 +1,6 @@
 //! Runs whose callers keep receipts of their turns.
-use super::checks::{counting, says};
-use super::threads::Meeting;
-use super::{call_with, ends, prints};
+use super::checks::says;
+use super::{Printed, call, counting, has_text, prints_each};
 use clof_tool::Status;
 use placed_runner::OpenGate;
 use std::alloc::Global;
@@ -10,128 +9,115 @@ use std::sync::Wait;
 use std::test::Fail;
 use std::thread::Threads;
 
-const FIVE: &str = "--levels=core,l3,die,package,machine";
-
-const MACHINE: &str = "Package:2 Die:1 L3Cache:2 Core:2 PU:1";
+const KEPT: &[Printed] = &[
+    (
+        "run --receipts",
+        "worker * 23\nset a 5 0 1\r\nx\r\nget a\r\n\n",
+        "turn 0 caller 0 pu 0 climb 0 tests 0 left 0 \"set a 5 0 1\\r\\nx\\r\\n\" \"STORED\\r\\n\"\n\
+         turn 1 caller 0 pu 0 climb 0 tests 0 left 0 \"get a\\r\\n\" \"VALUE a 5 1\\r\\nx\\r\\nEND\\r\\n\"\n\
+         caller 0 pu 0 commands 2 rest 0\n\
+         receipts 0 0 1\n",
+    ),
+    (
+        "run --receipts",
+        "worker * 0\n\n",
+        "caller 0 pu 0 commands 0 rest 0\nreceipts 0\n",
+    ),
+    ("run --receipts", "", ""),
+];
 
 #[test]
 fn one_caller_keeps_receipts(rt: HostRuntime) -> Result<(), Fail> {
-    let alloc = rt.alloc();
-    let words: &[&str] = &["run", "--receipts"];
-    let input = b"worker * 23\nset a 5 0 1\r\nx\r\nget a\r\n\n";
-    let text =
-        b"turn 0 caller 0 pu 0 climb 0 tests 0 left 0 \"set a 5 0 1\\r\\nx\\r\\n\" \"STORED\\r\\n\"\n\
-          turn 1 caller 0 pu 0 climb 0 tests 0 left 0 \"get a\\r\\n\" \"VALUE a 5 1\\r\\nx\\r\\nEND\\r\\n\"\n\
-          caller 0 pu 0 commands 2 rest 0\n\
-          receipts 0 0 1\n";
-    prints(&rt, alloc, words, input, text)?;
-    let text = b"caller 0 pu 0 commands 0 rest 0\nreceipts 0\n";
-    prints(&rt, alloc, words, b"worker * 0\n\n", text)?;
-    prints(&rt, alloc, words, b"", b"")
+    prints_each(&rt, rt.alloc(), KEPT)
 }
 
-#[test]
-fn a_walk_keeps_no_receipts(rt: HostRuntime) -> Result<(), Fail> {
-    let words = ["run", "--receipts", "--walk"];
-    let told = (b"".as_slice(), b"clof: usage\n".as_slice());
-    ends(&rt, rt.alloc(), &words, b"", Status::Usage, told)
-}
+// Runs of eight callers who count together, with the command lines of their checks, under one to five levels.
+const RUNS: &[(&str, &str)] = &[
+    (
+        "run --receipts --levels=machine --keep=2 'Package:2 Die:1 L3Cache:2 Core:2 PU:1'",
+        "check --levels=machine --keep=2 'Package:2 Die:1 L3Cache:2 Core:2 PU:1'",
+    ),
+    (
+        "run --receipts --levels=core,machine --keep=2 'Package:2 Die:1 L3Cache:2 Core:2 PU:1'",
+        "check --levels=core,machine --keep=2 'Package:2 Die:1 L3Cache:2 Core:2 PU:1'",
+    ),
+    (
+        "run --receipts --levels=core,package,machine --keep=2 'Package:2 Die:1 L3Cache:2 Core:2 PU:1'",
+        "check --levels=core,package,machine --keep=2 'Package:2 Die:1 L3Cache:2 Core:2 PU:1'",
+    ),
+    (
+        "run --receipts --levels=core,l3,package,machine --keep=2 'Package:2 Die:1 L3Cache:2 Core:2 PU:1'",
+        "check --levels=core,l3,package,machine --keep=2 'Package:2 Die:1 L3Cache:2 Core:2 PU:1'",
+    ),
+    (
+        "run --receipts --levels=core,l3,die,package,machine --keep=2 'Package:2 Die:1 L3Cache:2 Core:2 PU:1'",
+        "check --levels=core,l3,die,package,machine --keep=2 'Package:2 Die:1 L3Cache:2 Core:2 PU:1'",
+    ),
+];
 
-// Whichever of two callers holds first, its turn has the number 0.
-#[test]
-fn two_callers_meet_and_keep_receipts(rt: HostRuntime) -> Result<(), Fail> {
-    let one: &[u8] = b"turn 0 caller 0 pu 0 climb 0 tests 0 left 0 \"get a\\r\\n\" \"END\\r\\n\"\n\
-          turn 1 caller 1 pu 1 climb 0 tests 0 left 0 \"get a\\r\\n\" \"END\\r\\n\"\n\
-          caller 0 pu 0 commands 1 rest 0\n\
-          caller 1 pu 1 commands 1 rest 0\n\
-          receipts 0 0\n\
-          receipts 1 1\n";
-    let other: &[u8] =
-        b"turn 0 caller 1 pu 1 climb 0 tests 0 left 0 \"get a\\r\\n\" \"END\\r\\n\"\n\
-          turn 1 caller 0 pu 0 climb 0 tests 0 left 0 \"get a\\r\\n\" \"END\\r\\n\"\n\
-          caller 0 pu 0 commands 1 rest 0\n\
-          caller 1 pu 1 commands 1 rest 0\n\
-          receipts 0 1\n\
-          receipts 1 0\n";
-    let input = b"worker * 7\nget a\r\n\nworker * 7\nget a\r\n\n";
-    let meeting = Meeting::new();
-    let words = ["run", "--receipts", "PU:2"];
-    let ended = call_with(&rt, rt.alloc(), &words, input, &meeting)?;
-    assert_eq!(rt; ended.status, Status::Ok);
-    assert!(rt; ended.out.as_slice() == one || ended.out.as_slice() == other);
-    assert!(rt; meeting.met());
-    Ok(())
+// Checks that a run prints what a run prints, and behind it the receipts that its turns tell.
+fn keeps_receipts<R: Threads + Wait + Sync + Abort>(
+    rt: &R,
+    alloc: Global,
+    (run, check): (&str, &str),
+) -> Result<(), Fail> {
+    let input = counting(alloc, 8)?;
+    let out = call(
+        rt,
+        alloc,
+        run,
+        input.as_bytes(),
+        &OpenGate,
+        (Status::Ok, ""),
+    )?;
+    let printed = std::str::from_utf8(out.bytes())?;
+    let (text, receipts) = printed.split_once("receipts 0").ok_or("no receipts")?;
+    let told = told_by(alloc, text)?;
+    has_text(
+        rt,
+        run,
+        receipts.as_bytes(),
+        told.strip_prefix("receipts 0").ok_or("no caller")?,
+    );
+    says(rt, alloc, (check, &input, text, "yes\n"))
 }
 
 // The lines of receipts that the turns of a text tell, of eight callers.
-fn told(alloc: Global, text: &[u8]) -> Result<Vec<u8>, Fail> {
-    let mut lines = Vec::new(alloc);
-    for caller in 0_u64..8 {
-        lines.extend_from_slice(b"receipts ")?;
-        byte_text::push_decimal(&mut lines, caller)?;
-        push_turns(&mut lines, alloc, text, caller)?;
-        lines.push(b'\n')?;
+fn told_by(alloc: Global, text: &str) -> Result<String, Fail> {
+    let mut lines = String::new(alloc);
+    for caller in 0..8 {
+        lines.push_str(&receipts_of(alloc, text, caller)?)?;
     }
     Ok(lines)
 }
 
-// The numbers of a caller's turns, each behind a space.
-fn push_turns(lines: &mut Vec<u8>, alloc: Global, text: &[u8], caller: u64) -> Result<(), Fail> {
-    for (number, line) in text.split(|byte| *byte == b'\n').enumerate() {
-        let mut front = Vec::new(alloc);
-        front.extend_from_slice(b"turn ")?;
-        byte_text::push_decimal(&mut front, number as u64)?;
-        front.extend_from_slice(b" caller ")?;
-        byte_text::push_decimal(&mut front, caller)?;
-        front.push(b' ')?;
-        if line.starts_with(&front) {
-            lines.push(b' ')?;
-            byte_text::push_decimal(lines, number as u64)?;
+// The line of a caller, with the numbers of its turns.
+fn receipts_of(alloc: Global, text: &str, caller: u32) -> Result<String, Fail> {
+    let mut line = format!(in alloc; "receipts {caller}")?;
+    for (number, turn) in text.lines().enumerate() {
+        if is_of(alloc, turn, number, caller)? {
+            push_number(&mut line, alloc, number)?;
         }
     }
-    Ok(())
+    line.push('\n')?;
+    Ok(line)
 }
 
-// Checks that a run under a plan prints what a run prints, and behind it the receipts that its turns tell.
-fn keeps_receipts<R: Threads + Wait + Sync + Abort>(
-    rt: &R,
-    alloc: Global,
-    levels: &str,
-) -> Result<(), Fail> {
-    let input = counting(alloc)?;
-    let words = ["run", "--receipts", levels, "--keep=2", MACHINE];
-    let ended = call_with(rt, alloc, &words, &input, &OpenGate)?;
-    assert_eq!(rt; ended.status, Status::Ok);
-    let mut end: usize = 0;
-    for (place, _) in ended.out.iter().enumerate() {
-        if ended.out[..place].ends_with(b"\n") && ended.out[place..].starts_with(b"receipts 0") {
-            end = place;
-        }
-    }
-    let Some((text, receipts)) = ended.out.split_at_checked(end) else {
-        panic!(rt; "no receipts");
-    };
-    assert_eq!(rt; receipts, told(alloc, text)?.as_slice());
-    says(
-        rt,
-        alloc,
-        &["check", levels, "--keep=2", MACHINE],
-        &input,
-        text,
-        b"yes\n",
-    )
+// Whether a line is the turn of this number, and a caller's.
+fn is_of(alloc: Global, line: &str, number: usize, caller: u32) -> Result<bool, Fail> {
+    let front = format!(in alloc; "turn {number} caller {caller} ")?;
+    Ok(line.as_bytes().starts_with(front.as_bytes()))
+}
+
+fn push_number(line: &mut String, alloc: Global, number: usize) -> Result<(), Fail> {
+    line.push_str(&format!(in alloc; " {number}")?)?;
+    Ok(())
 }
 
 #[test]
 fn callers_keep_receipts_under_each_depth(rt: HostRuntime) -> Result<(), Fail> {
-    for levels in [
-        "--levels=machine",
-        "--levels=core,machine",
-        "--levels=core,package,machine",
-        "--levels=core,l3,package,machine",
-        FIVE,
-    ] {
-        keeps_receipts(&rt, rt.alloc(), levels)?;
+    for row in RUNS {
+        keeps_receipts(&rt, rt.alloc(), *row)?;
     }
     Ok(())
 }

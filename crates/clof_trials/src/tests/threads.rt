@@ -1,140 +1,202 @@
-//! Runs on threads under the lock of a plan.
-use super::{Counter, call_with, count_of};
+//! Runs on threads, whose turns come as it happens, through gates that are told of them.
+use super::gates::{Counter, Meeting};
+use super::{call, counting, has_number, has_text};
 use clof_tool::Status;
-use crossbeam_utils::Backoff;
-use placed_runner::Gate;
-use std::sync::atomic::{AtomicU32, Ordering};
+use std::alloc::Global;
+use std::process::Abort;
+use std::sync::Wait;
 use std::test::Fail;
+use std::thread::Threads;
 
-// How often the first holder looks whether the other caller is queued.
-const LOOKS: u64 = 10_000_000;
+const TWO_GETS: &str = "worker * 7\nget a\r\n\nworker * 7\nget a\r\n\n";
 
-// A gate at which the first of two callers that holds waits until the other is queued.
-#[derive(Drop)]
-pub(super) struct Meeting {
-    queued: [AtomicU32; 2],
-    inside: [AtomicU32; 2],
-    holds: AtomicU32,
-    missed: AtomicU32,
-}
+// Command lines of two callers who meet, and what is printed where the first of them holds first, and where the second does.
+const MEETINGS: &[(&str, &str, &str)] = &[
+    // Whichever of two callers in a package holds first keeps the lock for the other, which is queued by then.
+    (
+        "run --levels package,machine --locks mcs-mcs --keep 1 'Package:1 Core:2 PU:1'",
+        "turn 0 caller 0 pu 0 climb 1 tests 1 left 0 \"get a\\r\\n\" \"END\\r\\n\"\n\
+         turn 1 caller 1 pu 1 climb 0 tests 0 left 1 \"get a\\r\\n\" \"END\\r\\n\"\n\
+         caller 0 pu 0 commands 1 rest 0\n\
+         caller 1 pu 1 commands 1 rest 0\n",
+        "turn 0 caller 1 pu 1 climb 1 tests 1 left 0 \"get a\\r\\n\" \"END\\r\\n\"\n\
+         turn 1 caller 0 pu 0 climb 0 tests 0 left 1 \"get a\\r\\n\" \"END\\r\\n\"\n\
+         caller 0 pu 0 commands 1 rest 0\n\
+         caller 1 pu 1 commands 1 rest 0\n",
+    ),
+    // Two threads serve two callers at the same time.
+    (
+        "run --threads 2 PU:2",
+        "turn 0 caller 0 pu 0 climb 0 tests 0 left 0 \"get a\\r\\n\" \"END\\r\\n\"\n\
+         turn 1 caller 1 pu 1 climb 0 tests 0 left 0 \"get a\\r\\n\" \"END\\r\\n\"\n\
+         caller 0 pu 0 commands 1 rest 0\n\
+         caller 1 pu 1 commands 1 rest 0\n",
+        "turn 0 caller 1 pu 1 climb 0 tests 0 left 0 \"get a\\r\\n\" \"END\\r\\n\"\n\
+         turn 1 caller 0 pu 0 climb 0 tests 0 left 0 \"get a\\r\\n\" \"END\\r\\n\"\n\
+         caller 0 pu 0 commands 1 rest 0\n\
+         caller 1 pu 1 commands 1 rest 0\n",
+    ),
+    // Whichever holds first, its turn has the number 0 in its receipts.
+    (
+        "run --receipts PU:2",
+        "turn 0 caller 0 pu 0 climb 0 tests 0 left 0 \"get a\\r\\n\" \"END\\r\\n\"\n\
+         turn 1 caller 1 pu 1 climb 0 tests 0 left 0 \"get a\\r\\n\" \"END\\r\\n\"\n\
+         caller 0 pu 0 commands 1 rest 0\n\
+         caller 1 pu 1 commands 1 rest 0\n\
+         receipts 0 0\n\
+         receipts 1 1\n",
+        "turn 0 caller 1 pu 1 climb 0 tests 0 left 0 \"get a\\r\\n\" \"END\\r\\n\"\n\
+         turn 1 caller 0 pu 0 climb 0 tests 0 left 0 \"get a\\r\\n\" \"END\\r\\n\"\n\
+         caller 0 pu 0 commands 1 rest 0\n\
+         caller 1 pu 1 commands 1 rest 0\n\
+         receipts 0 1\n\
+         receipts 1 0\n",
+    ),
+];
 
-impl Meeting {
-    pub(super) fn new() -> Meeting {
-        Meeting {
-            queued: [AtomicU32::new(0), AtomicU32::new(0)],
-            inside: [AtomicU32::new(0), AtomicU32::new(0)],
-            holds: AtomicU32::new(0),
-            missed: AtomicU32::new(0),
-        }
-    }
-
-    // Whether the two met, and each told once that it is queued and once that it holds.
-    pub(super) fn met(&self) -> bool {
-        let mut all = self.missed.load(Ordering::SeqCst) == 0;
-        for told in [&self.queued, &self.inside] {
-            for caller in 0..2 {
-                all = all && of(told, caller).load(Ordering::SeqCst) == 1;
-            }
-        }
-        all
-    }
-}
-
-// That of a caller, of two.
-fn of(both: &[AtomicU32; 2], caller: u32) -> &AtomicU32 {
-    match caller {
-        0 => &both[0],
-        _ => &both[1],
-    }
-}
-
-impl Gate for Meeting {
-    fn queued(&self, caller: u32) {
-        of(&self.queued, caller).fetch_add(1, Ordering::SeqCst);
-    }
-
-    fn inside(&self, caller: u32) {
-        of(&self.inside, caller).fetch_add(1, Ordering::SeqCst);
-        if self.holds.fetch_add(1, Ordering::SeqCst) > 0 {
-            return;
-        }
-        let other = of(&self.queued, 1 - caller.min(1));
-        let backoff = Backoff::new();
-        for _ in 0..LOOKS {
-            if other.load(Ordering::SeqCst) > 0 {
-                return;
-            }
-            backoff.snooze();
-        }
-        self.missed.store(1, Ordering::SeqCst);
-    }
-}
-
-// Whichever of two callers in a package holds first keeps the lock for the other, which is queued by then.
-#[test]
-fn two_callers_meet_under_two_levels(rt: HostRuntime) -> Result<(), Fail> {
-    let words = [
-        "run",
-        "--levels",
-        "package,machine",
-        "--locks",
-        "mcs-mcs",
-        "--keep",
-        "1",
-        "Package:1 Core:2 PU:1",
-    ];
-    let input = b"worker * 7\nget a\r\n\nworker * 7\nget a\r\n\n";
-    let one: &[u8] = b"turn 0 caller 0 pu 0 climb 1 tests 1 left 0 \"get a\\r\\n\" \"END\\r\\n\"\n\
-          turn 1 caller 1 pu 1 climb 0 tests 0 left 1 \"get a\\r\\n\" \"END\\r\\n\"\n\
-          caller 0 pu 0 commands 1 rest 0\n\
-          caller 1 pu 1 commands 1 rest 0\n";
-    let other: &[u8] =
-        b"turn 0 caller 1 pu 1 climb 1 tests 1 left 0 \"get a\\r\\n\" \"END\\r\\n\"\n\
-          turn 1 caller 0 pu 0 climb 0 tests 0 left 1 \"get a\\r\\n\" \"END\\r\\n\"\n\
-          caller 0 pu 0 commands 1 rest 0\n\
-          caller 1 pu 1 commands 1 rest 0\n";
-    let meeting = Meeting::new();
-    let ended = call_with(&rt, rt.alloc(), &words, input, &meeting)?;
-    assert_eq!(rt; ended.status, Status::Ok);
-    assert!(rt; ended.out.as_slice() == one || ended.out.as_slice() == other);
-    assert!(rt; meeting.met());
+// Checks that two callers meet, and that what is printed is one of two texts.
+fn meet<R: Threads + Wait + Sync + Abort>(
+    rt: &R,
+    alloc: Global,
+    (line, one, other): (&str, &str, &str),
+) -> Result<(), Fail> {
+    let gate = Meeting::new();
+    let out = call(
+        rt,
+        alloc,
+        line,
+        TWO_GETS.as_bytes(),
+        &gate,
+        (Status::Ok, ""),
+    )?;
+    is_either(rt, line, out.bytes(), one, other);
+    have_met(rt, line, &gate);
     Ok(())
 }
 
-// Eight callers under three levels: each command is answered once, and its caller held the lock for it.
+fn is_either(rt: &impl Abort, line: &str, text: &[u8], one: &str, other: &str) {
+    assert!(rt;
+        text == one.as_bytes() || text == other.as_bytes(),
+        "at {line}"
+    );
+}
+
+fn have_met(rt: &impl Abort, line: &str, gate: &Meeting) {
+    assert!(rt; gate.met(), "at {line}");
+}
+
 #[test]
-fn eight_callers_under_three_levels(rt: HostRuntime) -> Result<(), Fail> {
-    let words = [
-        "run",
-        "--levels",
-        "core,l3,machine",
-        "--locks",
-        "clh-tkt-mcs",
-        "--keep",
-        "2,1",
-        "Package:2 Die:1 L3Cache:2 Core:2 PU:1",
-    ];
-    let mut input = Vec::new(rt.alloc());
-    for _ in 0..8 {
-        input.extend_from_slice(
-            b"worker * 43\nadd n 0 0 1\r\n0\r\nget a\r\nincr n 1\r\nincr n 1\r\n\n",
-        )?;
+fn two_callers_meet(rt: HostRuntime) -> Result<(), Fail> {
+    for row in MEETINGS {
+        meet(&rt, rt.alloc(), *row)?;
     }
-    let counter = Counter::new();
-    let ended = call_with(&rt, rt.alloc(), &words, &input, &counter)?;
-    assert_eq!(rt; ended.status, Status::Ok);
-    assert_eq!(rt; counter.count(), 32);
-    assert_eq!(rt; count_of(&ended.out, b"turn "), 32);
-    assert_eq!(rt; count_of(&ended.out, b" \"STORED\\r\\n\"\n"), 1);
-    assert_eq!(rt; count_of(&ended.out, b" \"NOT_STORED\\r\\n\"\n"), 7);
-    assert_eq!(rt;
-        count_of(&ended.out, b" \"get a\\r\\n\" \"END\\r\\n\"\n"),
-        8
-    );
-    assert_eq!(rt;
-        count_of(&ended.out, b" \"incr n 1\\r\\n\" \"16\\r\\n\"\n"),
-        1
-    );
-    assert_eq!(rt; count_of(&ended.out, b" commands 4 rest 0\n"), 8);
+    Ok(())
+}
+
+// A command line of callers who count together, how many callers and holds there are, and how often parts stand in what is printed.
+type Tally = (&'static str, usize, usize, &'static [(&'static str, usize)]);
+
+// Each command is answered once, and its caller held the lock for it.
+const COUNTED: &[Tally] = &[
+    (
+        "run --levels core,l3,machine --locks clh-tkt-mcs --keep 2,1 'Package:2 Die:1 L3Cache:2 Core:2 PU:1'",
+        8,
+        32,
+        &[
+            ("turn ", 32),
+            (" \"STORED\\r\\n\"\n", 1),
+            (" \"NOT_STORED\\r\\n\"\n", 7),
+            (" \"get a\\r\\n\" \"END\\r\\n\"\n", 8),
+            (" \"incr n 1\\r\\n\" \"16\\r\\n\"\n", 1),
+            (" commands 4 rest 0\n", 8),
+        ],
+    ),
+    // Callers in four packages who share three threads.
+    (
+        "run --levels core,package,machine --locks clh-tkt-mcs --keep 2,1 --threads 3 --quantum 3 'Package:4 Core:3 PU:1'",
+        12,
+        48,
+        &[
+            ("turn ", 48),
+            (" \"STORED\\r\\n\"\n", 1),
+            (" \"incr n 1\\r\\n\" \"24\\r\\n\"\n", 1),
+            (" commands 4 rest 0\n", 12),
+        ],
+    ),
+];
+
+// Checks how often callers hold, and how often each part stands in what is printed.
+fn count<R: Threads + Wait + Sync + Abort>(
+    rt: &R,
+    alloc: Global,
+    (line, callers, holds, parts): Tally,
+) -> Result<(), Fail> {
+    let gate = Counter::new();
+    let input = counting(alloc, callers)?;
+    let out = call(rt, alloc, line, input.as_bytes(), &gate, (Status::Ok, ""))?;
+    has_number(rt, line, gate.count(), holds);
+    has_parts(rt, std::str::from_utf8(out.bytes())?, parts);
+    Ok(())
+}
+
+// Checks how often parts stand in a text.
+fn has_parts(rt: &impl Abort, text: &str, parts: &[(&str, usize)]) {
+    for row in parts {
+        let (part, times) = *row;
+        has_number(rt, part, text.matches(part).count(), times);
+    }
+}
+
+#[test]
+fn each_command_is_a_hold(rt: HostRuntime) -> Result<(), Fail> {
+    for row in COUNTED {
+        count(&rt, rt.alloc(), *row)?;
+    }
+    Ok(())
+}
+
+// Lines with an input and a text, and how often callers tell the gate that they hold.
+const HELD: &[(&str, &str, &str, usize)] = &[
+    // The sums were made by a plain script. Each command is a hold of its own.
+    (
+        "drill 7",
+        "",
+        "drill 7 callers 64 commands 20512\n\
+         k0 1257500\nk1 1240000\nk2 1242500\nk3 1245000\n\
+         k4 1247500\nk5 1250000\nk6 1252500\nk7 1255000\n",
+        20_512,
+    ),
+    // Under one lock the callers of a walk take turns. It tells no gate of them.
+    (
+        "run --walk PU:2",
+        "worker * 23\nset k 0 0 1\r\na\r\nget k\r\n\nworker * 23\nset k 0 0 1\r\nb\r\nget k\r\n\n",
+        "turn 0 caller 0 pu 0 climb 0 tests 0 left 0 \"set k 0 0 1\\r\\na\\r\\n\" \"STORED\\r\\n\"\n\
+         turn 1 caller 1 pu 1 climb 0 tests 0 left 0 \"set k 0 0 1\\r\\nb\\r\\n\" \"STORED\\r\\n\"\n\
+         turn 2 caller 0 pu 0 climb 0 tests 0 left 0 \"get k\\r\\n\" \"VALUE k 0 1\\r\\nb\\r\\nEND\\r\\n\"\n\
+         turn 3 caller 1 pu 1 climb 0 tests 0 left 0 \"get k\\r\\n\" \"VALUE k 0 1\\r\\nb\\r\\nEND\\r\\n\"\n\
+         caller 0 pu 0 commands 2 rest 0\n\
+         caller 1 pu 1 commands 2 rest 0\n",
+        0,
+    ),
+];
+
+// Checks what is printed, and how often callers hold.
+fn hold<R: Threads + Wait + Sync + Abort>(
+    rt: &R,
+    alloc: Global,
+    (line, input, text, holds): (&str, &str, &str, usize),
+) -> Result<(), Fail> {
+    let gate = Counter::new();
+    let out = call(rt, alloc, line, input.as_bytes(), &gate, (Status::Ok, ""))?;
+    has_text(rt, line, out.bytes(), text);
+    has_number(rt, line, gate.count(), holds);
+    Ok(())
+}
+
+#[test]
+fn drills_and_walks_tell_a_gate(rt: HostRuntime) -> Result<(), Fail> {
+    for row in HELD {
+        hold(&rt, rt.alloc(), *row)?;
+    }
     Ok(())
 }
