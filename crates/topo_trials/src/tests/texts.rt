@@ -19,7 +19,7 @@ fn expect_topology(rt: &impl Abort, alloc: Global, topology: &Topology, wanted: 
     expect_text(rt, &topology.show(alloc).expect(rt, "memory"), wanted.1);
 }
 
-pub fn expect_text(rt: &impl Abort, found: &[u8], wanted: &str) {
+pub(super) fn expect_text(rt: &impl Abort, found: &[u8], wanted: &str) {
     expect_equal(rt, wanted, found, wanted.as_bytes());
 }
 
