@@ -2,7 +2,7 @@
 ghost use Rattle.std.specs.Prelude.{◌≡◌, ◌+◌, ◌<◌, ◌^◌, IfSome, length};
 ghost use Rattle.keep_local.specs.Shapes.{IsWellFormed, callers_of, top_of};
 
-use keep_local::Shape;
+use keep_local::{Shape, Trail};
 use level_harness::shape_of;
 use lock_levels::LockKind::{Clh, Hem, Mcs, Tkt};
 use lock_levels::{LockKind, Plan};
@@ -10,7 +10,10 @@ use own_payload::Serves;
 use own_runner::{run, serve};
 use sequence::Sequence;
 use std::alloc::Global;
+use std::process::Abort;
+use std::sync::Wait;
 use std::sync::atomic::{AtomicU32, Ordering};
+use std::thread::Threads;
 
 /// The value: how often the lock was held, how often by each caller, and the sum of the tasks.
 #[derive(Drop)]
@@ -99,30 +102,31 @@ fn made(alloc: Global, setting: &Setting<'_>) -> Option<(Shape, Plan)>
     Some((shape, plan))
 }
 
+fn has_counts(rt: &impl Abort, counts: &Counts, all: u64, sum: u64) {
+    assert!(rt; counts.all == all && counts.sum == sum);
+}
+
+/// How often each caller holds, 650 times in all.
+const QUOTAS: [u32; 4] = [100, 0, 300, 250];
+
+fn has_held(rt: &impl Abort, trail: &Trail, counts: &Counts) {
+    assert!(rt; trail.is_recorded() && trail.turns().len() == 650);
+    assert!(rt; counts.by_caller == [100, 0, 300, 250]);
+}
+
 #[test]
 fn each_caller_holds_as_often_as_its_quota(rt: HostRuntime) {
     for setting in &SETTINGS {
         let Some((shape, plan)) = made(rt.alloc(), setting) else {
             panic!(rt; "there was no memory")
         };
-        let quotas = [100, 0, 300, 250];
         let work = |counts: &mut Counts, caller: u32| counts.add(caller, 2);
-        let Some(root) = run(
-            &rt,
-            rt.alloc(),
-            &plan,
-            &shape,
-            &quotas,
-            Counts::new(),
-            &work,
-        ) else {
+        let new = Counts::new();
+        let Some(root) = run(&rt, rt.alloc(), &plan, &shape, &QUOTAS, new, &work) else {
             panic!(rt; "there was no memory")
         };
-        let (trail, noted) = root.into_parts();
-        assert!(rt; trail.turns().len() == 650);
-        assert!(rt; noted.value.all == 650);
-        assert!(rt; noted.value.by_caller == [100, 0, 300, 250]);
-        assert!(rt; noted.value.sum == 1300);
+        has_counts(&rt, &root.payload().value, 650, 1300);
+        has_held(&rt, root.trail(), &root.payload().value);
     }
 }
 
@@ -170,37 +174,36 @@ impl Serves<Counts> for Tasks {
     }
 }
 
-#[test]
-fn callers_go_on_until_no_task_is_left(rt: HostRuntime) {
+fn has_told(rt: &impl Abort, tasks: &Tasks, answers: u32) {
+    assert!(rt; tasks.told.load(Ordering::SeqCst) == answers);
+}
+
+fn has_last(rt: &impl Abort, trail: &Trail, is_some: bool) {
+    assert!(rt; !trail.is_recorded() && trail.last().is_some() == is_some);
+}
+
+/// Checks under each lock that the tasks below a limit are applied once, and their answers told once. They have this sum.
+fn serves<R: Threads + Wait + Sync + Abort>(rt: &R, alloc: Global, limit: u32, sum: u64) {
     for setting in &SETTINGS {
-        let Some((shape, plan)) = made(rt.alloc(), setting) else {
+        let Some((shape, plan)) = made(alloc, setting) else {
             panic!(rt; "there was no memory")
         };
-        let tasks = Tasks::new(1000);
-        let Some(root) = serve(&rt, rt.alloc(), &plan, &shape, Counts::new(), &tasks) else {
+        let tasks = Tasks::new(limit);
+        let Some(root) = serve(rt, alloc, &plan, &shape, Counts::new(), &tasks) else {
             panic!(rt; "there was no memory")
         };
-        let (trail, noted) = root.into_parts();
-        assert!(rt; !trail.is_recorded());
-        assert!(rt; trail.last().is_some());
-        assert!(rt; noted.value.all == 1000);
-        assert!(rt; noted.value.sum == 499_500);
-        assert!(rt; tasks.told.load(Ordering::SeqCst) == 1000);
+        has_counts(rt, &root.payload().value, u64::from(limit), sum);
+        has_told(rt, &tasks, limit);
+        has_last(rt, root.trail(), limit > 0);
     }
 }
 
 #[test]
+fn callers_go_on_until_no_task_is_left(rt: HostRuntime) {
+    serves(&rt, rt.alloc(), 1000, 499_500);
+}
+
+#[test]
 fn no_task_is_no_turn(rt: HostRuntime) {
-    for setting in &SETTINGS {
-        let Some((shape, plan)) = made(rt.alloc(), setting) else {
-            panic!(rt; "there was no memory")
-        };
-        let tasks = Tasks::new(0);
-        let Some(root) = serve(&rt, rt.alloc(), &plan, &shape, Counts::new(), &tasks) else {
-            panic!(rt; "there was no memory")
-        };
-        let (trail, noted) = root.into_parts();
-        assert!(rt; trail.last().is_none());
-        assert!(rt; noted.value.all == 0);
-    }
+    serves(&rt, rt.alloc(), 0, 0);
 }
