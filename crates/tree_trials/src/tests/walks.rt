@@ -1,96 +1,112 @@
 //! The turns of walks, in their order, by hand and by the plain model in bench/walk_model.py.
-use super::{Setting, has_turns, told, tried, turn, turns_in};
+use super::{Setting, Walk, has_walked, is_turn, tried, turns_in, walks_each};
 use keep_local::Turn;
 use lock_levels::LockKind::{self, Clh, Hem, Mcs, Tkt};
+use std::process::Abort;
 use tree_harness::Trial;
 
-#[test]
-fn two_callers_take_turns_at_one_level(rt: HostRuntime) {
-    for kind in [Tkt, Mcs, Clh, Hem] {
-        let setting = Setting {
-            kinds: &[kind],
+/// Two callers take turns at one level of this kind.
+const fn at_one_level(kinds: &'static [LockKind]) -> Walk {
+    Walk {
+        setting: Setting {
+            kinds,
             paths: &[&[0], &[0]],
             keeps: &[],
             quotas: &[2, 1],
-        };
-        let Some(outcome) = tried(&rt, rt.alloc(), &setting, Trial::Walk(&[])) else {
-            panic!(rt; "there was no memory")
-        };
-        let turns = [turn(0, 0, 0, 0), turn(1, 0, 0, 0), turn(0, 0, 0, 0)];
-        assert!(rt; has_turns(&outcome.root, &turns));
-        assert!(rt; told(&outcome, &[0, 0]));
+        },
+        order: &[],
+        stood: &[],
+        turns: &[(0, 0, 0, 0), (1, 0, 0, 0), (0, 0, 0, 0)],
+        told: &[0, 0],
     }
 }
 
 #[test]
-fn a_node_of_two_hands_the_lock_over_once(rt: HostRuntime) {
-    let setting = Setting {
+fn two_callers_take_turns_at_one_level(rt: HostRuntime) {
+    let walks = [
+        at_one_level(&[Tkt]),
+        at_one_level(&[Mcs]),
+        at_one_level(&[Clh]),
+        at_one_level(&[Hem]),
+    ];
+    walks_each(&rt, rt.alloc(), &walks);
+}
+
+/// A node of two hands the lock over once.
+const HANDED_OVER: Walk = Walk {
+    setting: Setting {
         kinds: &[Mcs, Mcs],
         paths: &[&[0, 0], &[0, 0]],
         keeps: &[1],
         quotas: &[1, 1],
-    };
-    let Some(outcome) = tried(&rt, rt.alloc(), &setting, Trial::Walk(&[])) else {
-        panic!(rt; "there was no memory")
-    };
-    let turns = [turn(0, 1, 1, 0), turn(1, 0, 0, 1)];
-    assert!(rt; has_turns(&outcome.root, &turns));
-    assert!(rt; told(&outcome, &[1, 0]));
-}
+    },
+    order: &[],
+    stood: &[],
+    turns: &[(0, 1, 1, 0), (1, 0, 0, 1)],
+    told: &[1, 0],
+};
 
-#[test]
-fn a_node_that_keeps_none_lets_go(rt: HostRuntime) {
-    let setting = Setting {
+/// A node that keeps none lets go.
+const LET_GO: Walk = Walk {
+    setting: Setting {
         kinds: &[Mcs, Mcs],
         paths: &[&[0, 0], &[0, 0]],
         keeps: &[0],
         quotas: &[1, 1],
-    };
-    let Some(outcome) = tried(&rt, rt.alloc(), &setting, Trial::Walk(&[])) else {
-        panic!(rt; "there was no memory")
-    };
-    let turns = [turn(0, 1, 1, 1), turn(1, 1, 0, 1)];
-    assert!(rt; has_turns(&outcome.root, &turns));
-    assert!(rt; told(&outcome, &[1, 0]));
-}
+    },
+    order: &[],
+    stood: &[],
+    turns: &[(0, 1, 1, 1), (1, 1, 0, 1)],
+    told: &[1, 0],
+};
 
-#[test]
-fn a_node_of_three_lets_go_at_its_threshold(rt: HostRuntime) {
-    let setting = Setting {
+/// A node of three lets go at its threshold.
+const AT_THRESHOLD: Walk = Walk {
+    setting: Setting {
         kinds: &[Mcs, Mcs],
         paths: &[&[0, 0], &[0, 0], &[0, 0]],
         keeps: &[1],
         quotas: &[1, 1, 1],
-    };
-    let Some(outcome) = tried(&rt, rt.alloc(), &setting, Trial::Walk(&[])) else {
-        panic!(rt; "there was no memory")
-    };
-    let turns = [turn(0, 1, 1, 0), turn(1, 0, 1, 1), turn(2, 1, 0, 1)];
-    assert!(rt; has_turns(&outcome.root, &turns));
-    assert!(rt; told(&outcome, &[1, 1, 0]));
+    },
+    order: &[],
+    stood: &[],
+    turns: &[(0, 1, 1, 0), (1, 0, 1, 1), (2, 1, 0, 1)],
+    told: &[1, 1, 0],
+};
+
+#[test]
+fn a_node_of_two_hands_the_lock_over_once(rt: HostRuntime) {
+    walks_each(&rt, rt.alloc(), &[HANDED_OVER, LET_GO, AT_THRESHOLD]);
+}
+
+/// One caller climbs three levels of these kinds.
+const fn of_three_levels(kinds: &'static [LockKind]) -> Walk {
+    Walk {
+        setting: Setting {
+            kinds,
+            paths: &[&[0, 0, 0]],
+            keeps: &[1, 1],
+            quotas: &[2],
+        },
+        order: &[],
+        stood: &[],
+        turns: &[(0, 2, 0, 2), (0, 2, 0, 2)],
+        told: &[0],
+    }
 }
 
 #[test]
 fn one_caller_climbs_three_levels(rt: HostRuntime) {
-    for kinds in [[Tkt, Clh, Hem], [Tkt, Tkt, Tkt]] {
-        let setting = Setting {
-            kinds: &kinds,
-            paths: &[&[0, 0, 0]],
-            keeps: &[1, 1],
-            quotas: &[2],
-        };
-        let Some(outcome) = tried(&rt, rt.alloc(), &setting, Trial::Walk(&[])) else {
-            panic!(rt; "there was no memory")
-        };
-        assert!(rt; has_turns(&outcome.root, &[turn(0, 2, 0, 2), turn(0, 2, 0, 2)]));
-        assert!(rt; told(&outcome, &[0]));
-    }
+    let walks = [
+        of_three_levels(&[Tkt, Clh, Hem]),
+        of_three_levels(&[Tkt, Tkt, Tkt]),
+    ];
+    walks_each(&rt, rt.alloc(), &walks);
 }
 
 /// Two callers of one core, one of the next core, one of the next cache, and one of the other package.
-#[test]
-fn five_callers_walk_over_five_levels_of_four_kinds(rt: HostRuntime) {
-    let setting = Setting {
+const OF_FIVE_LEVELS: Walk = Walk {
+    setting: Setting {
         kinds: &[Tkt, Mcs, Clh, Hem, Tkt],
         paths: &[
             &[0, 0, 0, 0, 0],
@@ -101,63 +117,68 @@ fn five_callers_walk_over_five_levels_of_four_kinds(rt: HostRuntime) {
         ],
         keeps: &[128, 128, 128, 128],
         quotas: &[1, 1, 1, 1, 1],
-    };
-    let Some(outcome) = tried(&rt, rt.alloc(), &setting, Trial::Walk(&[])) else {
-        panic!(rt; "there was no memory")
-    };
-    let turns = [
-        turn(0, 4, 1, 0),
-        turn(1, 0, 2, 1),
-        turn(2, 1, 4, 2),
-        turn(3, 2, 0, 4),
-        turn(4, 4, 0, 4),
-    ];
-    assert!(rt; has_turns(&outcome.root, &turns));
-    assert!(rt; told(&outcome, &[1, 2, 4, 0, 0]));
+    },
+    order: &[],
+    stood: &[],
+    turns: &[
+        (0, 4, 1, 0),
+        (1, 0, 2, 1),
+        (2, 1, 4, 2),
+        (3, 2, 0, 4),
+        (4, 4, 0, 4),
+    ],
+    told: &[1, 2, 4, 0, 0],
+};
+
+#[test]
+fn five_callers_walk_over_five_levels_of_four_kinds(rt: HostRuntime) {
+    walks_each(&rt, rt.alloc(), &[OF_FIVE_LEVELS]);
 }
 
 /// Six choices of kinds and their turns, by the plain model: a caller and its tests at level 0, for each turn. All climb to the top and
 /// leave there, since no node keeps the lock.
-const CHOICES: [([LockKind; 2], [u32; 11], [u32; 11]); 6] = [
+const CHOICES: &[(&[LockKind], [u32; 11], [u32; 11])] = &[
     (
-        [Tkt, Tkt],
+        &[Tkt, Tkt],
         [0, 1, 2, 3, 1, 0, 1, 2, 3, 2, 3],
         [1, 0, 1, 1, 0, 1, 0, 1, 1, 1, 0],
     ),
     (
-        [Clh, Hem],
+        &[Clh, Hem],
         [0, 1, 2, 3, 1, 0, 2, 1, 3, 2, 3],
         [1, 0, 1, 1, 0, 1, 1, 0, 1, 1, 0],
     ),
     (
-        [Mcs, Mcs],
+        &[Mcs, Mcs],
         [0, 1, 2, 1, 3, 1, 0, 2, 3, 2, 3],
         [1, 0, 1, 0, 1, 0, 1, 1, 1, 1, 0],
     ),
     (
-        [Mcs, Hem],
+        &[Mcs, Hem],
         [0, 1, 2, 1, 3, 0, 1, 2, 3, 2, 3],
         [1, 0, 1, 0, 1, 1, 0, 1, 1, 1, 0],
     ),
     (
-        [Hem, Mcs],
+        &[Hem, Mcs],
         [0, 1, 2, 1, 3, 1, 0, 2, 3, 2, 3],
         [1, 0, 1, 0, 1, 0, 1, 1, 0, 1, 0],
     ),
     (
-        [Hem, Hem],
+        &[Hem, Hem],
         [0, 1, 2, 1, 3, 0, 1, 2, 3, 2, 3],
         [1, 0, 1, 0, 1, 1, 0, 1, 0, 1, 0],
     ),
 ];
 
-/// Whether the turns are of these callers, with these tests.
-fn are_turns_of(turns: &[Turn], callers: &[u32], tests: &[u32]) -> bool {
-    turns.len() == callers.len()
-        && turns.len() == tests.len()
-        && turns.iter().zip(callers.iter().zip(tests)).all(|(turn, (caller, test))| {
-            turn.caller == *caller && turn.tests == *test && turn.climb == 1 && turn.left == 1
-        })
+/// Checks that the turns are of these callers, with these tests.
+fn are_turns_of(rt: &impl Abort, turns: &[Turn], callers: &[u32; 11], tests: &[u32; 11]) {
+    assert!(rt; turns.len() == 11);
+    for (place, found) in turns.iter().enumerate() {
+        assert!(rt;
+            is_turn(*found, (callers[place], 1, tests[place], 1)),
+            "at {place}"
+        );
+    }
 }
 
 /// Three callers of one node and one of another, whose nodes keep nothing: the kinds of the two levels tell the turns apart.
@@ -165,15 +186,15 @@ fn are_turns_of(turns: &[Turn], callers: &[u32], tests: &[u32]) -> bool {
 fn a_walk_tells_kinds_apart(rt: HostRuntime) {
     for (kinds, callers, tests) in CHOICES {
         let setting = Setting {
-            kinds: &kinds,
+            kinds: *kinds,
             paths: &[&[1, 0], &[0, 0], &[1, 0], &[1, 0]],
             keeps: &[0],
             quotas: &[2, 3, 3, 3],
         };
-        let Some(outcome) = tried(&rt, rt.alloc(), &setting, Trial::Walk(&[])) else {
-            panic!(rt; "there was no memory")
+        let Some(outcome) = tried(&rt, rt.alloc(), setting, Trial::Walk(&[])) else {
+            panic!(rt; "the lock could not be made")
         };
-        assert!(rt; are_turns_of(turns_in(&outcome.root), &callers, &tests));
-        assert!(rt; told(&outcome, &[1, 0, 1, 0]));
+        are_turns_of(&rt, turns_in(&outcome.root), callers, tests);
+        has_walked(&rt, &outcome.end, &[], &[1, 0, 1, 0]);
     }
 }
