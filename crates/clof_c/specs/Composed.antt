@@ -7,8 +7,8 @@ use Rattle.synth_text.specs.declared.fault.SynthFault.{SynthFault}
 use Rattle.synth_text.specs.declared.fault.SynthFault.TheVariants as of_synth
 use Rattle.topo_tree.specs.declared.fault.BuildFault.{BuildFault}
 use Rattle.topo_tree.specs.declared.fault.BuildFault.TheVariants as of_build
-use Rattle.lock_plan.specs.declared.fault.PlanFault.{PlanFault}
-use Rattle.lock_plan.specs.declared.fault.PlanFault.TheVariants as of_plan
+use Rattle.run_faults.specs.declared.plan.PlanFault.{PlanFault}
+use Rattle.run_faults.specs.declared.plan.PlanFault.TheVariants as of_plan
 use Rattle.lock_plan.specs.declared.plan.Plan.{Plan}
 use Rattle.lock_setting.specs.Settings.{IsSettingOf, Refuses, Texts}
 use Rattle.lock_setting.specs.declared.fault.SettingFault.{SettingFault}

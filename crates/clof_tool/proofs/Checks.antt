@@ -14,7 +14,7 @@ use Rattle.run_check.proofs.Once.{broken_once}
 use Rattle.run_check.proofs.RunLines.{no_broken}
 use Rattle.command_words.specs.Asked.{Checking, as_run}
 use Rattle.command_texts.specs.declared.status.Status.{Status}
-use Rattle.command_texts.specs.RunPlan.{PlanOf}
+use Rattle.plan_texts.specs.RunPlan.{PlanOf}
 use Rattle.clof_tool.specs.Checking.{pair_limit, verdict_text, BreaksRun, BreaksUnder, Judges, RefusesPair, RefusesWhole}
 use Rattle.clof_tool.specs.Checking.{TellsChecked, TellsVerdict}
 use Rattle.clof_tool.specs.Laws.{OneCheckRefusal, OneText, TextOrRefusal, YesWhereRun}

@@ -15,8 +15,8 @@ use Rattle.topo_tree.specs.Building.{build_fault}
 use Rattle.topo_tree.specs.Naming.{depths_of}
 use Rattle.topo_tree.specs.Numbers.{first_fault, indexes_fault, numbers_of}
 use Rattle.lock_select.specs.Texts.{keep_of}
-use Rattle.lock_plan.specs.declared.fault.PlanFault.{PlanFault}
-use Rattle.lock_plan.specs.declared.fault.PlanFault.TheVariants.{OutOfMemory}
+use Rattle.run_faults.specs.declared.plan.PlanFault.{PlanFault}
+use Rattle.run_faults.specs.declared.plan.PlanFault.TheVariants.{OutOfMemory}
 use Rattle.lock_plan.specs.Plans.{PlanRefused, first_misplaced, kind_named, plan_fault}
 use Rattle.command_texts.specs.declared.status.Status.{Status}
 use Rattle.command_texts.specs.declared.status.Status.TheVariants as statuses

@@ -8,7 +8,7 @@ use Rattle.lock_plan.specs.declared.kind.LockKind.{LockKind}
 use Rattle.lock_plan.specs.declared.plan.Plan.{Plan}
 use Rattle.lock_plan.specs.Plans.{AreKeeps, AreKinds, IsPlanFor, keeps_by}
 use Rattle.lock_plan.specs.Shapes.{IsShapeOf}
-use Rattle.command_texts.specs.RunPlan.{PlanOf}
+use Rattle.plan_texts.specs.RunPlan.{PlanOf}
 use Rattle.command_words.specs.Asked.{Running}
 
 some_same : {A : Type 0} (one other : A) → Some one ≡ Some other → one ≡ other

@@ -14,7 +14,7 @@ use Rattle.command_words.specs.Asked.{Checking, as_run}
 use Rattle.command_texts.specs.declared.status.Fault.TheVariants.{Check, Input}
 use Rattle.command_texts.specs.declared.status.Status.{Status}
 use Rattle.command_texts.specs.declared.status.Status.TheVariants as statuses
-use Rattle.command_texts.specs.RunPlan.{HasPlan, PlanOf, RefusesPlan}
+use Rattle.plan_texts.specs.RunPlan.{HasPlan, PlanOf, RefusesPlan}
 use Rattle.command_texts.specs.TopoText.{TopoRefuses}
 use Rattle.clof_tool.specs.Run.{OnDescribed, PrintsUnder, RefusesSections, RunsUnder}
 

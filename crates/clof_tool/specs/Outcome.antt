@@ -11,11 +11,11 @@ use Rattle.run_check.specs.Pairs.{input_limit}
 use Rattle.clof_tool.specs.Run.{PrintsSections, RefusesSections, RefusesPlanned, RunRefuses, OnDescribed}
 use Rattle.drill_text.specs.Drill.{drill_text}
 use Rattle.clof_tool.specs.Checking.{pair_limit, CheckRefuses, RefusesChecked, RefusesPair, TellsChecked}
-use Rattle.command_texts.specs.RunPlan.{HasPlan}
+use Rattle.plan_texts.specs.RunPlan.{HasPlan}
 use Rattle.command_texts.specs.SetText.{PrintsSet, SetRefused}
 use Rattle.command_texts.specs.CalcText.{PrintsCalc, CalcRefuses}
 use Rattle.command_texts.specs.DistribText.{PrintsDistrib, DistribRefuses}
-use Rattle.command_texts.specs.SelectText.{HasCriteria, RefusesTrace, PrintsSelection}
+use Rattle.plan_texts.specs.SelectText.{HasCriteria, RefusesTrace, PrintsSelection}
 use Rattle.clof_tool.specs.Selecting.{SelectRefuses, RefusesInput}
 use Rattle.synth_text.specs.declared.description.Description.{Description}
 use Rattle.command_texts.specs.TopoText.{PrintsTopo, TopoRefuses}

@@ -15,7 +15,7 @@ use Rattle.command_texts.specs.declared.status.Fault.TheVariants.{Section, Input
 use Rattle.command_texts.specs.declared.status.Status.{Status}
 use Rattle.command_texts.specs.declared.status.Status.TheVariants as statuses
 use Rattle.command_texts.specs.TopoText.{DescribesBuilt, TopoRefuses}
-use Rattle.command_texts.specs.RunPlan.{PlanOf, HasPlan, RefusesPlan}
+use Rattle.plan_texts.specs.RunPlan.{PlanOf, HasPlan, RefusesPlan}
 use Rattle.command_words.specs.Asked.{Running}
 
 -- the status of a fault of the sections: one of them is a limit

@@ -1,7 +1,7 @@
 -- How `select` refuses its words and its input.
 use Rattle.std.specs.Prelude.{◌≡◌, ◌≤◌, ◌<◌, ◌⊎◌, ℕ, List, length}
 use Rattle.synth_text.specs.declared.description.Description.{Description}
-use Rattle.command_texts.specs.SelectText.{HasCriteria, RefusesCriteria, RefusesTrace}
+use Rattle.plan_texts.specs.SelectText.{HasCriteria, RefusesCriteria, RefusesTrace}
 use Rattle.command_texts.specs.TopoText.{TopoRefuses}
 use Rattle.command_texts.specs.declared.status.Fault.TheVariants.{Input}
 use Rattle.command_texts.specs.declared.status.Status.{Status}

@@ -1,4 +1,3 @@
 pub mod Masks
 pub mod OnTopologies
-pub mod RunPlans
 pub mod Topologies

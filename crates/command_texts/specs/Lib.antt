@@ -4,8 +4,6 @@ pub mod DistribText
 pub mod Ends
 pub mod Line
 pub mod OnTopology
-pub mod RunPlan
-pub mod SelectText
 pub mod SetText
 pub mod Status
 pub mod TopoText

@@ -6,10 +6,10 @@ use Rattle.cpu_set.specs.declared.fault.SetFault.{SetFault}
 use Rattle.cpu_set.specs.declared.fault.SetFault.TheVariants as set
 use Rattle.distrib_rules.specs.declared.fault.DistribFault.{DistribFault}
 use Rattle.distrib_rules.specs.declared.fault.DistribFault.TheVariants as distrib
-use Rattle.lock_plan.specs.declared.fault.PlanFault.{PlanFault}
-use Rattle.lock_plan.specs.declared.fault.PlanFault.TheVariants as plan
-use Rattle.lock_select.specs.declared.fault.SelectFault.{SelectFault}
-use Rattle.lock_select.specs.declared.fault.SelectFault.TheVariants as select
+use Rattle.run_faults.specs.declared.plan.PlanFault.{PlanFault}
+use Rattle.run_faults.specs.declared.plan.PlanFault.TheVariants as plan
+use Rattle.run_faults.specs.declared.select.SelectFault.{SelectFault}
+use Rattle.run_faults.specs.declared.select.SelectFault.TheVariants as select
 use Rattle.run_faults.specs.declared.fault.SectionFault.{SectionFault}
 use Rattle.run_faults.specs.declared.fault.SectionFault.TheVariants as section
 use Rattle.run_faults.specs.declared.fault.CheckFault.{CheckFault}

@@ -12,9 +12,7 @@ use calc_query::CalcFault;
 use cpu_set::SetFault;
 use distrib_rules::DistribFault;
 use itoa::Buffer;
-use lock_plan::PlanFault;
-use lock_select::SelectFault;
-use run_faults::{CheckFault, SectionFault};
+use run_faults::{CheckFault, PlanFault, SectionFault, SelectFault};
 use synth_text::SynthFault;
 use topo_tree::BuildFault;
 

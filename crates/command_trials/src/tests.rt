@@ -13,11 +13,9 @@ use command_texts::{
 use command_words::{Asked, WordsFault, read_words};
 use cpu_set::SetFault;
 use distrib_rules::DistribFault;
-use lock_plan::PlanFault;
-use lock_select::SelectFault;
 use out_of_memory::OutOfMemory;
 use plan::plan_text;
-use run_faults::{CheckFault, SectionFault};
+use run_faults::{CheckFault, PlanFault, SectionFault, SelectFault};
 use std::alloc::Global;
 use std::process::Abort;
 use std::test::Fail;

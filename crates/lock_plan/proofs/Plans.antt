@@ -20,9 +20,9 @@ use Rattle.lock_select.specs.Texts.{keep_of, keep_limit}
 use Rattle.lock_plan.specs.declared.kind.LockKind.{LockKind}
 use Rattle.lock_plan.specs.declared.kind.LockKind.TheVariants.{Mcs}
 use Rattle.lock_plan.specs.declared.plan.Plan.{Plan}
-use Rattle.lock_plan.specs.declared.fault.PlanFault.{PlanFault}
-use Rattle.lock_plan.specs.declared.fault.PlanFault.TheVariants.{LevelUnknown, TooDeep, LevelOrder, LockUnknown, Lengths}
-use Rattle.lock_plan.specs.declared.fault.PlanFault.TheVariants.{KeepRange, OutOfMemory}
+use Rattle.run_faults.specs.declared.plan.PlanFault.{PlanFault}
+use Rattle.run_faults.specs.declared.plan.PlanFault.TheVariants.{LevelUnknown, TooDeep, LevelOrder, LockUnknown, Lengths}
+use Rattle.run_faults.specs.declared.plan.PlanFault.TheVariants.{KeepRange, OutOfMemory}
 use Rattle.lock_plan.specs.Lists.{comma_list, dash_list, first_unknown}
 use Rattle.lock_plan.specs.Plans.{kind_named, AreKinds, are_enough, keeps_by, AreKeeps, IsPlanFor, depths_named}
 use Rattle.lock_plan.specs.Plans.{first_misplaced, level_fault, lock_fault, keep_fault, plan_fault, PlanRefused}

@@ -11,8 +11,8 @@ use Rattle.topo_tree.specs.Naming.{depth_named}
 use Rattle.lock_select.specs.Nodes.{AreLevels, level_limit}
 use Rattle.lock_select.specs.Texts.{keep_of}
 use Rattle.lock_plan.specs.declared.kind.LockKind.{LockKind}
-use Rattle.lock_plan.specs.declared.fault.PlanFault.{PlanFault}
-use Rattle.lock_plan.specs.declared.fault.PlanFault.TheVariants.{LevelUnknown, TooDeep, LevelOrder, LockUnknown, Lengths, KeepRange}
+use Rattle.run_faults.specs.declared.plan.PlanFault.{PlanFault}
+use Rattle.run_faults.specs.declared.plan.PlanFault.TheVariants.{LevelUnknown, TooDeep, LevelOrder, LockUnknown, Lengths, KeepRange}
 use Rattle.byte_text.proofs.CutLaws.{slice_split-first_piece}
 use Rattle.lock_plan.specs.Lists.{pieces_of, comma_list, dash_list, first_unknown}
 use Rattle.lock_plan.specs.Plans.{kind_named, AreKinds, are_enough, AreKeeps, depths_named, first_misplaced, level_fault}

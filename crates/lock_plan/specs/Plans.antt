@@ -11,8 +11,8 @@ use Rattle.lock_select.specs.Nodes.{AreLevels, level_limit}
 use Rattle.lock_select.specs.Texts.{keep_limit, keep_of}
 use Rattle.lock_plan.specs.declared.kind.LockKind.{LockKind}
 use Rattle.lock_plan.specs.declared.kind.LockKind.TheVariants.{Tkt, Mcs, Clh, Hem, TktC, McsC, ClhC, HemC}
-use Rattle.lock_plan.specs.declared.fault.PlanFault.{PlanFault}
-use Rattle.lock_plan.specs.declared.fault.PlanFault.TheVariants.{LevelUnknown, TooDeep, LevelOrder, LockUnknown, Lengths, KeepRange}
+use Rattle.run_faults.specs.declared.plan.PlanFault.{PlanFault}
+use Rattle.run_faults.specs.declared.plan.PlanFault.TheVariants.{LevelUnknown, TooDeep, LevelOrder, LockUnknown, Lengths, KeepRange}
 use Rattle.lock_plan.specs.declared.plan.Plan.{Plan}
 use Rattle.lock_plan.specs.Lists.{comma_list, dash_list, first_unknown}
 

@@ -5,9 +5,9 @@ ghost use Rattle.lock_select.specs.Texts.{keep_of};
 ghost use Rattle.lock_plan.specs.Lists.{comma_list};
 ghost use Rattle.lock_plan.specs.Plans.{AreKeeps, keep_fault, keeps_by};
 
-use crate::fault::PlanFault;
 use crate::lists::{Entries, ListFault, read_list};
 use lock_select::read_keep;
+use run_faults::PlanFault;
 use std::alloc::{AllocError, Global};
 
 // Reads keeps.

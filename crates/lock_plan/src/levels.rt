@@ -7,8 +7,8 @@ ghost use Rattle.lock_select.specs.Nodes.{AreLevels};
 ghost use Rattle.lock_plan.specs.Lists.{comma_list};
 ghost use Rattle.lock_plan.specs.Plans.{is_misplaced, first_misplaced, level_fault};
 
-use crate::fault::PlanFault;
 use crate::lists::{Entries, ListFault, read_list};
+use run_faults::PlanFault;
 use std::alloc::Global;
 use topo_tree::Tree;
 

@@ -2,7 +2,6 @@
 //! above; and the shape of such a lock, whose callers stand on PUs.
 #![tactic(auto)]
 
-mod fault;
 mod keeps;
 mod kind;
 mod laws;
@@ -12,7 +11,7 @@ mod locks;
 mod nodes;
 mod plan;
 
-pub use fault::PlanFault;
 pub use kind::LockKind;
 pub use laws::{one_answer, one_level_is_one_node, plans_are_for_their_topology, shapes_are_trees};
 pub use plan::Plan;
+pub use run_faults::PlanFault;

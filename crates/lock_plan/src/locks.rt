@@ -4,9 +4,9 @@ ghost use Rattle.out_of_memory.specs.Memory.{UnlessMemory};
 ghost use Rattle.byte_text.specs.Views.{text_at};
 ghost use Rattle.lock_plan.specs.Plans.{AreKinds, kind_named, lock_fault};
 
-use crate::fault::PlanFault;
 use crate::kind::{LockKind, kind_named};
 use crate::lists::{Entries, ListFault, read_list};
+use run_faults::PlanFault;
 use std::alloc::Global;
 
 // Reads the names of kinds.

@@ -7,7 +7,6 @@ ghost use Rattle.lock_plan.specs.Laws.{IsTree};
 ghost use Rattle.lock_plan.specs.Plans.{IsPlan, IsPlanFor, PlanRefused};
 ghost use Rattle.lock_plan.specs.Shapes.{IsShapeOf};
 
-use crate::fault::PlanFault;
 use crate::keeps::read_keeps;
 use crate::kind::LockKind;
 use crate::levels::read_levels;
@@ -15,6 +14,7 @@ use crate::locks::read_locks;
 use crate::nodes::paths;
 use keep_local::Shape;
 use out_of_memory::OutOfMemory;
+use run_faults::PlanFault;
 use sequence::Sequence;
 use std::alloc::Global;
 use topo_tree::AsTree;

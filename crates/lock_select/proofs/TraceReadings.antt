@@ -8,8 +8,8 @@ use Rattle.std.proofs.lemmas.List.Elements.{Contains-append_right}
 use Rattle.byte_text.specs.Cuts.{IsCutAt}
 use Rattle.byte_text.proofs.CutLaws.{cut-from_IsCutAt}
 use Rattle.synth_text.specs.Rules.{pu_count}
-use Rattle.lock_select.specs.declared.fault.SelectFault.{SelectFault}
-use Rattle.lock_select.specs.declared.fault.SelectFault.TheVariants as faults
+use Rattle.run_faults.specs.declared.select.SelectFault.{SelectFault}
+use Rattle.run_faults.specs.declared.select.SelectFault.TheVariants as faults
 use Rattle.lock_select.specs.Traces.{line_number, BeginsWith, ReadsTo, FrontBreaks, Breaks, turn_limit}
 use Rattle.lock_select.specs.Laws.{OneTrace, OneRefusal, NotBoth}
 

@@ -6,7 +6,7 @@ use Rattle.topo_tree.specs.Building.{IsBuilt}
 use Rattle.keep_local.specs.declared.shape.Shape.{Shape}
 use Rattle.keep_local.specs.Shapes.{callers_of, IsWellFormed}
 use Rattle.keep_local.specs.Turns.{IsLawful}
-use Rattle.lock_select.specs.declared.fault.SelectFault.{SelectFault}
+use Rattle.run_faults.specs.declared.select.SelectFault.{SelectFault}
 use Rattle.lock_select.specs.Nodes.{AreLevels, shape_of}
 use Rattle.lock_select.specs.IdealTurns.{ideal_turns}
 use Rattle.lock_select.specs.Traces.{IsTrace, IsRefused}

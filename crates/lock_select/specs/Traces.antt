@@ -4,8 +4,8 @@ use Rattle.byte_text.specs.Cuts.{IsCutAt}
 use Rattle.byte_text.specs.Numerals.{number_below}
 use Rattle.synth_text.specs.declared.description.Description.{Description}
 use Rattle.synth_text.specs.Rules.{pu_count}
-use Rattle.lock_select.specs.declared.fault.SelectFault.{SelectFault}
-use Rattle.lock_select.specs.declared.fault.SelectFault.TheVariants as faults
+use Rattle.run_faults.specs.declared.select.SelectFault.{SelectFault}
+use Rattle.run_faults.specs.declared.select.SelectFault.TheVariants as faults
 
 -- how many turns a trace may have
 abbrev pub turn_limit : ℕ

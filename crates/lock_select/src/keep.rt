@@ -2,8 +2,8 @@
 ghost use Rattle.std.specs.Prelude.{◌≡◌, ◌≤◌, None, Some, IfOk, IfErr};
 ghost use Rattle.lock_select.specs.Texts.{keep_limit, keep_of};
 
-use crate::fault::SelectFault;
 use byte_text::number_up_to;
+use run_faults::SelectFault;
 
 // The most turns in a row that a level keeps the lock for.
 const KEEP_LIMIT: u64 = 65535;

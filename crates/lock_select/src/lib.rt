@@ -5,7 +5,6 @@
 mod choice;
 mod choosing;
 mod costing;
-mod fault;
 mod keep;
 mod laws;
 mod nodes;
@@ -18,8 +17,8 @@ mod weights;
 pub use choice::Choice;
 pub use choosing::choose;
 pub use costing::cost;
-pub use fault::SelectFault;
 pub use keep::read_keep;
 pub use laws::{ideal_turns_are_lawful, levels_make_a_shape, one_answer};
+pub use run_faults::SelectFault;
 pub use trace::read_trace;
 pub use weights::read_weights;

@@ -4,8 +4,8 @@ ghost use Rattle.out_of_memory.specs.Memory.{UnlessMemory};
 ghost use Rattle.synth_text.specs.Rules.{pu_count};
 ghost use Rattle.lock_select.specs.Traces.{line_number, BeginsWith, FrontBreaks, IsRefused, IsTrace, Visits};
 
-use crate::fault::SelectFault;
 use byte_text::{cut_at, number_up_to};
+use run_faults::SelectFault;
 use std::alloc::Global;
 use topo_tree::{AsTree, Layer};
 

@@ -4,8 +4,8 @@ ghost use Rattle.out_of_memory.specs.Memory.{UnlessMemory};
 ghost use Rattle.byte_text.specs.Views.{text_at};
 ghost use Rattle.lock_select.specs.Texts.{AreWeights, Weighs, default_weights, listed_weights, weight_limit, weight_of};
 
-use crate::fault::SelectFault;
 use byte_text::{Class, first_piece, number_in};
+use run_faults::SelectFault;
 use std::alloc::{AllocError, Global};
 use topo_tree::AsTree;
 

@@ -1,8 +1,9 @@
 //! The plans of the locks of `run`, and how their texts are refused.
 use super::{Tables, answers, refuses};
+use command_texts::Status;
 use command_texts::topology::tree;
-use command_texts::{Status, read_plan};
 use command_words::Running;
+use plan_texts::read_plan;
 use std::alloc::Global;
 use std::test::Fail;
 

@@ -8,7 +8,7 @@ use Rattle.command_texts.specs.declared.status.Status.TheVariants as statuses
 use Rattle.command_texts.specs.Ends.{IsRefusal, EndsEarly}
 use Rattle.command_texts.specs.TopoText.{DescribesBuilt}
 use Rattle.command_texts.proofs.OnTopologies.{early_silent, err_again, not_refused}
-use Rattle.command_texts.specs.RunPlan.{RefusesPlan}
+use Rattle.plan_texts.specs.RunPlan.{RefusesPlan}
 use Rattle.clof_tool.specs.Checking.{RefusesChecked}
 use Rattle.clof_tool.specs.Outcome.{FoundUnchecked, HasCause}
 use Rattle.clof_tool.proofs.Stops.{memory_again}

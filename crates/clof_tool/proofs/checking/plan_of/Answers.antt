@@ -3,7 +3,7 @@ use Rattle.std.specs.Prelude.{IfErr, IfOk}
 use Rattle.out_of_memory.specs.Memory.{UnlessMemory}
 use Rattle.command_words.specs.Asked.{Running}
 use Rattle.command_texts.specs.declared.status.Status.TheVariants.{OutOfMemory}
-use Rattle.command_texts.specs.RunPlan.{HasPlan, PlanOf, RefusesPlan}
+use Rattle.plan_texts.specs.RunPlan.{HasPlan, PlanOf, RefusesPlan}
 use Rattle.clof_tool.proofs.checking.plan_of.Goals as goal
 
 pub returns-clause-ok : goal.returns-clause-ok

@@ -2,7 +2,7 @@ use Rattle.std.proofs.Common.{◌≡◌, ◌<◌, ◌≤◌, Err, inl, inr, leng
 use Rattle.std.specs.Prelude.{IfSome}
 use Rattle.command_texts.specs.declared.status.Fault.TheVariants.{Input}
 use Rattle.command_texts.specs.declared.status.Status.TheVariants as statuses
-use Rattle.command_texts.specs.SelectText.{RefusesTrace}
+use Rattle.plan_texts.specs.SelectText.{RefusesTrace}
 use Rattle.run_check.specs.Pairs.{input_limit}
 use Rattle.clof_tool.proofs.Stops.{complete_of}
 use Rattle.clof_tool.proofs.selecting.selected.Goals as goal

@@ -6,7 +6,7 @@ use Rattle.command_words.specs.Plain.{plain_running}
 use Rattle.command_texts.specs.declared.status.Status.{Status}
 use Rattle.command_texts.specs.declared.status.Status.TheVariants as statuses
 use Rattle.command_texts.specs.Ends.{IsRefusal, EndsEarly}
-use Rattle.command_texts.specs.RunPlan.{RefusesPlan}
+use Rattle.plan_texts.specs.RunPlan.{RefusesPlan}
 use Rattle.command_texts.specs.TopoText.{DescribesBuilt}
 use Rattle.command_texts.proofs.OnTopologies.{early_silent, err_again, not_refused}
 use Rattle.clof_tool.specs.Run.{RefusesPlanned}

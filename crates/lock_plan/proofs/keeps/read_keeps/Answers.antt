@@ -1,6 +1,6 @@
 use Rattle.std.proofs.Common.{◌≡◌, ◌-◌, ℕ, Bool, None, Some, inl, sym, ap, ◌∙◌, length, arith}
 use Rattle.std.specs.Prelude.{if◌then◌else◌, vec_len}
-use Rattle.lock_plan.specs.declared.fault.PlanFault.TheVariants.{Lengths}
+use Rattle.run_faults.specs.declared.plan.PlanFault.TheVariants.{Lengths}
 use Rattle.lock_plan.specs.Lists.{comma_list}
 use Rattle.lock_plan.proofs.Refusals.{keeps_counted, not_enough}
 use Rattle.lock_plan.proofs.keeps.read_keeps.Goals as goal

@@ -3,7 +3,7 @@ use Rattle.std.specs.Prelude.{option_map}
 use Rattle.std.proofs.lemmas.List.Elements.{All-from_recursion}
 use Rattle.topo_tree.specs.Objects.{depth_count}
 use Rattle.topo_tree.specs.Naming.{depth_named}
-use Rattle.lock_plan.specs.declared.fault.PlanFault.TheVariants.{LevelOrder}
+use Rattle.run_faults.specs.declared.plan.PlanFault.TheVariants.{LevelOrder}
 use Rattle.lock_plan.specs.Lists.{comma_list}
 use Rattle.lock_plan.specs.Plans.{first_misplaced}
 use Rattle.lock_plan.proofs.Readings.{All-entries, length-entries}

@@ -1,6 +1,6 @@
 use Rattle.std.proofs.Common.{◌≡◌, ℕ, Bool, None, Some, inl, sym, ap, ◌∙◌, length, arith}
 use Rattle.std.specs.Prelude.{if◌then◌else◌, vec_len}
-use Rattle.lock_plan.specs.declared.fault.PlanFault.TheVariants.{Lengths}
+use Rattle.run_faults.specs.declared.plan.PlanFault.TheVariants.{Lengths}
 use Rattle.lock_plan.proofs.Refusals.{locks_counted, not_counted}
 use Rattle.lock_plan.proofs.locks.read_named.Goals as goal
 

@@ -6,7 +6,7 @@ use Rattle.synth_text.specs.declared.description.Description.{Description}
 use Rattle.synth_text.specs.IndexTexts.{entries_of}
 use Rattle.topo_tree.specs.Naming.{depth_named}
 use Rattle.lock_select.specs.Nodes.{AreLevels}
-use Rattle.lock_plan.specs.declared.fault.PlanFault.TheVariants.{OutOfMemory}
+use Rattle.run_faults.specs.declared.plan.PlanFault.TheVariants.{OutOfMemory}
 use Rattle.lock_plan.specs.declared.plan.Plan.{Plan}
 use Rattle.lock_plan.specs.Lists.{comma_list}
 use Rattle.lock_plan.specs.Plans.{AreKinds, AreKeeps, level_fault, lock_fault, keep_fault}

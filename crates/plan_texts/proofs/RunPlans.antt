@@ -4,8 +4,8 @@ use Rattle.std.specs.Borrow.{Bor}
 use Rattle.byte_text.specs.Views.{text_at}
 use Rattle.out_of_memory.specs.Memory.{UnlessMemory}
 use Rattle.synth_text.specs.declared.description.Description.{Description}
-use Rattle.lock_plan.specs.declared.fault.PlanFault.{PlanFault}
-use Rattle.lock_plan.specs.declared.fault.PlanFault.TheVariants as faults
+use Rattle.run_faults.specs.declared.plan.PlanFault.{PlanFault}
+use Rattle.run_faults.specs.declared.plan.PlanFault.TheVariants as faults
 use Rattle.lock_plan.specs.declared.plan.Plan.{Plan}
 use Rattle.lock_plan.specs.Plans.{IsPlan, PlanRefused}
 use Rattle.lock_plan.proofs.Plans.{not_both}
@@ -14,7 +14,7 @@ use Rattle.command_words.specs.Asked.{Running}
 use Rattle.command_words.specs.Plain.{plain_running, plain_text}
 use Rattle.command_texts.specs.declared.status.Status.{Status}
 use Rattle.command_texts.specs.declared.status.Status.TheVariants.{OutOfMemory}
-use Rattle.command_texts.specs.RunPlan.{plan_status, PlanOf, HasPlan, RefusesPlan}
+use Rattle.plan_texts.specs.RunPlan.{plan_status, PlanOf, HasPlan, RefusesPlan}
 
 -- a lent text of the locks is the one that is asked for
 same_locks : (locks : Option (Bor (List ℕ))) → text_at locks ≡ plain_text locks

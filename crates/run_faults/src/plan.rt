@@ -1,6 +1,6 @@
 //! Why a plan is refused.
 ghost use Rattle.std.specs.Prelude.{◌≡◌};
-ghost use Rattle.lock_plan.specs.declared.fault.PlanFault.TheVariants as faults;
+ghost use Rattle.run_faults.specs.declared.plan.PlanFault.TheVariants as faults;
 
 use std::alloc::{AllocError, AllocFailed};
 use thiserror::Error;

@@ -1,6 +1,6 @@
 //! Why nothing is chosen.
 ghost use Rattle.std.specs.Prelude.{◌≡◌};
-ghost use Rattle.lock_select.specs.declared.fault.SelectFault.TheVariants as faults;
+ghost use Rattle.run_faults.specs.declared.select.SelectFault.TheVariants as faults;
 
 use std::alloc::{AllocError, AllocFailed};
 use thiserror::Error;

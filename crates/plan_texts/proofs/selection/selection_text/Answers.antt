@@ -1,7 +1,7 @@
 use Rattle.std.proofs.Common.{◌∙◌, Err, inl, inr, sym, ap}
 use Rattle.lock_select.proofs.TraceReadings.{refusal_once, not_both}
-use Rattle.command_texts.specs.SelectText.{select_status}
-use Rattle.command_texts.proofs.selection.selection_text.Goals as goal
+use Rattle.plan_texts.specs.SelectText.{select_status}
+use Rattle.plan_texts.proofs.selection.selection_text.Goals as goal
 
 pub returns-in-Err-clause-refused : goal.returns-in-Err-clause-refused
 returns-in-Err-clause-refused c status refuses =

@@ -1,7 +1,7 @@
 use Rattle.std.proofs.Common.{Err, inl, inr, ap}
 use Rattle.command_words.specs.Plain.{plain_running}
-use Rattle.command_texts.proofs.RunPlans.{asked_plan, asked_refusal, refusal, refused_once, memory_alone, planned_not_refused}
-use Rattle.command_texts.proofs.planning.read_plan.Goals as goal
+use Rattle.plan_texts.proofs.RunPlans.{asked_plan, asked_refusal, refusal, refused_once, memory_alone, planned_not_refused}
+use Rattle.plan_texts.proofs.planning.read_plan.Goals as goal
 
 pub returns-in-Ok-clause-ok : goal.returns-in-Ok-clause-ok
 returns-in-Ok-clause-ok c = asked_plan c.args.tree.now c.args.asked c.in-Ok.plan c.in-Ok.ensures.plan

@@ -1,8 +1,8 @@
 -- The plan of the lock of a run, and why its texts are refused.
 use Rattle.std.specs.Prelude.{◌≡◌}
 use Rattle.synth_text.specs.declared.description.Description.{Description}
-use Rattle.lock_plan.specs.declared.fault.PlanFault.{PlanFault}
-use Rattle.lock_plan.specs.declared.fault.PlanFault.TheVariants as faults
+use Rattle.run_faults.specs.declared.plan.PlanFault.{PlanFault}
+use Rattle.run_faults.specs.declared.plan.PlanFault.TheVariants as faults
 use Rattle.lock_plan.specs.declared.plan.Plan.{Plan}
 use Rattle.lock_plan.specs.Laws as laws
 use Rattle.lock_plan.specs.Plans.{IsPlan, PlanRefused}

@@ -2,7 +2,7 @@ use Rattle.std.proofs.Common.{◌≡◌, ◌++◌, ◌∷◌, [], take}
 use Rattle.std.specs.List.{join_by}
 use Rattle.topo_tree.specs.declared.layer.Layer.TheVariants as layers
 use Rattle.calc_text.specs.Texts.{layer_name}
-use Rattle.command_texts.proofs.selection.push_names.Given as goal
+use Rattle.plan_texts.proofs.selection.push_names.Given as goal
 
 -- the names so far
 abbrev pub invariant-loop-place : goal.invariant-loop-place

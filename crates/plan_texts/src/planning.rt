@@ -4,12 +4,13 @@ ghost use Rattle.out_of_memory.specs.Memory.{UnlessMemory};
 ghost use Rattle.lock_plan.specs.Plans.{IsPlanFor};
 ghost use Rattle.command_words.specs.Plain.{plain_running};
 ghost use Rattle.command_texts.specs.declared.status.Status.{Status as AnyStatus};
-ghost use Rattle.command_texts.specs.RunPlan.{plan_status, PlanOf, HasPlan, RefusesPlan};
+ghost use Rattle.plan_texts.specs.RunPlan.{plan_status, PlanOf, HasPlan, RefusesPlan};
 ghost use Rattle.command_texts.specs.Ends.{EndsEarly};
 
-use crate::{Fault, Status};
+use command_texts::{Fault, Status};
 use command_words::Running;
-use lock_plan::{Plan, PlanFault};
+use lock_plan::Plan;
+use run_faults::PlanFault;
 use std::alloc::Global;
 use topo_tree::Tree;
 

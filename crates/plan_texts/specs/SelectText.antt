@@ -5,8 +5,8 @@ use Rattle.synth_text.specs.declared.description.Description.{Description}
 use Rattle.topo_tree.specs.declared.layer.Layer.TheVariants as layers
 use Rattle.calc_text.specs.Texts.{layer_name}
 use Rattle.lock_select.specs.declared.choice.Choice.{Choice}
-use Rattle.lock_select.specs.declared.fault.SelectFault.{SelectFault}
-use Rattle.lock_select.specs.declared.fault.SelectFault.TheVariants as faults
+use Rattle.run_faults.specs.declared.select.SelectFault.{SelectFault}
+use Rattle.run_faults.specs.declared.select.SelectFault.TheVariants as faults
 use Rattle.lock_select.specs.Texts.{AreWeights, keep_of}
 use Rattle.lock_select.specs.Traces.{IsTrace, IsRefused}
 use Rattle.lock_select.specs.Costs.{IsCheapest}
