@@ -16,8 +16,10 @@ use crate::own::{High, Own};
 use crate::own_cargo::kept_root;
 use crate::token::{Resting, Standing};
 use crate::turns::open_turn;
+use crate::waits::Waits;
 use keep_local::Share;
 use lock_rules::{Cargo, Held as Holds, Payload, Step};
+use std::sync::Wait;
 
 /// The value of a node whose high lock is H, in its holder's hand.
 pub(crate) type InHand<P, H> = Holds<Own<P, <H as Composed<P>>::Pass, <H as Composed<P>>::Held>>;
@@ -63,6 +65,32 @@ pub(crate) fn take_high<P: Payload, H: Composed<P>>(
             keep_high(&mut low.value, held);
             Step::Got(low)
         }
+    }
+}
+
+/// Takes the high lock for a node's holder, as `take_high` does, and waits for it.
+#[inline(always)]
+pub(crate) fn wait_for_high<P: Payload, H: Waits<P>, R: Wait>(
+    high: &H,
+    rt: &R,
+    own: &mut Own<P, H::Pass, H::Held>,
+    level: u32,
+    share: &mut Share,
+)
+    requires sound { H.sound high.now }
+    requires above { H.level high.now ≡ level + 1 }
+    requires context { IsContextOfNode (H.has high.now) level (H.tag high.now) own.old.node
+        (context_in H.Pass.rest H.Held.stand own.old.high) }
+    requires fit { IsOwnFit H.Pass.rest H.Held.stand P.calls P.tag H.Held.stands own.old.node own.old.kept own.old.said own.old.high }
+    requires share { MayTurn (course_of (H.tag high.now)) (level + 1) own.old.node share.old }
+    ensures holds { IsHolding level own.new.node own.new.kept (own_tag_of H.Pass.rest H.Held.stand own.old.node own.old.high)
+        (IsStanding H.Held.stands own.new.high) (kept_stand H.Held.stand own.new.high) }
+    ensures made { share.new ≡ record share.old { made = share.old.made + 1 } }
+    ensures opened { IsSomeAnd (kept_stand H.Held.stand own.new.high).root (HasOpened P.calls P.tag (H.tag high.now) level share.new) }
+{
+    if let Some(pass) = open_kept(own, level, share) {
+        let held = high.acquire(rt, pass, share);
+        keep_high(own, held);
     }
 }
 

@@ -154,23 +154,6 @@ pub trait Composed<P: Payload>: Sized {
         held.root()
     }
 
-    /// Waits until the pass holds the lock: `begin`, and then `wait`.
-    #[inline(always)]
-    final fn acquire<R: Wait>(&self, rt: &R, pass: Self::Pass, share: &mut Share) -> Self::Held
-        requires sound { sound self.now }
-        requires own { has self.now (Self.Pass.rest pass).context }
-        requires share { MayTurn (course_of (tag self.now)) (level self.now) (Self.Pass.rest pass).context.number share.old }
-        ensures held { (Self.Held.stand result).context ≡ (Self.Pass.rest pass).context }
-        ensures stands { Self.Held.stands result }
-        ensures made { share.new ≡ record share.old { made = share.old.made + 1 } }
-        ensures opened { IsSomeAnd (Self.Held.stand result).root (HasOpened P.calls P.tag (tag self.now) (level self.now) share.new) }
-    {
-        match self.begin(pass, share) {
-            Step::Got(held) => held,
-            Step::Not(queue) => self.wait(rt, queue, share),
-        }
-    }
-
     /// Polls until the pass holds the lock, and pauses behind each poll.
     final fn wait<R: Wait>(&self, rt: &R, queue: Self::Queue, share: &mut Share) -> Self::Held
         requires sound { sound self.now }
@@ -192,23 +175,6 @@ pub trait Composed<P: Payload>: Sized {
             pauses.pause();
         }
         unreachable!()
-    }
-
-    /// Leaves the lock, and waits until the pass is idle again: `begin_release`, and then `wait_release`.
-    #[inline(always)]
-    final fn release<R: Wait>(&self, rt: &R, held: Self::Held) -> Self::Pass
-        requires sound { sound self.now }
-        requires own { has self.now (Self.Held.stand held).context }
-        requires stands { Self.Held.stands held }
-        requires root { IsSomeAnd (Self.Held.stand held).root (MayRelease P.calls P.tag (tag self.now) (level self.now)
-            (Self.Held.stand held).context.number) }
-        ensures pass { (Self.Pass.rest result).context ≡ (Self.Held.stand held).context }
-        ensures tests { IsSomeAnd (Self.Held.stand held).root (ClosesWith (level self.now) (Self.Pass.rest result).report) }
-    {
-        match self.begin_release(held) {
-            Step::Got(pass) => pass,
-            Step::Not(leave) => self.wait_release(rt, leave),
-        }
     }
 
     /// Polls a release until the pass is idle again, and pauses behind each poll.

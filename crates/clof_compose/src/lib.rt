@@ -31,6 +31,7 @@ mod token;
 mod top;
 mod top_tokens;
 mod turns;
+mod waits;
 
 pub use composed::Composed;
 pub use level::Level;
@@ -46,3 +47,4 @@ pub use stage::{LeaveStage, QueueStage};
 pub use token::{Climbing, Descending, Resting, Standing};
 pub use top::Top;
 pub use top_tokens::{TopHeld, TopLeave, TopPass, TopQueue};
+pub use waits::Waits;

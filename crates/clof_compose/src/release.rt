@@ -20,7 +20,9 @@ use crate::own_cargo::kept_root;
 use crate::report::Report;
 use crate::token::{Resting, Standing};
 use crate::turns::{close_turn, note_waiter};
+use crate::waits::Waits;
 use lock_rules::{Payload, Step};
+use std::sync::Wait;
 
 /// Notes the answer of `waiter` that the value keeps for the open turn. Where it is a yes and the value has kept the high lock for fewer
 /// turns than the level's threshold, the turn is closed there, and the answer tells of it.
@@ -159,6 +161,37 @@ pub(crate) fn let_go<P: Payload, H: Composed<P>>(
         return Step::Got((low, report));
     }
     release_high(high, low)
+}
+
+/// Keeps the high lock of a node for the next one, or releases it, as `let_go` does, and waits for the release. The answer tells of
+/// the closed turn.
+#[inline(always)]
+pub(crate) fn let_go_and_wait<P: Payload, H: Waits<P>, R: Wait>(
+    high: &H,
+    rt: &R,
+    own: &mut Own<P, H::Pass, H::Held>,
+    level: u32,
+    keep: u32,
+) -> Report
+    requires sound { H.sound high.now }
+    requires above { H.level high.now ≡ level + 1 }
+    requires context { IsContextOfNode (H.has high.now) level (H.tag high.now) own.old.node (kept_stand H.Held.stand own.old.high).context }
+    requires stands { IsStanding H.Held.stands own.old.high }
+    requires kept { IfSome (kept_stand H.Held.stand own.old.high).root (λ r. own.old.kept ≡ run level r.trail.closed) }
+    requires root { IsSomeAnd (kept_stand H.Held.stand own.old.high).root (IsReleasing P.calls P.tag (H.tag high.now) level keep
+        own.old.node) }
+    ensures fit { IsOwnFit H.Pass.rest H.Held.stand P.calls P.tag H.Held.stands own.new.node own.new.kept own.new.said own.new.high }
+    ensures tagged { own_tag_of H.Pass.rest H.Held.stand own.new.node own.new.high ≡ own_tag own.old.node
+        (kept_stand H.Held.stand own.old.high).context }
+    ensures said { own.new.said ≡ own.old.said }
+    ensures parked { is_kept H.Pass.rest H.Held.stand own.new.high ≡ true → own.old.said ≡ true }
+    ensures tests { IsSomeAnd (kept_stand H.Held.stand own.old.high).root (ClosesWith level result) }
+{
+    if let Some(report) = keep_for_next(own, level, keep) {
+        return report;
+    }
+    let pass = high.release(rt, take_kept(own));
+    put_back(own, pass)
 }
 
 /// Puts the pass of a released high lock back into the value. The answer is what the pass tells, and the pass keeps the tests.

@@ -10,14 +10,14 @@ use crate::caller::Caller;
 use crate::roll::Roll;
 use crate::run::{Lists, Run};
 use crate::serving::job_of;
-use clof_compose::{Composed, Resting};
+use clof_compose::{Resting, Waits};
 use cohort_desks::close_all;
 use placed_runner::Gate;
 use std::sync::Wait;
 use threaded_runner::{Book, Crew, Job, crew_of, serve};
 
 // Serves all commands that a caller has left, unless it stopped.
-fn serve_out<'a, C: Composed<Book<'a>>, G: Gate, R: Wait>(
+fn serve_out<'a, C: Waits<Book<'a>>, G: Gate, R: Wait>(
     rt: &R,
     lock: &C,
     gate: &G,
@@ -35,7 +35,7 @@ fn serve_out<'a, C: Composed<Book<'a>>, G: Gate, R: Wait>(
 }
 
 // Serves the callers in their slots, in order, and puts their jobs into an empty list that has room for them.
-fn serve_rest<'a, C: Composed<Book<'a>>, G: Gate, R: Wait>(
+fn serve_rest<'a, C: Waits<Book<'a>>, G: Gate, R: Wait>(
     rt: &R,
     lock: &C,
     gate: &G,
@@ -65,7 +65,7 @@ fn serve_rest<'a, C: Composed<Book<'a>>, G: Gate, R: Wait>(
 }
 
 /// Closes the Cohorts of a run, serves what its callers have left, and has what comes back of all of them.
-pub fn end_run<'a, C: Composed<Book<'a>>, G: Gate, R: Wait>(
+pub fn end_run<'a, C: Waits<Book<'a>>, G: Gate, R: Wait>(
     rt: &R,
     lock: &C,
     gate: &G,

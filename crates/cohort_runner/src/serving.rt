@@ -7,7 +7,7 @@ ghost use Rattle.threaded_runner.specs.Jobs.{IsJob};
 
 use crate::caller::Caller;
 use crate::roll::Roll;
-use clof_compose::{Composed, Resting};
+use clof_compose::{Composed, Resting, Waits};
 use cohort_desks::{Desk, settle_at, take_from};
 use cohort_queue::Cohort;
 use placed_runner::Gate;
@@ -22,7 +22,7 @@ fn goes_on<Q>(job: &Job<'_, Q>) -> bool
 }
 
 // Serves up to so many commands of a caller.
-fn give_some<'a, C: Composed<Book<'a>>, G: Gate, R: Wait>(
+fn give_some<'a, C: Waits<Book<'a>>, G: Gate, R: Wait>(
     rt: &R,
     lock: &C,
     gate: &G,
@@ -76,7 +76,7 @@ fn caller_of<'a, C: Composed<Book<'a>>>(
 }
 
 // Serves up to so many commands of a caller on the roll. The answer has the caller, and whether it has commands left and didn't stop.
-fn serve_some<'a, C: Composed<Book<'a>>, G: Gate, R: Wait>(
+fn serve_some<'a, C: Waits<Book<'a>>, G: Gate, R: Wait>(
     rt: &R,
     lock: &C,
     gate: &G,
@@ -99,7 +99,7 @@ fn serve_some<'a, C: Composed<Book<'a>>, G: Gate, R: Wait>(
 
 // Serves the caller that has waited longest at one of the Cohorts, and puts it back behind all others there if it goes on. The answer has
 // the desk, and whether a caller was there.
-fn visit<'a, C: Composed<Book<'a>>, G: Gate, R: Wait>(
+fn visit<'a, C: Waits<Book<'a>>, G: Gate, R: Wait>(
     rt: &R,
     lock: &C,
     gate: &G,
@@ -143,7 +143,7 @@ fn onward(at: usize, empty: usize, found: bool, count: usize) -> (usize, usize)
 /// What one thread does at its desk. It begins at the Cohort with the desk's number, modulo their number. There it serves the caller that
 /// has waited longest, up to `quantum` commands, and puts it back behind all others unless it has no command left or was refused memory.
 /// Where it finds no caller it goes to the next Cohort, round about, and it ends when each Cohort in turn had none.
-pub fn serve_desk<'a, C: Composed<Book<'a>>, G: Gate, R: Wait>(
+pub fn serve_desk<'a, C: Waits<Book<'a>>, G: Gate, R: Wait>(
     rt: &R,
     lock: &C,
     gate: &G,

@@ -15,7 +15,7 @@ use crate::account::Account;
 use crate::book::FreshBook;
 use crate::job::FreshJob;
 use crate::waiting::acquire;
-use clof_compose::{Composed, Resting, Root, Standing};
+use clof_compose::{Resting, Root, Standing, Waits};
 use fresh_root::Fresh;
 use mc_text::Command;
 use placed_runner::Gate;
@@ -25,7 +25,7 @@ use threaded_runner::Book;
 /// Holds the lock once for each command that a caller has left: its token is shown all calls so far, the command is applied to the journal
 /// at the root, and the caller gets the number of its turn. The caller stops before its commands end where one was refused, which is for
 /// want of memory.
-pub fn serve_fresh<'a, C: Composed<FreshBook<'a>>, G: Gate, R: Wait>(
+pub fn serve_fresh<'a, C: Waits<FreshBook<'a>>, G: Gate, R: Wait>(
     rt: &R,
     lock: &C,
     gate: &G,
@@ -47,7 +47,7 @@ pub fn serve_fresh<'a, C: Composed<FreshBook<'a>>, G: Gate, R: Wait>(
 }
 
 // Holds the lock for the next command of a caller that has one left. The caller stops where it was refused.
-fn give_next<'a, C: Composed<FreshBook<'a>>, G: Gate, R: Wait>(
+fn give_next<'a, C: Waits<FreshBook<'a>>, G: Gate, R: Wait>(
     rt: &R,
     lock: &C,
     gate: &G,
@@ -79,7 +79,7 @@ fn give_next<'a, C: Composed<FreshBook<'a>>, G: Gate, R: Wait>(
 }
 
 // Holds the lock once and applies a command. The answer has the pass, and whether the command was refused.
-fn hold<'a, C: Composed<FreshBook<'a>>, G: Gate, R: Wait>(
+fn hold<'a, C: Waits<FreshBook<'a>>, G: Gate, R: Wait>(
     rt: &R,
     lock: &C,
     gate: &G,

@@ -7,17 +7,12 @@ ghost use Rattle.level_harness.specs.Rooms.{HasRoom};
 ghost use Rattle.clof_compose.specs.Shares.{IsShareIn};
 
 use crate::roll::{Roll, call};
-use clof_compose::{Composed, Resting, Standing};
+use clof_compose::{Resting, Standing, Waits};
 use keep_local::Share;
 use std::sync::Wait;
 
 /// Holds the lock once, and notes the caller.
-pub fn hold<C: Composed<Roll>, R: Wait>(
-    rt: &R,
-    lock: &C,
-    pass: C::Pass,
-    share: &mut Share,
-) -> C::Pass
+pub fn hold<C: Waits<Roll>, R: Wait>(rt: &R, lock: &C, pass: C::Pass, share: &mut Share) -> C::Pass
     requires sound { C.sound lock.now }
     requires own { C.has lock.now (C.Pass.rest pass).context }
     requires lowest { C.level lock.now ≡ 0 }
@@ -39,7 +34,7 @@ pub struct Job<P> {
 }
 
 /// Holds the lock once for each turn that the caller has left.
-pub fn hold_all<C: Composed<Roll>, R: Wait>(rt: &R, lock: &C, job: Job<C::Pass>) -> Job<C::Pass>
+pub fn hold_all<C: Waits<Roll>, R: Wait>(rt: &R, lock: &C, job: Job<C::Pass>) -> Job<C::Pass>
     requires sound { C.sound lock.now }
     requires lowest { C.level lock.now ≡ 0 }
     requires room { HasRoom (course_of (C.tag lock.now)) }

@@ -11,7 +11,7 @@ ghost use Rattle.lock_rising.specs.Ready.{MayRise};
 use crate::given::Given;
 use crate::under::run_under;
 use crate::under_lock::UnderLock;
-use clof_compose::{Composed, Payload, Resting, Root, TopPass};
+use clof_compose::{Payload, Resting, Root, TopPass, Waits};
 use lock_levels::{
     HasKinds, LevelOver, LowPass, TopOf, add_below, kind_at, low_passes_are_shared, make_top_of,
     top_passes_are_shared,
@@ -92,7 +92,7 @@ fn with_second<
     F,
     G: Sync,
     W: UnderLock<P, LowPass, K, J, B, F, G> + Send + Sync,
-    H: HasKinds<P> + Sync + Drop,
+    H: HasKinds<P> + Waits<P> + Sync + Drop,
     R: Threads + Wait + Sync,
 >(given: Given<'r, B, R, G>, high: H, passes: Vec<H::Pass>, level: u32) -> Result<F, OutOfMemory>
 where
@@ -138,7 +138,7 @@ fn with_third<
     F,
     G: Sync,
     W: UnderLock<P, LowPass, K, J, B, F, G> + Send + Sync,
-    H: HasKinds<P> + Sync + Drop,
+    H: HasKinds<P> + Waits<P> + Sync + Drop,
     R: Threads + Wait + Sync,
 >(given: Given<'r, B, R, G>, high: H, passes: Vec<H::Pass>, level: u32) -> Result<F, OutOfMemory>
 where
@@ -184,7 +184,7 @@ fn with_fourth<
     F,
     G: Sync,
     W: UnderLock<P, LowPass, K, J, B, F, G> + Send + Sync,
-    H: HasKinds<P> + Sync + Drop,
+    H: HasKinds<P> + Waits<P> + Sync + Drop,
     R: Threads + Wait + Sync,
 >(given: Given<'r, B, R, G>, high: H, passes: Vec<H::Pass>, level: u32) -> Result<F, OutOfMemory>
 where
@@ -225,7 +225,7 @@ fn with_fifth<
     F,
     G: Sync,
     W: UnderLock<P, LowPass, K, J, B, F, G> + Send + Sync,
-    H: HasKinds<P> + Sync + Drop,
+    H: HasKinds<P> + Waits<P> + Sync + Drop,
     R: Threads + Wait + Sync,
 >(given: Given<'r, B, R, G>, high: H, passes: Vec<H::Pass>) -> Result<F, OutOfMemory>
 where

@@ -4,7 +4,7 @@ ghost use Rattle.lock_rising.specs.Ready.{IsSet};
 
 use crate::given::Given;
 use crate::under_lock::{Dealt, OnThread, UnderLock};
-use clof_compose::{Composed, Payload, Resting};
+use clof_compose::{Payload, Resting, Waits};
 use lock_levels::HasKinds;
 use lock_threads::{Works, by_all};
 use out_of_memory::OutOfMemory;
@@ -32,7 +32,7 @@ impl<
     J,
     G,
     W: OnThread<P, Q, K, J, G>,
-    C: Composed<P, Pass = Q>,
+    C: Waits<P, Pass = Q>,
     R: Wait,
 > Works<J> for Shift<'b, P, K, G, W, C, R> {
     // a thread may do this job
@@ -57,7 +57,7 @@ fn run_threads<
     F,
     G: Sync,
     W: UnderLock<P, Q, K, J, B, F, G> + Send + Sync,
-    C: Composed<P, Pass = Q> + Sync,
+    C: Waits<P, Pass = Q> + Sync,
     R: Threads + Wait + Sync,
 >(rt: &R, alloc: Global, lock: &C, shared: &G, passes: Vec<Q>, brought: B) -> W::Crew
 where
@@ -97,7 +97,7 @@ pub(crate) fn run_under<
     F,
     G: Sync,
     W: UnderLock<P, Q, K, J, B, F, G> + Send + Sync,
-    C: Composed<P, Pass = Q> + HasKinds<P> + Sync + Drop,
+    C: Waits<P, Pass = Q> + HasKinds<P> + Sync + Drop,
     R: Threads + Wait + Sync,
 >(given: Given<'r, B, R, G>, lock: C, passes: Vec<Q>) -> Result<F, OutOfMemory>
 where

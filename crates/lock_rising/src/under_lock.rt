@@ -9,7 +9,7 @@ ghost use Rattle.clof_compose.specs.Courses.{Course, course_of};
 ghost use Rattle.clof_compose.specs.Roots.{IsFit, root_tag};
 ghost use Rattle.lock_rising.specs.Ready.{AreBack, IsSet};
 
-use clof_compose::{Composed, Payload, Resting, Root};
+use clof_compose::{Composed, Payload, Resting, Root, Waits};
 use out_of_memory::OutOfMemory;
 use std::alloc::Global;
 use std::sync::Wait;
@@ -33,13 +33,7 @@ pub trait OnThread<P: Payload, Q: Resting, K, J, G> {
     ghost did: { G → (Context → Type 0) → ℕ → Tag → K → J → J → Type 0 };
 
     /// Does a job.
-    fn serve<C: Composed<P, Pass = Q>, R: Wait>(
-        rt: &R,
-        lock: &C,
-        shared: &G,
-        floor: &K,
-        job: J,
-    ) -> J
+    fn serve<C: Waits<P, Pass = Q>, R: Wait>(rt: &R, lock: &C, shared: &G, floor: &K, job: J) -> J
         requires { may shared.now (C.has lock.now) (C.level lock.now) (C.tag lock.now) (C.sound lock.now) floor.now job }
         ensures { did shared.now (C.has lock.now) (C.level lock.now) (C.tag lock.now) floor.now job result };
 }
@@ -84,7 +78,7 @@ pub trait UnderLock<P: Payload, Q: Resting, K, J, B, F, G>: OnThread<P, Q, K, J,
         ensures crew { IfErr result (is_crew shared.now (C.has lock.now) (C.level lock.now) (C.count lock.now) (C.tag lock.now)) };
 
     /// What comes back of all callers, once the threads have done their jobs.
-    fn gather<C: Composed<P, Pass = Q>, R: Wait>(
+    fn gather<C: Waits<P, Pass = Q>, R: Wait>(
         rt: &R,
         lock: &C,
         shared: &G,

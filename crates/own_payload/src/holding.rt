@@ -7,7 +7,7 @@ ghost use Rattle.own_payload.specs.Jobs.{MayWork, HasServed};
 use crate::jobs::Job;
 use crate::noted::Noted;
 use crate::serves::Serves;
-use clof_compose::{Composed, Resting, Root, Standing};
+use clof_compose::{Resting, Root, Standing, Waits};
 use keep_local::Share;
 use std::sync::Wait;
 
@@ -27,7 +27,7 @@ fn call<T: Drop, A, F: FnOnce(&mut T, u32) -> A>(
 }
 
 /// Holds the lock once, and has `work` change the value, which is told the caller. The answer has the pass, and what `work` answered.
-pub fn hold<T: Drop, A, C: Composed<Noted<T>>, F: FnOnce(&mut T, u32) -> A, R: Wait>(
+pub fn hold<T: Drop, A, C: Waits<Noted<T>>, F: FnOnce(&mut T, u32) -> A, R: Wait>(
     rt: &R,
     lock: &C,
     pass: C::Pass,
@@ -48,7 +48,7 @@ pub fn hold<T: Drop, A, C: Composed<Noted<T>>, F: FnOnce(&mut T, u32) -> A, R: W
 }
 
 /// Has a caller take its tasks and hold the lock for each, until it stops or its share allows no further turn.
-pub fn serve_caller<T: Drop, C: Composed<Noted<T>>, S: Serves<T>, R: Wait>(
+pub fn serve_caller<T: Drop, C: Waits<Noted<T>>, S: Serves<T>, R: Wait>(
     rt: &R,
     lock: &C,
     job: Job<C::Pass>,

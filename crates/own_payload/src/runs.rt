@@ -11,7 +11,7 @@ use crate::holding::serve_caller;
 use crate::jobs::{Job, Lists, deal, gather};
 use crate::noted::Noted;
 use crate::serves::Serves;
-use clof_compose::{Composed, Root};
+use clof_compose::{Composed, Root, Waits};
 use keep_local::{Share, Trail};
 use lock_threads::{Works, by_all};
 use std::alloc::Global;
@@ -28,7 +28,7 @@ struct Shift<'b, T, C, S, R> {
     value: PhantomData<T>,
 }
 
-impl<'b, T: Drop, C: Composed<Noted<T>>, S: Serves<T>, R: Wait> Works<Job<C::Pass>>
+impl<'b, T: Drop, C: Waits<Noted<T>>, S: Serves<T>, R: Wait> Works<Job<C::Pass>>
     for Shift<'b, T, C, S, R> {
     // the job is that of a caller of this lock, and the server may be asked for it
     ghost allows = { λ s j. MayWork C.Pass.rest (C.has s.lock.now) (C.sound s.lock.now) (C.level s.lock.now) (C.tag s.lock.now) j
@@ -46,7 +46,7 @@ impl<'b, T: Drop, C: Composed<Noted<T>>, S: Serves<T>, R: Wait> Works<Job<C::Pas
 /// The lock is then taken apart, and gives its root. The answer is `None` for want of memory.
 pub fn serve<
     T: Send + Sync + Drop,
-    C: Composed<Noted<T>> + Sync + Drop,
+    C: Waits<Noted<T>> + Sync + Drop,
     S: Serves<T> + Sync,
     R: Threads + Wait + Sync,
 >(rt: &R, alloc: Global, lock: C, lists: Lists<C::Pass>, server: &S) -> Option<Root<Noted<T>>>

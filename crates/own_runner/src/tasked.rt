@@ -7,7 +7,7 @@ ghost use Rattle.own_payload.specs.Jobs.{HasServed, MayWork};
 ghost use Rattle.own_runner.specs.Runs.{AreBrought, AreOpen, HaveEnded, IsLeft};
 
 use crate::jobs::{Jobs, deal_jobs, gathered};
-use clof_compose::{Composed, Resting, Root};
+use clof_compose::{Composed, Resting, Root, Waits};
 use keep_local::Share;
 use lock_rising::{Dealt, OnThread, UnderLock};
 use out_of_memory::OutOfMemory;
@@ -25,7 +25,7 @@ impl<T: Drop, Q: Resting, S: Serves<T>> OnThread<Noted<T>, Q, (), Job<Q>, S> for
     // and all its turns are made, unless it may stop
     ghost did = { λ server _ _ _ _. HasServed Q.rest (S.stops server) };
 
-    fn serve<C: Composed<Noted<T>, Pass = Q>, R: Wait>(
+    fn serve<C: Waits<Noted<T>, Pass = Q>, R: Wait>(
         rt: &R,
         lock: &C,
         server: &S,
@@ -81,7 +81,7 @@ impl<T: Drop, Q: Resting, S: Serves<T>> UnderLock<
         }
     }
 
-    fn gather<C: Composed<Noted<T>, Pass = Q>, R: Wait>(
+    fn gather<C: Waits<Noted<T>, Pass = Q>, R: Wait>(
         _rt: &R,
         lock: &C,
         server: &S,

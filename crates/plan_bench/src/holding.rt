@@ -4,13 +4,13 @@ ghost use Rattle.clof_compose.specs.Calls.{MayTurn};
 ghost use Rattle.clof_compose.specs.Courses.{course_of};
 ghost use Rattle.own_payload.specs.Jobs.{HasServed, MayWork};
 
-use clof_compose::{Composed, Resting, Root, Standing};
+use clof_compose::{Resting, Root, Standing, Waits};
 use keep_local::Share;
 use own_payload::{Job, Noted};
 use std::sync::Wait;
 
 /// Holds the lock so often, or until the share allows no further turn.
-pub(crate) fn hold_often<C: Composed<Noted<u64>>, R: Wait>(
+pub(crate) fn hold_often<C: Waits<Noted<u64>>, R: Wait>(
     rt: &R,
     lock: &C,
     holds: u32,
@@ -35,7 +35,7 @@ pub(crate) fn hold_often<C: Composed<Noted<u64>>, R: Wait>(
 }
 
 // Holds the lock once, and counts the hold.
-fn hold<C: Composed<Noted<u64>>, R: Wait>(
+fn hold<C: Waits<Noted<u64>>, R: Wait>(
     rt: &R,
     lock: &C,
     pass: C::Pass,

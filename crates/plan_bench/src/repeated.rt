@@ -7,7 +7,7 @@ ghost use Rattle.own_runner.specs.Runs.{AreBrought, AreOpen, HaveEnded};
 
 use crate::holding::hold_often;
 use crate::jobs::{Jobs, closed, deal_jobs, gathered};
-use clof_compose::{Composed, Resting, Root};
+use clof_compose::{Composed, Resting, Root, Waits};
 use keep_local::Share;
 use lock_rising::{Dealt, OnThread, UnderLock};
 use out_of_memory::OutOfMemory;
@@ -25,7 +25,7 @@ impl<Q: Resting> OnThread<Noted<u64>, Q, (), Job<Q>, u32> for Repeated {
     // and its pass and its share come back
     ghost did = { λ _ _ _ _ _. HasServed Q.rest (λ _. Unit {0}) };
 
-    fn serve<C: Composed<Noted<u64>, Pass = Q>, R: Wait>(
+    fn serve<C: Waits<Noted<u64>, Pass = Q>, R: Wait>(
         rt: &R,
         lock: &C,
         holds: &u32,
@@ -76,7 +76,7 @@ impl<Q: Resting> UnderLock<Noted<u64>, Q, (), Job<Q>, Vec<Share>, u64, u32> for 
         }
     }
 
-    fn gather<C: Composed<Noted<u64>, Pass = Q>, R: Wait>(
+    fn gather<C: Waits<Noted<u64>, Pass = Q>, R: Wait>(
         _rt: &R,
         lock: &C,
         _holds: &u32,

@@ -11,7 +11,7 @@ ghost use Rattle.fresh_runner.specs.Ready.{IsFreshDealt};
 ghost use Rattle.planned_runner.specs.Runs.{AreDealt, IsLeftMarked};
 ghost use Rattle.planned_runner.specs.declared.marked.FreshBrought.{FreshBrought as TheBrought};
 
-use clof_compose::{Composed, Resting, Root};
+use clof_compose::{Composed, Resting, Root, Waits};
 use fresh_root::Seen;
 use fresh_runner::{
     FreshBook, FreshCrew, FreshJob, FreshPrepared, Lists, Marked, close_fresh, fresh_crew_of,
@@ -50,7 +50,7 @@ impl<'a, Q: Resting, G: Gate> OnThread<FreshBook<'a>, Q, (), FreshJob<'a, Q>, G>
     ghost did = { λ _ has level tag _ j k. (number : ℕ) → IsFreshJob Q.rest has level tag number j
         → IsFreshServed Q.rest has level tag number k };
 
-    fn serve<C: Composed<FreshBook<'a>, Pass = Q>, R: Wait>(
+    fn serve<C: Waits<FreshBook<'a>, Pass = Q>, R: Wait>(
         rt: &R,
         lock: &C,
         gate: &G,
@@ -123,7 +123,7 @@ impl<'s, 'a, Q: Resting, G: Gate> UnderLock<
         }
     }
 
-    fn gather<C: Composed<FreshBook<'a>, Pass = Q>, R: Wait>(
+    fn gather<C: Waits<FreshBook<'a>, Pass = Q>, R: Wait>(
         _rt: &R,
         lock: &C,
         _gate: &G,

@@ -11,7 +11,7 @@ ghost use Rattle.threaded_runner.specs.Ready.{IsDealt};
 ghost use Rattle.planned_runner.specs.Runs.{AreDealt, IsLeft};
 ghost use Rattle.planned_runner.specs.declared.plain.Brought.{Brought as TheBrought};
 
-use clof_compose::{Composed, Resting, Root};
+use clof_compose::{Composed, Resting, Root, Waits};
 use keep_local::Share;
 use lock_rising::{Dealt, OnThread, UnderLock};
 use out_of_memory::OutOfMemory;
@@ -48,7 +48,7 @@ impl<'a, Q: Resting, G: Gate> OnThread<Book<'a>, Q, (), Job<'a, Q>, G> for Plain
     ghost did = { λ _ has level tag _ j k. (number : ℕ) → IsJob Q.rest has level tag number j
         → IsServed Q.rest has level tag number k };
 
-    fn serve<C: Composed<Book<'a>, Pass = Q>, R: Wait>(
+    fn serve<C: Waits<Book<'a>, Pass = Q>, R: Wait>(
         rt: &R,
         lock: &C,
         gate: &G,
@@ -126,7 +126,7 @@ impl<'s, 'a, Q: Resting, G: Gate> UnderLock<
         }
     }
 
-    fn gather<C: Composed<Book<'a>, Pass = Q>, R: Wait>(
+    fn gather<C: Waits<Book<'a>, Pass = Q>, R: Wait>(
         _rt: &R,
         lock: &C,
         _gate: &G,

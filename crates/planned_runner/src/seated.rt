@@ -14,7 +14,7 @@ ghost use Rattle.planned_runner.specs.declared.seated.Waiting.{Waiting as TheWai
 
 use crate::manner::Sharing;
 use crate::parts::{joined, parted};
-use clof_compose::{Composed, Resting, Root};
+use clof_compose::{Composed, Resting, Root, Waits};
 use cohort_desks::Desk;
 use cohort_runner::{Aside, Caller, Floor, end_run, open_run, serve_desk};
 use keep_local::Share;
@@ -53,7 +53,7 @@ impl<'a, Q: Resting, G: Gate> OnThread<Book<'a>, Q, Room<'a, Q>, Desk<Caller<'a,
     // and it is left as it was, for the next one
     ghost did = { λ _ _ _ _ room before after. HasSat room.floor.cohorts.items before after };
 
-    fn serve<C: Composed<Book<'a>, Pass = Q>, R: Wait>(
+    fn serve<C: Waits<Book<'a>, Pass = Q>, R: Wait>(
         rt: &R,
         lock: &C,
         gate: &G,
@@ -126,7 +126,7 @@ impl<'s, 'a, Q: Resting, G: Gate> UnderLock<
         }
     }
 
-    fn gather<C: Composed<Book<'a>, Pass = Q>, R: Wait>(
+    fn gather<C: Waits<Book<'a>, Pass = Q>, R: Wait>(
         rt: &R,
         lock: &C,
         gate: &G,

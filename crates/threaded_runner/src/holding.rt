@@ -9,7 +9,7 @@ ghost use Rattle.threaded_runner.specs.Jobs.{HasServed, IsCommandAt, IsJob};
 use crate::book::Book;
 use crate::job::Job;
 use crate::waiting::acquire;
-use clof_compose::{Composed, Resting, Root, Standing};
+use clof_compose::{Resting, Root, Standing, Waits};
 use keep_local::Share;
 use mc_text::{Command, Commands};
 use placed_runner::Gate;
@@ -17,7 +17,7 @@ use std::sync::Wait;
 
 /// Holds the lock once for each command that a caller has left, and applies the command to the journal at the root. The caller stops
 /// before its commands end where one was refused, which is for want of memory.
-pub fn serve<'a, C: Composed<Book<'a>>, G: Gate, R: Wait>(
+pub fn serve<'a, C: Waits<Book<'a>>, G: Gate, R: Wait>(
     rt: &R,
     lock: &C,
     gate: &G,
@@ -56,7 +56,7 @@ pub fn serve<'a, C: Composed<Book<'a>>, G: Gate, R: Wait>(
 }
 
 /// Holds the lock for the next command of a caller that has one left. The caller stops where it was refused, which is for want of memory.
-pub fn give_next<'a, C: Composed<Book<'a>>, G: Gate, R: Wait>(
+pub fn give_next<'a, C: Waits<Book<'a>>, G: Gate, R: Wait>(
     rt: &R,
     lock: &C,
     gate: &G,
@@ -87,7 +87,7 @@ pub fn give_next<'a, C: Composed<Book<'a>>, G: Gate, R: Wait>(
 
 // Holds the lock for the next command of a caller that has one left, whose job stands in its parts. The answer has the pass, and whether
 // the command was refused.
-fn give<'a, C: Composed<Book<'a>>, G: Gate, R: Wait>(
+fn give<'a, C: Waits<Book<'a>>, G: Gate, R: Wait>(
     rt: &R,
     lock: &C,
     gate: &G,
@@ -112,7 +112,7 @@ fn give<'a, C: Composed<Book<'a>>, G: Gate, R: Wait>(
 }
 
 // Holds the lock once and applies a command. The answer has the pass, and whether the command was refused.
-fn hold<'a, C: Composed<Book<'a>>, G: Gate, R: Wait>(
+fn hold<'a, C: Waits<Book<'a>>, G: Gate, R: Wait>(
     rt: &R,
     lock: &C,
     gate: &G,

@@ -12,7 +12,7 @@ use crate::ending::{ended, walked};
 use crate::given::{Brought, Trial};
 use crate::jobs::{deal_jobs, gathered};
 use crate::outcome::{End, Outcome};
-use clof_compose::{Composed, Resting, Root};
+use clof_compose::{Composed, Resting, Root, Waits};
 use level_harness::{Job, Roll, hold_all};
 use lock_rising::{Dealt, OnThread, UnderLock};
 use out_of_memory::OutOfMemory;
@@ -29,7 +29,7 @@ impl<Q: Resting> OnThread<Roll, Q, (), Job<Q>, ()> for Tried {
     // and the same come back, with all turns made
     ghost did = { λ _ _ _ _ _. HasWorked Q.rest };
 
-    fn serve<C: Composed<Roll, Pass = Q>, R: Wait>(
+    fn serve<C: Waits<Roll, Pass = Q>, R: Wait>(
         rt: &R,
         lock: &C,
         _shared: &(),
@@ -85,7 +85,7 @@ impl<'t, Q: Resting> UnderLock<Roll, Q, (), Job<Q>, Brought<'t>, Outcome<Roll>, 
         }
     }
 
-    fn gather<C: Composed<Roll, Pass = Q>, R: Wait>(
+    fn gather<C: Waits<Roll, Pass = Q>, R: Wait>(
         _rt: &R,
         lock: &C,
         _shared: &(),
