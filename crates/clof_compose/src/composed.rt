@@ -176,24 +176,4 @@ pub trait Composed<P: Payload>: Sized {
         }
         unreachable!()
     }
-
-    /// Polls a release until the pass is idle again, and pauses behind each poll.
-    final fn wait_release<R: Wait>(&self, rt: &R, leave: Self::Leave) -> Self::Pass
-        requires sound { sound self.now }
-        requires own { has self.now (Self.Leave.descent leave).context }
-        requires descends { Self.Leave.descends leave }
-        ensures pass { (Self.Pass.rest result).context ≡ (Self.Leave.descent leave).context }
-        ensures tests { (Self.Pass.rest result).report ≡ (Self.Leave.descent leave).report }
-    {
-        let mut leave = leave;
-        let mut pauses = Pauses::new();
-        for _ in rt.forever() {
-            match self.poll_release(leave) {
-                Step::Got(pass) => return pass,
-                Step::Not(next) => leave = next,
-            }
-            pauses.pause();
-        }
-        unreachable!()
-    }
 }

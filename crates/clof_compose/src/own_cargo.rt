@@ -26,10 +26,7 @@ impl<P: Payload, Pass: Resting, Held: Standing<P>> Cargo for Own<P, Pass, Held> 
     ghost said = { λ o. answer_of o.said };
 
     fn parked(&self) -> bool {
-        match self.high.get() {
-            High::Kept(_) => true,
-            _ => false,
-        }
+        matches!(self.high.get(), High::Kept(_))
     }
 }
 
