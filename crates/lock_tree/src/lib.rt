@@ -1,7 +1,8 @@
 //! Composed locks of one to five levels for a plan.
 //!
-//! `make_1` to `make_5` make a composed lock of as many levels for the callers of a shape, whose levels have the kinds of the plan. What
-//! a level is, and a basic lock of any of the four kinds, comes from `lock_levels` and is handed on.
+//! `make_1` to `make_5` make a composed lock of as many levels for the callers of a shape, whose levels have the kinds of the plan. The
+//! caller names the lock's type, as `make_3::<P, Lock3<P>>`. What a level is, and a basic lock of any of the four kinds, comes from
+//! `lock_levels` and is handed on.
 #![tactic(auto)]
 
 mod depths;
@@ -14,3 +15,4 @@ pub use lock_levels::{
     top_passes_may_be_sent,
 };
 pub use lock_plan::{LockKind, Plan, PlanFault};
+pub use tiers::Tiers;

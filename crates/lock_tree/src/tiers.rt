@@ -11,9 +11,10 @@ use lock_plan::Plan;
 use lock_rules::{Pass, Refused};
 use std::alloc::Global;
 
-/// A composed lock whose levels are of kinds that a plan chooses.
-pub(crate) trait Tiers<P: Payload>: HasKinds<P> + Drop {
-    // how many levels it has below its top
+/// A composed lock whose levels are of kinds that a plan chooses, made from the top down.
+///
+/// `lower` is how many levels it has below its top: 0 of a `Lock1`, 4 of a `Lock5`.
+pub trait Tiers<P: Payload>: HasKinds<P> + Drop {
     ghost lower: { ℕ };
 
     /// A lock for a shape, from this level up to the top, around a root. For want of memory the levels that were made are closed, and the
