@@ -1,8 +1,9 @@
 //! What one thread does: it goes round the Cohorts, takes the caller that has waited longest, and serves some of its commands.
-ghost use Rattle.std.specs.Prelude.{◌≡◌, ◌<◌, ◌≤◌, Some, length, slice_get, true};
+ghost use Rattle.std.specs.Prelude.{◌≡◌, ◌<◌, ◌≤◌, IfNone, IfSome, Some, length, slice_get, true};
+ghost use Rattle.cohort_desks.specs.Desks.{HasTakenAt, IsDesk};
 ghost use Rattle.cohort_runner.specs.Callers.{IsCaller};
 ghost use Rattle.cohort_runner.specs.Rolls.{IsRoll, contexts_of, roll_tag};
-ghost use Rattle.cohort_runner.specs.Runs.{HasSat, MaySit};
+ghost use Rattle.cohort_runner.specs.Runs.{HasSat, MaySit, number_of, tag_of};
 ghost use Rattle.threaded_runner.specs.Jobs.{IsJob};
 
 use crate::caller::Caller;
@@ -56,6 +57,10 @@ pub(crate) fn job_of<'a, C: Composed<Book<'a>>>(
     ensures job { IsJob C.Pass.rest (C.has _lock.now) (C.level _lock.now) (C.tag _lock.now) caller.entry.number result }
     ensures at { slice_get (contexts_of C.Pass.rest _roll.now.told.value.items) caller.entry.number
         ≡ Some (C.Pass.rest result.pass).context }
+    ensures number { result.share.caller ≡ caller.entry.number }
+    ensures own { IsJob C.Pass.rest (C.has _lock.now) (C.level _lock.now) (C.tag _lock.now) result.share.caller result }
+    ensures placed { slice_get (contexts_of C.Pass.rest _roll.now.told.value.items) result.share.caller
+        ≡ Some (C.Pass.rest result.pass).context }
 {
     let (job, _) = caller.into_parts();
     job
@@ -75,6 +80,27 @@ fn caller_of<'a, C: Composed<Book<'a>>>(
     Caller::on(roll, job)
 }
 
+// Serves up to so many commands of the job of a caller on the roll, which it stays.
+fn serve_job<'a, C: Waits<Book<'a>>, G: Gate, R: Wait>(
+    rt: &R,
+    lock: &C,
+    gate: &G,
+    _roll: &Roll<'a, C::Pass>,
+    job: Job<'a, C::Pass>,
+    quantum: u32,
+) -> Job<'a, C::Pass>
+    requires sound { C.sound lock.now }
+    requires lowest { C.level lock.now ≡ 0 }
+    requires job { IsJob C.Pass.rest (C.has lock.now) (C.level lock.now) (C.tag lock.now) job.share.caller job }
+    requires at { slice_get (contexts_of C.Pass.rest _roll.now.told.value.items) job.share.caller ≡ Some (C.Pass.rest job.pass).context }
+    ensures job { IsJob C.Pass.rest (C.has lock.now) (C.level lock.now) (C.tag lock.now) result.share.caller result }
+    ensures at { slice_get (contexts_of C.Pass.rest _roll.now.told.value.items) result.share.caller
+        ≡ Some (C.Pass.rest result.pass).context }
+    ensures number { result.share.caller ≡ job.entry.share.caller }
+{
+    give_some(rt, lock, gate, job, quantum)
+}
+
 // Serves up to so many commands of a caller on the roll. The answer has the caller, and whether it has commands left and didn't stop.
 fn serve_some<'a, C: Waits<Book<'a>>, G: Gate, R: Wait>(
     rt: &R,
@@ -92,9 +118,32 @@ fn serve_some<'a, C: Waits<Book<'a>>, G: Gate, R: Wait>(
     ensures tag { result.0.tag ≡ caller.entry.tag }
 {
     let job = job_of(lock, roll, caller);
-    let job = give_some(rt, lock, gate, job, quantum);
+    let job = serve_job(rt, lock, gate, roll, job, quantum);
     let more = goes_on(&job);
     (caller_of(lock, roll, job), more)
+}
+
+// Takes the caller that has waited longest at one of the Cohorts, which is one on the roll.
+fn take<'a, C: Composed<Book<'a>>, R: Wait>(
+    rt: &R,
+    _lock: &C,
+    _roll: &Roll<'a, C::Pass>,
+    cohorts: &[Cohort<Caller<'a, C::Pass>>],
+    desk: &mut Desk<Caller<'a, C::Pass>>,
+    at: usize,
+) -> Option<Caller<'a, C::Pass>>
+    requires may { MaySit (C.has _lock.now) (C.level _lock.now) (C.tag _lock.now) (C.sound _lock.now)
+        (contexts_of C.Pass.rest _roll.now.told.value.items) cohorts.now desk.old }
+    requires at { at < length cohorts.now }
+    ensures number { desk.new.number ≡ desk.old.number }
+    ensures taken { IfSome result (λ c. HasTakenAt number_of tag_of cohorts.now desk.new at c.number c.tag) }
+    ensures tag { IfSome result (λ c. c.tag ≡ roll_tag (contexts_of C.Pass.rest _roll.now.told.value.items)) }
+    ensures none { IfNone result (IsDesk number_of tag_of cohorts.now desk.new) }
+{
+    let Some(caller) = take_from(rt, cohorts, desk, at) else {
+        return None;
+    };
+    Some(caller)
 }
 
 // Serves the caller that has waited longest at one of the Cohorts, and puts it back behind all others there if it goes on. The answer has
@@ -113,9 +162,11 @@ fn visit<'a, C: Waits<Book<'a>>, G: Gate, R: Wait>(
         (contexts_of C.Pass.rest roll.now.told.value.items) cohorts.now desk }
     requires at { at < length cohorts.now }
     ensures sat { HasSat cohorts.now desk.entry result.0 }
+    ensures may { MaySit (C.has lock.now) (C.level lock.now) (C.tag lock.now) (C.sound lock.now)
+        (contexts_of C.Pass.rest roll.now.told.value.items) cohorts.now result.0 }
 {
     let mut desk = desk;
-    let Some(caller) = take_from(rt, cohorts, &mut desk, at) else {
+    let Some(caller) = take(rt, lock, roll, cohorts, &mut desk, at) else {
         return (desk, false);
     };
     let (caller, more) = serve_some(rt, lock, gate, roll, caller, quantum);

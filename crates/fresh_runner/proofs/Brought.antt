@@ -1,5 +1,5 @@
 -- What callers bring, before they begin.
-use Rattle.std.proofs.Common.{◌≡◌, ℕ, ◌+◌, List, [], ◌∷◌, ◌++◌, length, refl, ap, sym, ◌∙◌, subst, arith, Some}
+use Rattle.std.proofs.Common.{◌≡◌, ℕ, ◌+◌, List, [], ◌∷◌, ◌++◌, length, refl, ap, sym, ◌∙◌, subst, arith, Option, Some, None, IfSome}
 use Rattle.std.specs.Prelude.{slice_get, slice_index}
 use Rattle.std.specs.List.{enumerate_from}
 use Rattle.std.proofs.lemmas.Option.{slice_get_within}
@@ -26,6 +26,11 @@ use Rattle.fresh_runner.specs.declared.account.Marks.{Marks}
 use Rattle.fresh_runner.specs.declared.lists.Lists.{Lists}
 use Rattle.fresh_runner.proofs.Items.{all_at, item}
 use Rattle.fresh_runner.proofs.Places.{no_places}
+
+-- what is known of a value that may be there, put together
+pub both : {X : Type 0} (o : Option X) (P Q : X → Type 0) → IfSome o P → IfSome o Q → IfSome o (λ x. P x × Q x)
+both None P Q p q = tt
+both (Some x) P Q p q = (p, q)
 
 -- there are as many shares as callers
 pub many_shares : (course : Course) (sections : List (List ℕ)) (shares : List ShareState) (seens : List SeenState)

@@ -3,11 +3,13 @@ ghost use Rattle.std.specs.Prelude.{◌≡◌, ◌+◌, ◌<◌, ◌^◌, ◌++�
 ghost use Rattle.lock_rules.specs.Trees.{lists_in};
 ghost use Rattle.clof_compose.specs.Calls.{MayTurn};
 ghost use Rattle.clof_compose.specs.Courses.{course_of};
+ghost use Rattle.clof_compose.specs.Passes.{IsNumber};
 ghost use Rattle.fresh_root.specs.Prefixes.{IsPrefixOf};
 ghost use Rattle.fresh_root.specs.States.{fresh_tag};
 ghost use Rattle.kv_history.specs.Log.{IsNext};
+ghost use Rattle.mc_text.specs.Commands.{commands_left};
 ghost use Rattle.mc_text.specs.Request.{view};
-ghost use Rattle.threaded_runner.specs.Jobs.{IsCommandAt};
+ghost use Rattle.threaded_runner.specs.Jobs.{HasLeft, IsCommandAt};
 ghost use Rattle.fresh_runner.specs.Books.{book_in, fresh_book_calls, fresh_book_tag};
 ghost use Rattle.fresh_runner.specs.Jobs.{IsAccount, IsFreshJob, IsFreshServed};
 
@@ -15,9 +17,9 @@ use crate::account::Account;
 use crate::book::FreshBook;
 use crate::job::FreshJob;
 use crate::waiting::acquire;
-use clof_compose::{Resting, Root, Standing, Waits};
+use clof_compose::{Composed, Resting, Root, Standing, Waits};
 use fresh_root::Fresh;
-use mc_text::Command;
+use mc_text::{Command, Commands};
 use placed_runner::Gate;
 use std::sync::Wait;
 use threaded_runner::Book;
@@ -66,9 +68,7 @@ fn give_next<'a, C: Waits<FreshBook<'a>>, G: Gate, R: Wait>(
         mut commands,
         ..
     } = job;
-    let Some(command) = commands.next() else {
-        unreachable!()
-    };
+    let command = take_next(lock, &pass, &account, &mut commands);
     let (pass, stopped) = hold(rt, lock, gate, pass, &mut account, command);
     FreshJob {
         pass,
@@ -76,6 +76,31 @@ fn give_next<'a, C: Waits<FreshBook<'a>>, G: Gate, R: Wait>(
         commands,
         stopped,
     }
+}
+
+// The next command of a caller that has one left, which it may hold the lock for.
+fn take_next<'a, C: Composed<FreshBook<'a>>>(
+    _lock: &C,
+    _pass: &C::Pass,
+    _account: &Account,
+    commands: &mut Commands<'a>,
+) -> Command<'a>
+    requires lowest { C.level _lock.now ≡ 0 }
+    requires pass { IsNumber (C.has _lock.now) (C.level _lock.now) (C.tag _lock.now) _account.now.share.caller
+        (C.Pass.rest _pass.now).context }
+    requires account { IsAccount (course_of (C.tag _lock.now)) _account.now.share.caller _account.now }
+    requires left { HasLeft (book_in (course_of (C.tag _lock.now)).payload) _account.now.share (commands_left commands.old) }
+    requires some { _account.now.share.made < _account.now.share.quota }
+    ensures share { MayTurn (course_of (C.tag _lock.now)) (C.level _lock.now) (C.Pass.rest _pass.now).context.number _account.now.share }
+    ensures next { IsCommandAt (book_in (course_of (C.tag _lock.now)).payload) _account.now.share.caller _account.now.share.made
+        (view result) }
+    ensures left { HasLeft (book_in (course_of (C.tag _lock.now)).payload)
+        (record _account.now.share { made = _account.now.share.made + 1 }) (commands_left commands.new) }
+{
+    let Some(command) = commands.next() else {
+        unreachable!()
+    };
+    command
 }
 
 // Holds the lock once and applies a command. The answer has the pass, and whether the command was refused.

@@ -1,9 +1,12 @@
 //! What a run takes apart and puts together again, over any lock.
 ghost use Rattle.std.specs.Prelude.{◌≡◌, ◌≤◌, ℕ, [], length, map, slice_get, vec_capacity, IfErr, IfOk, IfSome, Some};
 ghost use Rattle.std.specs.List.{list_any};
+ghost use Rattle.lock_rules.specs.Trees.{lists_in};
 ghost use Rattle.clof_compose.specs.Courses.{course_of};
 ghost use Rattle.clof_compose.specs.Passes.{AreAll};
-ghost use Rattle.fresh_runner.specs.Crews.{AreEmptied, IsFreshCrew};
+ghost use Rattle.mc_text.specs.Reading.{commands_of};
+ghost use Rattle.fresh_runner.specs.Books.{book_in};
+ghost use Rattle.fresh_runner.specs.Crews.{AreEmptied, AreLists, IsFreshCrew};
 ghost use Rattle.fresh_runner.specs.Jobs.{IsBlank, IsFreshJob, IsFreshServed};
 ghost use Rattle.fresh_runner.specs.Ready.{IsFreshDealt};
 
@@ -50,7 +53,8 @@ pub fn prepare_fresh<'a, C: Composed<FreshBook<'a>>>(
     ensures refused { IfErr result (λ crew. IsFreshCrew C.Pass.rest (C.has lock.now) (C.level lock.now) (C.count lock.now) (C.tag lock.now)
         crew) }
 {
-    let Some((jobs, marks, stopped)) = rooms(alloc, &shares) else {
+    let Some((jobs, marks, stopped)) = rooms_for(alloc, lock, &passes, &shares, &seens, sections)
+    else {
         return Err(not_started(alloc, lock, passes, shares, seens, sections));
     };
     let lists = Lists {
@@ -65,6 +69,32 @@ pub fn prepare_fresh<'a, C: Composed<FreshBook<'a>>>(
         lists,
         stopped,
     })
+}
+
+// Empty lists with room for the jobs of callers who bring these lists, and empty marks, with which the lists are what jobs are made of.
+fn rooms_for<'a, C: Composed<FreshBook<'a>>>(
+    alloc: Global,
+    _lock: &C,
+    _passes: &Vec<C::Pass>,
+    shares: &Vec<Share>,
+    _seens: &Vec<Seen>,
+    _sections: &[Section<'a>],
+) -> Option<(Vec<FreshJob<'a, C::Pass>>, Vec<Marks>, Vec<bool>)>
+    requires passes { AreAll (λ p. (C.Pass.rest p).context) (C.has _lock.now) (C.level _lock.now) (C.tag _lock.now) (C.count _lock.now)
+        _passes.now.items }
+    requires count { C.count _lock.now ≡ length _sections.now }
+    requires dealt { IsFreshDealt (course_of (C.tag _lock.now)) (map (λ section. section.bytes.now) _sections.now) shares.now.items
+        _seens.now.items }
+    ensures lists { IfSome result (λ made. AreLists C.Pass.rest (C.has _lock.now) (C.level _lock.now) (C.tag _lock.now)
+        (length _sections.now) (record { passes = _passes.now; shares = shares.now; seens = _seens.now; marks = made.1 })) }
+    ensures sections { lists_in (book_in (course_of (C.tag _lock.now)).payload) ≡ map (λ section. section.bytes.now) _sections.now }
+    ensures quotas { (course_of (C.tag _lock.now)).quotas ≡ map (λ section. length (commands_of section.bytes.now)) _sections.now }
+    ensures empty { IfSome result (λ made. made.0.items ≡ []) }
+    ensures room { IfSome result (λ made. length _sections.now ≤ vec_capacity made.0) }
+    ensures stopped { IfSome result (λ made. made.2.items ≡ []) }
+    ensures stopped_room { IfSome result (λ made. C.count _lock.now ≤ vec_capacity made.2) }
+{
+    rooms(alloc, shares)
 }
 
 // Empty lists with room for a job for each share and for what is told of each, and for each its empty marks; none for want of memory.

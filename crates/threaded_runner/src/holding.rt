@@ -3,13 +3,14 @@ ghost use Rattle.std.specs.Prelude.{◌≡◌, ◌+◌, ◌<◌, ◌++◌, ◌�
 ghost use Rattle.clof_compose.specs.Calls.{MayTurn};
 ghost use Rattle.clof_compose.specs.Courses.{course_of};
 ghost use Rattle.kv_history.specs.Log.{IsNext, calls};
+ghost use Rattle.mc_text.specs.Commands.{commands_left};
 ghost use Rattle.mc_text.specs.Request.{view};
-ghost use Rattle.threaded_runner.specs.Jobs.{HasServed, IsCommandAt, IsJob};
+ghost use Rattle.threaded_runner.specs.Jobs.{HasLeft, HasServed, IsCommandAt, IsJob};
 
 use crate::book::Book;
 use crate::job::Job;
 use crate::waiting::acquire;
-use clof_compose::{Resting, Root, Standing, Waits};
+use clof_compose::{Composed, Resting, Root, Standing, Waits};
 use keep_local::Share;
 use mc_text::{Command, Commands};
 use placed_runner::Gate;
@@ -105,10 +106,30 @@ fn give<'a, C: Waits<Book<'a>>, G: Gate, R: Wait>(
     ensures pass { (C.Pass.rest result.0).context ≡ (C.Pass.rest pass).context }
     ensures share { share.new ≡ record share.old { made = share.old.made + 1 } }
 {
+    let command = take_next(lock, &pass, share, commands);
+    hold(rt, lock, gate, pass, share, command)
+}
+
+// The next command of a caller that has one left, which it may hold the lock for.
+fn take_next<'a, C: Composed<Book<'a>>>(
+    _lock: &C,
+    _pass: &C::Pass,
+    _share: &Share,
+    commands: &mut Commands<'a>,
+) -> Command<'a>
+    requires lowest { C.level _lock.now ≡ 0 }
+    requires job { IsJob C.Pass.rest (C.has _lock.now) (C.level _lock.now) (C.tag _lock.now) _share.now.caller
+        (record { pass = _pass.now; share = _share.now; commands = commands.old; stopped = false }) }
+    requires some { _share.now.made < _share.now.quota }
+    ensures may { MayTurn (course_of (C.tag _lock.now)) (C.level _lock.now) (C.Pass.rest _pass.now).context.number _share.now }
+    ensures next { IsCommandAt (course_of (C.tag _lock.now)).payload _share.now.caller _share.now.made (view result) }
+    ensures left { HasLeft (course_of (C.tag _lock.now)).payload (record _share.now { made = _share.now.made + 1 })
+        (commands_left commands.new) }
+{
     let Some(command) = commands.next() else {
         unreachable!()
     };
-    hold(rt, lock, gate, pass, share, command)
+    command
 }
 
 // Holds the lock once and applies a command. The answer has the pass, and whether the command was refused.

@@ -1,8 +1,11 @@
 //! What a run takes apart and puts together again, over any lock.
 ghost use Rattle.std.specs.Prelude.{◌≡◌, ◌≤◌, ℕ, [], length, map, slice_get, vec_capacity, IfErr, IfOk, IfSome, Some};
 ghost use Rattle.std.specs.List.{list_any};
+ghost use Rattle.lock_rules.specs.Trees.{lists_in};
 ghost use Rattle.clof_compose.specs.Courses.{course_of};
-ghost use Rattle.clof_compose.specs.Passes.{AreAll};
+ghost use Rattle.clof_compose.specs.Passes.{AreAll, IsNumber};
+ghost use Rattle.clof_compose.specs.Shares.{IsShareIn};
+ghost use Rattle.mc_text.specs.Reading.{commands_of};
 ghost use Rattle.threaded_runner.specs.Crews.{HasRoom, IsCrew};
 ghost use Rattle.threaded_runner.specs.Jobs.{IsJob, IsServed};
 ghost use Rattle.threaded_runner.specs.Ready.{IsDealt};
@@ -47,6 +50,7 @@ pub fn prepare<'a, C: Composed<Book<'a>>>(
     let Some((jobs, stopped)) = rooms(alloc, passes.len()) else {
         return Err(not_started(alloc, lock, passes, shares, sections));
     };
+    may_deal(lock, &passes, &shares, sections);
     let (jobs, passes, shares) = deal(lock, passes, shares, sections, jobs);
     Ok(Prepared {
         jobs,
@@ -55,6 +59,28 @@ pub fn prepare<'a, C: Composed<Book<'a>>>(
         stopped,
     })
 }
+
+// What the lists of a run tell of each of its callers.
+fn may_deal<'a, C: Composed<Book<'a>>>(
+    _lock: &C,
+    _passes: &Vec<C::Pass>,
+    _shares: &Vec<Share>,
+    _sections: &[Section<'a>],
+)
+    requires passes { AreAll (λ p. (C.Pass.rest p).context) (C.has _lock.now) (C.level _lock.now) (C.tag _lock.now) (C.count _lock.now)
+        _passes.now.items }
+    requires count { C.count _lock.now ≡ length _sections.now }
+    requires dealt { IsDealt (course_of (C.tag _lock.now)) (map (λ section. section.bytes.now) _sections.now) _shares.now.items }
+    ensures passes { (k : ℕ) (p : C.Pass) → slice_get _passes.now.items k ≡ Some p
+        → IsNumber (C.has _lock.now) (C.level _lock.now) (C.tag _lock.now) k (C.Pass.rest p).context }
+    ensures shares { (k : ℕ) (s : _) → slice_get _shares.now.items k ≡ Some s
+        → IsShareIn (course_of (C.tag _lock.now)) k s × (s.made ≡ 0) }
+    ensures many { length _shares.now.items ≡ length _passes.now.items }
+    ensures all { length _sections.now ≡ length _passes.now.items }
+    ensures sections { lists_in (course_of (C.tag _lock.now)).payload ≡ map (λ section. section.bytes.now) _sections.now }
+    ensures quotas { (course_of (C.tag _lock.now)).quotas
+        ≡ map (λ section. length (commands_of section.bytes.now)) _sections.now }
+{}
 
 // Empty lists with room for so many jobs, and for what is told of each; none for want of memory.
 fn rooms<'a, Q: Drop>(alloc: Global, count: usize) -> Option<(Vec<Job<'a, Q>>, Vec<bool>)>
