@@ -1,7 +1,9 @@
 -- What a caller has left before, in and behind a hold.
-use Rattle.std.proofs.Common.{◌≡◌, ℕ, ◌+◌, ◌<◌, List, [], ◌∷◌, ap, sym, ◌∙◌, subst, arith}
+use Rattle.std.proofs.Common.{◌≡◌, ℕ, ◌+◌, ◌<◌, List, [], ◌∷◌, length, get_or, ap, sym, ◌∙◌, subst, arith, Some}
+use Rattle.std.specs.Prelude.{slice_get}
 use Rattle.std.proofs.lemmas.List.{append-nil}
 use Rattle.std.proofs.lemmas.List.Elements.{All-nil}
+use Rattle.std.proofs.lemmas.Option.{slice_get-get_or}
 use Rattle.lock_rules.specs.Tag.{Tag}
 use Rattle.keep_local.specs.States.{IsTrail, ShareState, TrailState}
 use Rattle.keep_local.specs.declared.turn.Turn.{Turn}
@@ -14,6 +16,7 @@ use Rattle.clof_compose.specs.Passes.{IsNumber}
 use Rattle.clof_compose.specs.Roots.{IsKept}
 use Rattle.clof_compose.specs.Shares.{IsShareIn}
 use Rattle.clof_compose.specs.declared.root.Root.{Root}
+use Rattle.clof_compose.proofs.Shares.{own_share}
 use Rattle.mc_text.specs.Commands.{commands_left}
 use Rattle.mc_text.specs.Request.{WholeCommand}
 use Rattle.threaded_runner.specs.Books.{book_calls, book_tag}
@@ -124,3 +127,16 @@ module _ {P Q H L : Type 0} (rest : P → Rest) (climb : Q → Climb) (climbs : 
         share_is = is.share_is;
         made = done.made;
       }
+
+  module _ (ws : List (Walker P Q H L)) (n : ℕ) (many : length ws ≡ n) (each : (k : ℕ) (w : Walker P Q H L) → slice_get ws k ≡ Some w
+      → IsWalker rest climb climbs stand stands descent descends has level tag k w) (k : ℕ) (d : Walker P Q H L) (within : k < n) where
+    here : IsWalker rest climb climbs stand stands descent descends has level tag k (get_or ws k d)
+    here = each k _ (slice_get-get_or ws k d (omega (arith, many, within)))
+
+    -- each caller of a list has its share
+    pub shares_at : IsShareIn (course_of tag) (get_or ws k d).task.share.caller (get_or ws k d).task.share
+    shares_at = own_share _ _ _ here.share_is
+
+    -- and it stands
+    pub stands_at : Stands rest climb climbs stand stands descent descends has level tag (get_or ws k d).state (get_or ws k d).task
+    stands_at = here.stands_is

@@ -1,5 +1,5 @@
 -- Where the callers of a walk stand.
-use Rattle.std.specs.Prelude.{◌≡◌, ℕ, ◌+◌, ◌<◌, List, false, IsSomeAnd}
+use Rattle.std.specs.Prelude.{◌≡◌, ℕ, ◌+◌, ◌<◌, List, slice_get, Some, false, IsSomeAnd}
 use Rattle.lock_rules.specs.Tag.{Tag}
 use Rattle.keep_local.specs.States.{ShareState}
 use Rattle.clof_compose.specs.Calls.{HasOpened}
@@ -46,6 +46,10 @@ module _ {P Q H L : Type 0} (rest : P → Rest) (climb : Q → Climb) (climbs : 
   pub record IsWalker (number : ℕ) (w : Walker P Q H L) : Type 0 where
     pub share_is : IsShareIn (course_of tag) number w.task.share
     pub stands_is : Stands w.state w.task
+
+  -- each caller of the list is the one with the number of its place
+  pub record AreWalkers (ws : List (Walker P Q H L)) : Type 0 where
+    pub each : (k : ℕ) (w : Walker P Q H L) → slice_get ws k ≡ Some w → IsWalker k w
 
 module _ {P Q H L : Type 0} where
   abbrev pub IsIdle : State P Q H L → Type 0

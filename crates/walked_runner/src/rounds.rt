@@ -1,7 +1,7 @@
 //! The rounds of a walk.
 ghost use Rattle.std.specs.Prelude.{◌≡◌, ℕ, length, slice_get, Some, IsTrue};
 ghost use Rattle.walked_runner.specs.Steps.{HasStepped};
-ghost use Rattle.walked_runner.specs.Walkers.{IsDone, IsWalker};
+ghost use Rattle.walked_runner.specs.Walkers.{AreWalkers, IsDone, IsWalker};
 
 use crate::moving::step;
 use crate::walker::{State, Walker, WalkerIn};
@@ -24,17 +24,26 @@ pub(crate) fn make_rounds<'a, C: Composed<Book<'a>>, R: Wait>(
     ensures done { (k : ℕ) (w : _) → slice_get result.items k ≡ Some w → IsDone w }
     ensures many { length result.items ≡ length walkers.entry.items }
 {
+    may_step_on(lock, &walkers);
     let mut walkers = walkers;
     step_on(rt, lock, &mut walkers);
     walkers
 }
 
+// What the callers of a list are, they are in any list that is the same.
+fn may_step_on<'a, C: Composed<Book<'a>>>(_lock: &C, _walkers: &Vec<WalkerIn<'a, C>>)
+    requires each { (k : ℕ) (w : _) → slice_get _walkers.now.items k ≡ Some w → IsWalker C.Pass.rest C.Queue.climb C.Queue.climbs
+        C.Held.stand C.Held.stands C.Leave.descent C.Leave.descends (C.has _lock.now) (C.level _lock.now) (C.tag _lock.now) k w }
+    ensures all { (l : _) → l ≡ _walkers.now.items → AreWalkers C.Pass.rest C.Queue.climb C.Queue.climbs C.Held.stand C.Held.stands
+        C.Leave.descent C.Leave.descends (C.has _lock.now) (C.level _lock.now) (C.tag _lock.now) l }
+{}
+
 // Makes these rounds.
 fn step_on<'a, C: Composed<Book<'a>>, R: Wait>(rt: &R, lock: &C, walkers: &mut [WalkerIn<'a, C>])
     requires sound { C.sound lock.now }
     requires lowest { C.level lock.now ≡ 0 }
-    requires each { (k : ℕ) (w : _) → slice_get walkers.old k ≡ Some w → IsWalker C.Pass.rest C.Queue.climb C.Queue.climbs C.Held.stand
-        C.Held.stands C.Leave.descent C.Leave.descends (C.has lock.now) (C.level lock.now) (C.tag lock.now) k w }
+    requires all { AreWalkers C.Pass.rest C.Queue.climb C.Queue.climbs C.Held.stand C.Held.stands C.Leave.descent C.Leave.descends
+        (C.has lock.now) (C.level lock.now) (C.tag lock.now) walkers.old }
     ensures each { (k : ℕ) (w : _) → slice_get walkers.new k ≡ Some w → IsWalker C.Pass.rest C.Queue.climb C.Queue.climbs C.Held.stand
         C.Held.stands C.Leave.descent C.Leave.descends (C.has lock.now) (C.level lock.now) (C.tag lock.now) k w }
     ensures done { (k : ℕ) (w : _) → slice_get walkers.new k ≡ Some w → IsDone w }
