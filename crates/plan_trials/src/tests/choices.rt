@@ -1,10 +1,14 @@
 //! Choices for small traces, whose costs a plain program outside counted (bench/selections.py), and all refusals.
+ghost use Rattle.std.specs.Prelude.{◌≤◌};
+ghost use Rattle.lock_select.specs.Texts.{keep_limit, Weighs};
+ghost use Rattle.lock_select.specs.Traces.{Visits};
+
 use crate::tests::{expect_words, topology_of, tree_of};
-use lock_select::{SelectFault, choose, cost, read_keep, read_trace, read_weights};
+use lock_select::{Choice, SelectFault, choose, cost, read_keep, read_trace, read_weights};
 use std::alloc::Global;
 use std::process::Abort;
 use std::test::Fail;
-use topo_tree::Tree;
+use topo_tree::{Topology, Tree};
 
 // The texts of weights, of a keep and of a trace.
 type Texts<'a> = (Option<&'a [u8]>, &'a [u8], &'a [u8]);
@@ -167,10 +171,27 @@ fn is_chosen(
     let weights = read_weights(alloc, tree, texts.0)?;
     let keep = read_keep(texts.1)?;
     let trace = read_trace(alloc, tree, texts.2)?;
-    let Ok(choice) = choose(alloc, tree, &weights, keep, &trace) else {
+    is_cheapest(alloc, tree, &weights, keep, &trace, depths, wanted)
+}
+
+// Whether these depths are chosen, and cost that much.
+fn is_cheapest(
+    alloc: Global,
+    tree: &Tree,
+    weights: &[u64],
+    keep: u32,
+    trace: &[u32],
+    depths: &[u32],
+    wanted: u64,
+) -> Result<bool, SelectFault>
+    requires weights { Weighs tree.now weights.now }
+    requires keep { keep ≤ keep_limit }
+    requires trace { Visits tree.now trace.now }
+{
+    let Ok(choice) = choose(alloc, tree, weights, keep, trace) else {
         return Err(SelectFault::OutOfMemory);
     };
-    let counted = cost(tree, &weights, choice.depths.as_slice(), keep, &trace);
+    let counted = cost(tree, weights, choice.depths.as_slice(), keep, trace);
     Ok(choice.depths.as_slice() == depths && choice.cost == wanted && counted == wanted)
 }
 
@@ -287,13 +308,21 @@ fn chooses_for_longest_traces(rt: HostRuntime) -> Result<(), Fail> {
     Ok(())
 }
 
+// What is chosen on a topology where neighbours take turns.
+fn choice_on(alloc: Global, topology: &Topology) -> Result<Choice, SelectFault> {
+    let weights = read_weights(alloc, topology, None)?;
+    let trace = read_trace(alloc, topology, NEIGHBOURS)?;
+    match choose(alloc, topology, &weights, 128, &trace) {
+        Ok(choice) => Ok(choice),
+        Err(_) => Err(SelectFault::OutOfMemory),
+    }
+}
+
 #[test]
 fn choices_on_a_topology(rt: HostRuntime) -> Result<(), Fail> {
     let alloc = rt.alloc();
     let topology = topology_of(&rt, alloc, PACKAGES);
-    let weights = read_weights(alloc, &topology, None)?;
-    let trace = read_trace(alloc, &topology, NEIGHBOURS)?;
-    let choice = choose(alloc, &topology, &weights, 128, &trace)?;
+    let choice = choice_on(alloc, &topology)?;
     assert_eq!(rt; choice.depths.as_slice(), [1, 0].as_slice());
     assert_eq!(rt; choice.cost, 24);
     Ok(())
