@@ -2,3 +2,4 @@ pub mod Items
 pub mod Making
 pub mod Rooms
 pub mod States
+pub mod Values

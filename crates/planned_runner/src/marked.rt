@@ -140,6 +140,7 @@ impl<'s, 'a, Q: Resting, G: Gate> UnderLock<
             → IsFreshServed Q.rest (C.has lock.now) (C.level lock.now) (C.tag lock.now) number k) jobs }
         ensures { IsFreshCrew Q.rest (C.has lock.now) (C.level lock.now) (C.count lock.now) (C.tag lock.now) result }
     {
+        are_served(lock, &jobs, &aside);
         fresh_crew_of(lock, jobs, aside.lists, aside.stopped)
     }
 
@@ -166,3 +167,22 @@ impl<'s, 'a, Q: Resting, G: Gate> UnderLock<
         Err(OutOfMemory)
     }
 }
+
+// What came back of the threads is of all callers.
+fn are_served<'a, Q: Resting, C: Composed<FreshBook<'a>, Pass = Q>>(
+    _lock: &C,
+    _jobs: &Vec<FreshJob<'a, Q>>,
+    _aside: &FreshLists<Q>,
+)
+    requires did { AreBack (λ before. AreDealt (IsFreshJob Q.rest (C.has _lock.now) (C.level _lock.now) (C.tag _lock.now))
+        (C.count _lock.now) (AreEmptied (C.count _lock.now) _aside.now.lists × (_aside.now.stopped.items ≡ [])
+        × (C.count _lock.now ≤ vec_capacity _aside.now.stopped)) before.items)
+        (λ j k. (number : ℕ) → IsFreshJob Q.rest (C.has _lock.now) (C.level _lock.now) (C.tag _lock.now) number j
+        → IsFreshServed Q.rest (C.has _lock.now) (C.level _lock.now) (C.tag _lock.now) number k) _jobs.now }
+    ensures each { (k : ℕ) (j : _) → slice_get _jobs.now.items k ≡ Some j → IsFreshServed Q.rest (C.has _lock.now) (C.level _lock.now)
+        (C.tag _lock.now) k j }
+    ensures many { length _jobs.now.items ≡ C.count _lock.now }
+    ensures lists { AreEmptied (C.count _lock.now) _aside.now.lists }
+    ensures stopped_empty { _aside.now.stopped.items ≡ [] }
+    ensures stopped_room { C.count _lock.now ≤ vec_capacity _aside.now.stopped }
+{}

@@ -142,6 +142,7 @@ impl<'s, 'a, Q: Resting, G: Gate> UnderLock<
             → IsServed Q.rest (C.has lock.now) (C.level lock.now) (C.tag lock.now) number k) jobs }
         ensures { IsCrew Q.rest (C.has lock.now) (C.level lock.now) (C.count lock.now) (C.tag lock.now) result }
     {
+        are_served(lock, &jobs, &aside);
         crew_of(lock, jobs, aside.passes, aside.shares, aside.stopped)
     }
 
@@ -168,3 +169,19 @@ impl<'s, 'a, Q: Resting, G: Gate> UnderLock<
         Err(OutOfMemory)
     }
 }
+
+// What came back of the threads is of all callers.
+fn are_served<'a, Q: Resting, C: Composed<Book<'a>, Pass = Q>>(
+    _lock: &C,
+    _jobs: &Vec<Job<'a, Q>>,
+    _aside: &Lists<Q>,
+)
+    requires did { AreBack (λ before. AreDealt (IsJob Q.rest (C.has _lock.now) (C.level _lock.now) (C.tag _lock.now)) (C.count _lock.now)
+        (HasRoom (C.count _lock.now) _aside.now.passes _aside.now.shares _aside.now.stopped) before.items)
+        (λ j k. (number : ℕ) → IsJob Q.rest (C.has _lock.now) (C.level _lock.now) (C.tag _lock.now) number j
+        → IsServed Q.rest (C.has _lock.now) (C.level _lock.now) (C.tag _lock.now) number k) _jobs.now }
+    ensures each { (k : ℕ) (j : _) → slice_get _jobs.now.items k ≡ Some j → IsServed Q.rest (C.has _lock.now) (C.level _lock.now)
+        (C.tag _lock.now) k j }
+    ensures many { length _jobs.now.items ≡ C.count _lock.now }
+    ensures lists { HasRoom (C.count _lock.now) _aside.now.passes _aside.now.shares _aside.now.stopped }
+{}
