@@ -82,7 +82,8 @@ pub fn rise<
     }
 }
 
-// Work under a lock with a second level below this one, and with as many more as lie below it.
+// Work under a lock with a second level below this one, and with as many more as lie below it. Where that level is the lowest, this is
+// left to `with_lowest`: a call that hands on a lock of one more level is what costs the checker most, so each function has one.
 fn with_second<
     'r,
     P: Payload + Send + Sync,
@@ -108,21 +109,15 @@ where
     requires most { level < 4 }
     ensures { IfOk result (W.left given.entry.shared.now (H.tag high)) }
 {
+    if level == 0 {
+        return with_lowest::<P, K, J, B, F, G, W, H, R>(given, high, passes);
+    }
     passes_are_shared();
     low_passes_are_shared();
     let kind = kind_at(given.plan, level);
     match add_below::<P, H>(given.alloc, kind, given.shape, level, high, passes) {
         Ok((lock, passes)) => {
-            if level == 0 {
-                run_under::<P, LowPass, K, J, B, F, G, W, LevelOver<P, H>, R>(given, lock, passes)
-            } else {
-                with_third::<P, K, J, B, F, G, W, LevelOver<P, H>, R>(
-                    given,
-                    lock,
-                    passes,
-                    level - 1,
-                )
-            }
+            with_third::<P, K, J, B, F, G, W, LevelOver<P, H>, R>(given, lock, passes, level - 1)
         }
         Err(refused) => W::refused(given.shared, refused.value),
     }
@@ -154,21 +149,15 @@ where
     requires most { level < 3 }
     ensures { IfOk result (W.left given.entry.shared.now (H.tag high)) }
 {
+    if level == 0 {
+        return with_lowest::<P, K, J, B, F, G, W, H, R>(given, high, passes);
+    }
     passes_are_shared();
     low_passes_are_shared();
     let kind = kind_at(given.plan, level);
     match add_below::<P, H>(given.alloc, kind, given.shape, level, high, passes) {
         Ok((lock, passes)) => {
-            if level == 0 {
-                run_under::<P, LowPass, K, J, B, F, G, W, LevelOver<P, H>, R>(given, lock, passes)
-            } else {
-                with_fourth::<P, K, J, B, F, G, W, LevelOver<P, H>, R>(
-                    given,
-                    lock,
-                    passes,
-                    level - 1,
-                )
-            }
+            with_fourth::<P, K, J, B, F, G, W, LevelOver<P, H>, R>(given, lock, passes, level - 1)
         }
         Err(refused) => W::refused(given.shared, refused.value),
     }
@@ -200,23 +189,22 @@ where
     requires most { level < 2 }
     ensures { IfOk result (W.left given.entry.shared.now (H.tag high)) }
 {
+    if level == 0 {
+        return with_lowest::<P, K, J, B, F, G, W, H, R>(given, high, passes);
+    }
     passes_are_shared();
     low_passes_are_shared();
     let kind = kind_at(given.plan, level);
     match add_below::<P, H>(given.alloc, kind, given.shape, level, high, passes) {
         Ok((lock, passes)) => {
-            if level == 0 {
-                run_under::<P, LowPass, K, J, B, F, G, W, LevelOver<P, H>, R>(given, lock, passes)
-            } else {
-                with_fifth::<P, K, J, B, F, G, W, LevelOver<P, H>, R>(given, lock, passes)
-            }
+            with_lowest::<P, K, J, B, F, G, W, LevelOver<P, H>, R>(given, lock, passes)
         }
         Err(refused) => W::refused(given.shared, refused.value),
     }
 }
 
-// The same with a fifth level, which is the lowest.
-fn with_fifth<
+// Work under a lock with one level more below this one, the lowest.
+fn with_lowest<
     'r,
     P: Payload + Send + Sync,
     K: Sync,

@@ -1,4 +1,4 @@
-use Rattle.std.proofs.Common.{◌≡◌, ◌+◌, ◌-◌, arith}
+use Rattle.std.proofs.Common.{◌≡◌, ◌+◌, ◌-◌, arith, subst}
 use Rattle.lock_levels.proofs.Raised.{risen}
 use Rattle.lock_levels.proofs.MadeKinds.{kinds_from}
 use Rattle.lock_rising.proofs.rising.with_third.Goals as goal
@@ -14,8 +14,11 @@ with_fourth-requires-clause-kinds g c κs within =
     kinds_from (λ b. b.lock) g.H.HasKinds.has_kinds c.args.given.plan.now.kinds c.args.level (c.args.level - 1 + 1) same
     c.kind_at-kind.result c.kind_at-kind.ensures _ made.made _ c.args.high made.over c.requires.kinds
 
-pub run_under-requires-clause-kinds : goal.run_under-requires-clause-kinds
-run_under-requires-clause-kinds g c κs within =
-    let made = c.in-Ok.ensures in
-    kinds_from (λ b. b.lock) g.H.HasKinds.has_kinds c.args.given.plan.now.kinds c.args.level 0 c.if-level-eq0.true c.kind_at-kind.result
-    c.kind_at-kind.ensures _ made.made _ c.args.high made.over c.requires.kinds
+pub with_lowest-requires-clause-raised : goal.with_lowest-requires-clause-raised
+with_lowest-requires-clause-raised g c κs within =
+    risen (c.args.level + 1) c.requires.raised 1 (omega (arith, c.if-level-eq0.true))
+
+pub with_lowest-requires-clause-kinds : goal.with_lowest-requires-clause-kinds
+with_lowest-requires-clause-kinds g c κs within =
+    let lowest : c.args.level + 1 ≡ 1 = omega (arith, c.if-level-eq0.true) in
+    subst (λ n. g.H.HasKinds.has_kinds c.args.high c.args.given.plan.now.kinds n) lowest c.requires.kinds

@@ -1,6 +1,6 @@
 use Rattle.std.proofs.Common.{refl}
 use Rattle.lock_levels.proofs.MadeKinds.{kinds_from}
-use Rattle.lock_rising.proofs.rising.with_fifth.Goals as goal
+use Rattle.lock_rising.proofs.rising.with_lowest.Goals as goal
 
 pub run_under-requires-clause-kinds : goal.run_under-requires-clause-kinds
 run_under-requires-clause-kinds g c κs within =
