@@ -1,22 +1,16 @@
 //! What `drill` prints.
 ghost use Rattle.std.specs.Prelude.{◌≡◌, IfOk, IfErr};
-ghost use Rattle.lock_plan.specs.Plans.{IsPlanFor};
 ghost use Rattle.drill_text.specs.Drill.{drill_text};
-ghost use Rattle.clof_tool.specs.Drilling.{drilled_machine};
 
 use crate::Status;
-use crate::running::shape_for;
-use command_texts::topology::tree;
-use drill_text::{KEEPS, LEVELS, LOCKS, MACHINE, sections, summary};
-use lock_plan::Plan;
+use clof_answers::{machine, plan_on, shape_for};
+use drill_text::{sections, summary};
 use out_of_memory::OutOfMemory;
 use placed_runner::{Gate, spread};
 use planned_runner::{Manner, Sharing, run};
-use run_faults::PlanFault;
 use std::alloc::Global;
 use std::sync::Wait;
 use std::thread::Threads;
-use topo_tree::Tree;
 
 /// How many threads the callers of a drill share, and how many commands of a caller one gives at a time. With a thread for each of the 64
 /// callers nine tenths of a drill went to waiting for callers that had the lock and weren't running.
@@ -60,39 +54,4 @@ fn drilled<R: Threads + Wait + Sync, G: Gate + Sync>(
     });
     let left = run(rt, alloc, &plan, &shape, &sections, manner, gate)?;
     summary(alloc, number, &left.journal)
-}
-
-// The machine of a drill.
-fn machine(alloc: Global) -> Result<Tree, OutOfMemory>
-    ensures { IfOk result (λ tree. tree ≡ drilled_machine) }
-{
-    match tree(alloc, MACHINE) {
-        Ok(tree) => Ok(tree),
-        Err(status) => Err(only_memory(status)),
-    }
-}
-
-// The one status with which the description is refused: it describes a machine that is built.
-fn only_memory(_status: Status) -> OutOfMemory
-    requires { _status ≡ Status.OutOfMemory }
-{
-    OutOfMemory
-}
-
-// The plan of a drill's lock.
-fn plan_on(alloc: Global, tree: &Tree) -> Result<Plan, OutOfMemory>
-    requires { tree.now ≡ drilled_machine }
-    ensures { IfOk result (IsPlanFor tree.now) }
-{
-    match Plan::read(alloc, tree, LEVELS, Some(LOCKS), KEEPS) {
-        Ok(plan) => Ok(plan),
-        Err(fault) => Err(only_memory_for_plan(fault)),
-    }
-}
-
-// The one fault with which the plan is refused: its texts break no rule.
-fn only_memory_for_plan(_fault: PlanFault) -> OutOfMemory
-    requires { _fault ≡ PlanFault.OutOfMemory }
-{
-    OutOfMemory
 }

@@ -4,7 +4,7 @@ use Rattle.std.specs.List.{sum_by}
 use Rattle.std.specs.declared.alloc.Global.{Global}
 use Rattle.synth_text.specs.Rules.{pu_count}
 use Rattle.placed_runner.specs.declared.sections.Section.{Section}
-use Rattle.clof_tool.proofs.Drills.{drilled_pus, given_all, many_sections, small_sections}
+use Rattle.clof_answers.proofs.Drills.{drilled_pus, given_all, many_sections, small_sections}
 use Rattle.clof_tool.proofs.drilling.drilled.Goals as goal
 
 pub shape_for-requires-clause-pus : goal.shape_for-requires-clause-pus

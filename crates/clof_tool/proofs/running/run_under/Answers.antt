@@ -3,8 +3,8 @@ use Rattle.std.proofs.lemmas.Result.{IfOk-weaker}
 use Rattle.placed_runner.specs.Printed.{IsRun}
 use Rattle.placed_runner.specs.Views.{section_view}
 use Rattle.fresh_runner.specs.Receipts.{IsMarkedRun}
-use Rattle.clof_tool.specs.Run.{PrintsRun}
-use Rattle.clof_tool.proofs.Runs.{marks_under, none_printed, runs_under}
+use Rattle.clof_answers.specs.Run.{PrintsRun}
+use Rattle.clof_answers.proofs.Runs.{marks_under, none_printed, runs_under}
 use Rattle.clof_tool.proofs.running.run_under.Goals as goal
 
 pub returns-then-is_empty : goal.returns-then-is_empty
