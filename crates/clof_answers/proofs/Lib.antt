@@ -9,4 +9,4 @@ pub mod Plans
 pub mod Runs
 pub mod SectionRuns
 pub mod Stops
-pub mod Words
+pub mod Unrefused

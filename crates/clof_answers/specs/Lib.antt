@@ -5,3 +5,4 @@ pub mod Answered
 pub mod Run
 pub mod Selecting
 pub mod Laws
+pub mod Ended

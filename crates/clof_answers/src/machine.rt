@@ -13,7 +13,7 @@ use std::alloc::Global;
 use topo_tree::Tree;
 
 /// The machine of a drill.
-pub fn machine(alloc: Global) -> Result<Tree, OutOfMemory>
+pub(crate) fn machine(alloc: Global) -> Result<Tree, OutOfMemory>
     ensures { IfOk result (λ tree. tree ≡ drilled_machine) }
 {
     match tree(alloc, MACHINE) {
@@ -30,7 +30,7 @@ fn only_memory(_status: Status) -> OutOfMemory
 }
 
 /// The plan of a drill's lock.
-pub fn plan_on(alloc: Global, tree: &Tree) -> Result<Plan, OutOfMemory>
+pub(crate) fn plan_on(alloc: Global, tree: &Tree) -> Result<Plan, OutOfMemory>
     requires { tree.now ≡ drilled_machine }
     ensures { IfOk result (IsPlanFor tree.now) }
 {

@@ -1,4 +1,3 @@
-pub mod Ended
 pub mod Process
 pub mod Room
 pub mod InMemory

@@ -1,0 +1,29 @@
+//! The same call, with its clauses as one relation.
+ghost use Rattle.clof_answers.specs.Ended.{Ended, source_state, sink_state};
+
+use crate::Status;
+use crate::runner::Runner;
+use crate::top_call::top_by;
+use edge_io::{Sink, Source};
+use std::alloc::Global;
+use std::sync::Wait;
+use std::thread::Threads;
+
+/// What `top_by` does: its words, its streams before and behind the call, and its status stand to each other as its clauses say.
+pub fn call_by<R: Threads + Wait + Sync, S: Source, K: Sink, E: Sink, L: Runner>(
+    rt: &R,
+    alloc: Global,
+    words: &[String],
+    source: &mut S,
+    out: &mut K,
+    err: &mut E,
+    runner: &L,
+) -> Status
+    ensures ended { Ended words.now
+        (source_state S.left S.given S.faults source.old) (source_state S.left S.given S.faults source.new)
+        (sink_state K.held K.room K.faults K.stalls out.old) (sink_state K.held K.room K.faults K.stalls out.new)
+        (sink_state E.held E.room E.faults E.stalls err.old) (sink_state E.held E.room E.faults E.stalls err.new)
+        result }
+{
+    top_by(rt, alloc, words, source, out, err, runner)
+}
