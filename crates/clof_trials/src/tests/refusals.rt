@@ -10,7 +10,7 @@ set 0x1,|3 clof: set Form 4
 set --list 7-|3 clof: set Infinite 0
 set --list 9-8|3 clof: set Form 0
 frob|2 clof: usage
-0e|2 clof: usage
+''|2 clof: usage
 set|2 clof: usage
 calc -I core -N core PU:1|2 clof: usage
 distrib x PU:1|2 clof: usage",

@@ -1,5 +1,5 @@
 //! The limits of sections, of an input, of keys and of values, and many commands and keys.
-use super::{prints, prints_last, refuses};
+use super::{WELL, ends, prints_last};
 use clof_tool::Fault::{Input, Section};
 use clof_tool::Status::Limit;
 use placed_runner::SectionFault::TooManyCallers;
@@ -9,9 +9,9 @@ use std::test::Fail;
 #[test]
 fn limits_the_sections(rt: HostRuntime) -> Result<(), Fail> {
     let input = "worker * 0\n\n".repeat(rt.alloc(), 257)?;
-    let status = Limit(Section(TooManyCallers));
-    let told = "clof: section TooManyCallers\n";
-    refuses(&rt, rt.alloc(), 4, ("run", input.as_bytes(), status, told))
+    let status = Some(Limit(Section(TooManyCallers)));
+    let ending = (status, 4, "clof: section TooManyCallers\n");
+    ends(&rt, rt.alloc(), ("run", input.as_bytes()), ending, "")
 }
 
 // The lengths of a key and of its value, and what is printed last.
@@ -54,7 +54,7 @@ fn takes_values_and_keys_up_to_their_limits(rt: HostRuntime) -> Result<(), Fail>
     }
     let input = b"worker * 25\nset k 0 0 4294967295\r\nx\r\n\n";
     let text = "caller 0 pu 0 commands 0 rest 25\n";
-    prints(&rt, rt.alloc(), ("run", input, text))
+    ends(&rt, rt.alloc(), ("run", input), WELL, text)
 }
 
 // The section that stores 2,000 keys, asks for each by itself, and then for all in one line.
@@ -99,12 +99,8 @@ fn long_input(alloc: Global, length: usize) -> Result<Vec<u8>, Fail> {
 fn takes_an_input_up_to_its_limit(rt: HostRuntime) -> Result<(), Fail> {
     let input = long_input(rt.alloc(), 16_777_195)?;
     let text = "caller 0 pu 0 commands 0 rest 16777195\n";
-    prints(&rt, rt.alloc(), ("run", &input, text))?;
+    ends(&rt, rt.alloc(), ("run", &input), WELL, text)?;
     let input = long_input(rt.alloc(), 16_777_196)?;
-    refuses(
-        &rt,
-        rt.alloc(),
-        4,
-        ("run", &input, Limit(Input), "clof: input\n"),
-    )
+    let ending = (Some(Limit(Input)), 4, "clof: input\n");
+    ends(&rt, rt.alloc(), ("run", &input), ending, "")
 }

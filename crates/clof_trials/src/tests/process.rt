@@ -1,4 +1,5 @@
 //! A process over streams of each kind in memory: an input that is read, many words, streams that are full or fail, and no words.
+use super::{has_text, words_of};
 use clof_tool::Process;
 use edge_io::{MemSink, MemSource, Sink, Source, SureSink, SureSource};
 use std::alloc::Global;
@@ -9,19 +10,16 @@ use std::sync::Wait;
 use std::test::Fail;
 use std::thread::Threads;
 
-// A process with words, between which a bar stands.
+// A process with the words of a command line.
 fn process<S: Source + Drop, K: Sink + Drop>(
     alloc: Global,
-    words: &str,
+    line: &str,
     input: S,
     output: K,
 ) -> Result<Process<S, K, SureSink>, Fail> {
-    let mut owned = Vec::new(alloc);
-    for word in words.split('|') {
-        owned.push(String::from_str(alloc, word)?)?;
-    }
+    let words = words_of(alloc, line)?;
     let errors = SureSink::new(alloc, 100)?;
-    Ok(Process::over(Ok(owned), input, output, errors))
+    Ok(Process::over(Ok(words), input, output, errors))
 }
 
 // A source with these bytes.
@@ -29,41 +27,56 @@ fn source(alloc: Global, input: &[u8]) -> Result<SureSource, Fail> {
     Ok(SureSource::new(input.to_vec(alloc)?))
 }
 
-// Checks that a process with words and an input ends so: its exit code, and what its output and standard error then hold.
+// The exit code of a process, and what it wrote to the output and to standard error.
+type Told<'a> = (u8, &'a str, &'a str);
+
+// Checks how a process ended: its exit code, and what its output and standard error then hold.
+fn has_served(
+    rt: &impl Abort,
+    line: &str,
+    ended: ExitCode,
+    (out, err): (&[u8], &[u8]),
+    (code, printed, told): Told<'_>,
+) {
+    assert_eq!(rt; ended, ExitCode::from(code), "at {line}");
+    has_text(rt, line, out, printed);
+    has_text(rt, line, err, told);
+}
+
+// Checks that a process with the words of a command line and an input ends so.
 fn serves<R: Threads + Wait + Sync + Abort, S: Source + Drop>(
     rt: &R,
     alloc: Global,
-    words: &str,
+    line: &str,
     input: S,
-    told: (u8, &str, &str),
+    told: Told<'_>,
 ) -> Result<(), Fail> {
-    let mut run = process(alloc, words, input, SureSink::new(alloc, 200)?)?;
-    let (code, out, err) = told;
-    assert_eq!(rt; run.serve(rt, alloc), ExitCode::from(code), "at {words}");
-    assert_eq!(rt; run.output().bytes(), out.as_bytes(), "at {words}");
-    assert_eq!(rt; run.errors().bytes(), err.as_bytes(), "at {words}");
+    let mut run = process(alloc, line, input, SureSink::new(alloc, 200)?)?;
+    let ended = run.serve(rt, alloc);
+    let held = (run.output().bytes(), run.errors().bytes());
+    has_served(rt, line, ended, held, told);
     Ok(())
 }
 
-// Words, the input, the exit code, and what is written to the output and to standard error: a run on a description, twenty words of which
-// the last decides, and a refused section.
+// A command line, the input, the exit code, and what is written to the output and to standard error: a run on a description, twenty words
+// of which the last decides, and a refused section.
 const CALLS: &[(&str, &str, u8, &str, &str)] = &[
     (
-        "run|Core:2 PU:1",
+        "run 'Core:2 PU:1'",
         "worker core:1 7\nget a\r\n\n",
         0,
         "turn 0 caller 0 pu 1 climb 0 tests 0 left 0 \"get a\\r\\n\" \"END\\r\\n\"\ncaller 0 pu 1 commands 1 rest 0\n",
         "",
     ),
     (
-        "calc|--taskset|PU:20|pu:0|pu:1|pu:2|pu:3|pu:4|pu:5|pu:6|pu:7|pu:8|pu:9|pu:10|pu:11|pu:12|pu:13|pu:14|pu:15|~pu:0",
+        "calc --taskset PU:20 pu:0 pu:1 pu:2 pu:3 pu:4 pu:5 pu:6 pu:7 pu:8 pu:9 pu:10 pu:11 pu:12 pu:13 pu:14 pu:15 ~pu:0",
         "",
         0,
         "0xfffe\n",
         "",
     ),
     (
-        "run|PU:1",
+        "run PU:1",
         "walker * 0\n\n",
         3,
         "",
@@ -74,9 +87,9 @@ const CALLS: &[(&str, &str, u8, &str, &str)] = &[
 #[test]
 fn serves_calls(rt: HostRuntime) -> Result<(), Fail> {
     let alloc = rt.alloc();
-    for (words, input, code, out, err) in CALLS {
+    for (line, input, code, out, err) in CALLS {
         let input = source(alloc, input.as_bytes())?;
-        serves(&rt, alloc, words, input, (*code, *out, *err))?;
+        serves(&rt, alloc, line, input, (*code, *out, *err))?;
     }
     Ok(())
 }
@@ -92,10 +105,11 @@ fn tells_of_an_input_that_fails(rt: HostRuntime) -> Result<(), Fail> {
 fn tells_of_a_full_output(rt: HostRuntime) -> Result<(), Fail> {
     let alloc = rt.alloc();
     let output = MemSink::new(alloc, 5, 2, Vec::new(alloc))?;
-    let mut set = process(alloc, "set|0x1", source(alloc, b"")?, output)?;
-    assert_eq!(&rt; set.serve(&rt, alloc), ExitCode::from(6));
-    assert_eq!(&rt; set.output().bytes(), b"0x000".as_slice());
-    assert_eq!(&rt; set.errors().bytes(), b"clof: write fault 5\n".as_slice());
+    let mut set = process(alloc, "set 0x1", source(alloc, b"")?, output)?;
+    let ended = set.serve(&rt, alloc);
+    let held = (set.output().bytes(), set.errors().bytes());
+    let told = (6, "0x000", "clof: write fault 5\n");
+    has_served(&rt, "set 0x1", ended, held, told);
     Ok(())
 }
 
@@ -110,9 +124,9 @@ fn ends_wordless<R: Threads + Wait + Sync + Abort>(
     let (output, errors) = (SureSink::new(alloc, 100)?, SureSink::new(alloc, 100)?);
     let words = Err(io::Error::from(kind));
     let mut wordless = Process::over(words, source(alloc, b"")?, output, errors);
-    assert_eq!(rt; wordless.serve(rt, alloc), ExitCode::from(code));
-    assert_eq!(rt; wordless.output().bytes().len(), 0);
-    assert_eq!(rt; wordless.errors().bytes(), err.as_bytes());
+    let ended = wordless.serve(rt, alloc);
+    let held = (wordless.output().bytes(), wordless.errors().bytes());
+    has_served(rt, "no words", ended, held, (code, "", err));
     Ok(())
 }
 

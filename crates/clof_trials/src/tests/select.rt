@@ -1,13 +1,9 @@
 //! `select`: texts, refusals, and which of two comes.
-use super::{Printed, Refused, prints_each, refuses, refuses_each};
-use clof_tool::Fault::{self, Input, Select};
+use super::{Printed, Refused, ends, prints_each, refuses_each};
+use clof_tool::Fault::{Input, Select};
 use clof_tool::Status::{Limit, Malformed, Usage};
 use lock_select::SelectFault::{Keep, Line, Place, TooManyTurns, Weights};
-use std::alloc::Global;
-use std::process::Abort;
-use std::sync::Wait;
 use std::test::Fail;
-use std::thread::Threads;
 
 const TURNS: &[u8] = b"0\n1\n0\n1\n2\n3\n2\n3\n";
 
@@ -83,24 +79,17 @@ fn refuses_weights_keeps_and_lines(rt: HostRuntime) -> Result<(), Fail> {
     refuses_each(&rt, rt.alloc(), 3, BROKEN)
 }
 
-// Checks that a trace is too long.
-fn limits<R: Threads + Wait + Sync + Abort>(
-    rt: &R,
-    alloc: Global,
-    trace: &[u8],
-    (fault, told): (Fault, &str),
-) -> Result<(), Fail> {
-    refuses(rt, alloc, 4, ("select PU:1", trace, Limit(fault), told))
-}
-
 // Too few words, too many lines, and too many bytes, which come before what is wrong with the lines.
 #[test]
 fn ends_otherwise(rt: HostRuntime) -> Result<(), Fail> {
     let alloc = rt.alloc();
-    refuses(&rt, alloc, 2, ("select", b"", Usage, "clof: usage\n"))?;
+    let ending = (Some(Usage), 2, "clof: usage\n");
+    ends(&rt, alloc, ("select", b""), ending, "")?;
     let lines = "0\n".repeat(alloc, 16_385)?;
-    let fault = (Select(TooManyTurns), "clof: select TooManyTurns\n");
-    limits(&rt, alloc, lines.as_bytes(), fault)?;
+    let status = Some(Limit(Select(TooManyTurns)));
+    let ending = (status, 4, "clof: select TooManyTurns\n");
+    ends(&rt, alloc, ("select PU:1", lines.as_bytes()), ending, "")?;
     let long = vec![in alloc; b'x'; 16_777_217]?;
-    limits(&rt, alloc, &long, (Input, "clof: input\n"))
+    let ending = (Some(Limit(Input)), 4, "clof: input\n");
+    ends(&rt, alloc, ("select PU:1", &long), ending, "")
 }

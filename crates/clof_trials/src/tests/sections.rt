@@ -1,12 +1,17 @@
 //! The sections of `run`: what is served of them, and how they are refused.
-use super::gates::Meeting;
-use super::{Printed, Refused, call, has_end, has_number, prints, prints_each, refuses_each};
+use super::gates::{Meeting, have_met};
+use super::{
+    Printed, Refused, WELL, call, ends, has_end, has_parts, prints_each, prints_last, refuses_each,
+};
 use clof_tool::Fault::Section;
-use clof_tool::Status::{self, Malformed};
+use clof_tool::Status::Malformed;
 use placed_runner::OpenGate;
 use placed_runner::SectionFault::{BadHead, BadPlace, Short};
+use std::alloc::Global;
 use std::process::Abort;
+use std::sync::Wait;
 use std::test::Fail;
+use std::thread::Threads;
 
 const SERVED: &[Printed] = &[
     ("run", b"", ""),
@@ -86,7 +91,49 @@ fn leaves_a_cut_command_as_the_rest(rt: HostRuntime) -> Result<(), Fail> {
         let text = format!(in rt.alloc();
             "turn 0 caller 0 pu 0 climb 0 tests 0 left 0 \"get k\\r\\n\" \"END\\r\\n\"\ncaller 0 pu 0 commands 1 rest {rest}\n"
         )?;
-        prints(&rt, rt.alloc(), ("run", input.as_bytes(), &text))?;
+        ends(&rt, rt.alloc(), ("run", input.as_bytes()), WELL, &text)?;
+    }
+    Ok(())
+}
+
+// The commands of a section.
+const WHOLE: &str =
+    "set n 0 0 20\r\n18446744073709551615\r\nincr n 1\r\ndecr n 5\r\ncas n 0 0 1 1\r\n7\r\n\
+     cas n 0 0 1 3\r\n7\r\ngets n\r\nset n 0 0 1 noreply\r\n8\r\n";
+
+// Where none, the first, the first two of them end, and so on, and where the next one ends.
+const ENDS: &[(usize, usize)] = &[
+    (0, 36),
+    (36, 46),
+    (46, 56),
+    (56, 74),
+    (74, 92),
+    (92, 100),
+    (100, 124),
+    (124, 125),
+];
+
+// Checks the last line of a run of the section, cut behind so many bytes: what stands behind its last whole command is the rest.
+fn cuts_at<R: Threads + Wait + Sync + Abort>(
+    rt: &R,
+    alloc: Global,
+    size: usize,
+    commands: usize,
+    rest: usize,
+) -> Result<(), Fail> {
+    let section = WHOLE.get(..size).ok_or("the section is shorter")?;
+    let input = format!(in alloc; "worker * {size}\n{section}\n")?;
+    let last = format!(in alloc; "caller 0 pu 0 commands {commands} rest {rest}\n")?;
+    prints_last(rt, alloc, input.as_bytes(), &last)
+}
+
+#[test]
+fn cuts_a_section_behind_each_byte(rt: HostRuntime) -> Result<(), Fail> {
+    for (commands, row) in ENDS.iter().enumerate() {
+        let (end, next) = *row;
+        for size in end..next {
+            cuts_at(&rt, rt.alloc(), size, commands, size - end)?;
+        }
     }
     Ok(())
 }
@@ -161,7 +208,7 @@ const PARTS: &[(&str, usize)] = &[
 #[test]
 fn serves_several_sections(rt: HostRuntime) -> Result<(), Fail> {
     let line = "run 'Core:2 PU:2'";
-    let out = call(&rt, rt.alloc(), line, TWO, &OpenGate, (Status::Ok, ""))?;
+    let out = call(&rt, rt.alloc(), line, TWO, &OpenGate, WELL)?;
     let text = std::str::from_utf8(out.bytes())?;
     for row in ORDERED {
         has_in_order(&rt, text, row.0, row.1);
@@ -181,14 +228,6 @@ fn has_in_order(rt: &impl Abort, text: &str, first: &str, second: &str) {
     );
 }
 
-// Checks how often parts stand in a text.
-fn has_parts(rt: &impl Abort, text: &str, parts: &[(&str, usize)]) {
-    for row in parts {
-        let (part, times) = *row;
-        has_number(rt, part, text.matches(part).count(), times);
-    }
-}
-
 const GETS: &[(&str, usize)] = &[
     ("turn ", 2),
     (" left 0 \"get a\\r\\n\" \"END\\r\\n\"\n", 1),
@@ -200,12 +239,8 @@ const GETS: &[(&str, usize)] = &[
 fn holds_while_another_is_queued(rt: HostRuntime) -> Result<(), Fail> {
     let input = b"worker * 7\nget a\r\n\nworker * 7\nget b\r\n\n";
     let gate = Meeting::new();
-    let out = call(&rt, rt.alloc(), "run", input, &gate, (Status::Ok, ""))?;
-    have_met(&rt, &gate);
+    let out = call(&rt, rt.alloc(), "run", input, &gate, WELL)?;
+    have_met(&rt, "run", &gate);
     has_parts(&rt, std::str::from_utf8(out.bytes())?, GETS);
     Ok(())
-}
-
-fn have_met(rt: &impl Abort, gate: &Meeting) {
-    assert!(rt; gate.met());
 }

@@ -1,10 +1,35 @@
-//! Texts at the limits, compared by their length and checksum, which bench/limit_texts.py worked out from their definitions.
-use super::{Tables, answer_rows, answers, call, listed};
+//! Answers at sizes that no limit gives, and at the limits. Long texts are compared by their length and checksum, which
+//! bench/limit_texts.py worked out from their definitions.
+use super::{Tables, WELL, answers, call, described};
+use placed_runner::OpenGate;
 use std::alloc::Global;
 use std::process::Abort;
 use std::sync::Wait;
 use std::test::Fail;
 use std::thread::Threads;
+
+const SIZES: Tables = &[(
+    "Package:2 Die:2 L3:1 L2:1 Core:2 PU:2",
+    "calc * pu:0 pu:2 pu:4 pu:6 pu:8|0x00000155
+calc --taskset -p --single -- * pu:5 pu:6 pu:7 pu:9 pu:11 pu:13 pu:15 pu:1|0x2
+calc * pu:0 ~pu:0 pu:1 pu:2 x0xfffffffe pu:3 ^pu:3 ^pu:9 pu:10 pu:11 ~0x800 pu:12 pu:13 pu:14 pu:15|0x0000f606
+calc * package:1.die:1.l3:0.core:1.pu:1|0x00008000
+calc * package:1.die:1.l3:0.l2:0.core:1.pu:1|0x00008000
+calc -I pu * package:0-1.die:1|4,5,6,7,12,13,14,15
+calc -I core --sep , * all|0,1,2,3,4,5,6,7
+calc -N pu * ~pu:3 all ~pu:4 ~pu:5 ~pu:6|13
+calc -H package.core * all|Package:0.Core:0 Package:0.Core:1 Package:0.Core:2 Package:0.Core:3 \
+Package:1.Core:0 Package:1.Core:1 Package:1.Core:2 Package:1.Core:3
+calc -H package.l3cache.l2cache.core * pu:5 pu:9|Package:0.L3Cache:1.L2Cache:0.Core:0 Package:1.L3Cache:0.L2Cache:0.Core:0
+calc --largest * pu:1-14|PU:1 Core:1 Die:1 Die:2 Core:6 PU:14
+calc --largest --sep + * pu:1 pu:3 pu:5 pu:7 pu:9 core:5|PU:1+PU:3+PU:5+PU:7+PU:9+Core:5
+distrib --from die --to core 6 *|0x00000003/0x0000000c/0x000000f0/0x00000300/0x00000c00/0x0000f000",
+)];
+
+#[test]
+fn many_words_locations_and_paths(rt: HostRuntime) -> Result<(), Fail> {
+    answers(&rt, rt.alloc(), SIZES)
+}
 
 // Words, the description, and the length and the checksum of the text that they are answered.
 const LONG: &[(&str, &str, usize, u64)] = &[
@@ -66,38 +91,33 @@ fn checksum(text: &[u8]) -> u64 {
     value
 }
 
-// Checks that words, between which a space stands, are answered by a text of this length and checksum.
+// Checks that a call is answered by a text of this length and checksum.
 fn answers_long<R: Threads + Wait + Sync + Abort>(
     rt: &R,
     alloc: Global,
-    words: &str,
-    description: &str,
-    input: Vec<u8>,
+    (line, input): (&str, &[u8]),
     told: (usize, u64),
 ) -> Result<(), Fail> {
-    let ended = call(rt, alloc, &listed(alloc, words, description)?, input)?;
-    assert_eq!(rt; (ended.out.len(), checksum(&ended.out)), told, "at {words}");
-    assert_eq!(rt; ended.end.as_slice(), b"0 ".as_slice(), "at {words}");
+    let out = call(rt, alloc, line, input, &OpenGate, WELL)?;
+    has_sum(rt, line, out.bytes(), told);
     Ok(())
+}
+
+fn has_sum(rt: &impl Abort, line: &str, text: &[u8], told: (usize, u64)) {
+    assert_eq!(rt; (text.len(), checksum(text)), told, "at {line}");
 }
 
 #[test]
 fn long_texts(rt: HostRuntime) -> Result<(), Fail> {
     let alloc = rt.alloc();
     for (words, description, length, sum) in LONG {
-        answers_long(
-            &rt,
-            alloc,
-            words,
-            description,
-            Vec::new(alloc),
-            (*length, *sum),
-        )?;
+        let line = described(alloc, words, description)?;
+        answers_long(&rt, alloc, (&line, b""), (*length, *sum))?;
     }
     Ok(())
 }
 
-// The words and 64 locations, each of one PU.
+// These words and 64 locations, each of one PU.
 fn located(alloc: Global, words: &str) -> Result<String, Fail> {
     let mut all = String::from_str(alloc, words)?;
     for number in 0..64u32 {
@@ -109,12 +129,12 @@ fn located(alloc: Global, words: &str) -> Result<String, Fail> {
 #[test]
 fn locations(rt: HostRuntime) -> Result<(), Fail> {
     let alloc = rt.alloc();
-    let words = located(alloc, "calc *")?;
+    let line = located(alloc, "calc PU:4096")?;
     let told = (767, 4_932_459_344_515_767_997);
-    answers_long(&rt, alloc, &words, "PU:4096", Vec::new(alloc), told)?;
-    let words = located(alloc, "calc --taskset *")?;
+    answers_long(&rt, alloc, (&line, b""), told)?;
+    let line = located(alloc, "calc --taskset PU:4096")?;
     let told = (1_012, 18_082_306_977_034_469_359);
-    answers_long(&rt, alloc, &words, "PU:4096", Vec::new(alloc), told)
+    answers_long(&rt, alloc, (&line, b""), told)
 }
 
 // As many objects and as many layers as there may be.
@@ -158,7 +178,7 @@ fn a_long_description(rt: HostRuntime) -> Result<(), Fail> {
     let alloc = rt.alloc();
     let description = numbered_from_the_last(alloc)?;
     assert_eq!(rt; description.len(), 423);
-    answer_rows(&rt, alloc, &description, NUMBERED)
+    answers(&rt, alloc, &[(description.as_str(), NUMBERED)])
 }
 
 // So many sections of one command, the callers of a walk, and the length and the checksum of what it prints.
@@ -171,10 +191,9 @@ const WALKS: &[(usize, usize, u64)] = &[
 fn walks(rt: HostRuntime) -> Result<(), Fail> {
     let alloc = rt.alloc();
     for (count, length, sum) in WALKS {
-        let input = "worker * 7\nget a\r\n\n"
-            .repeat(alloc, *count)?
-            .into_bytes();
-        answers_long(&rt, alloc, "run --walk", "", input, (*length, *sum))?;
+        let input = "worker * 7\nget a\r\n\n".repeat(alloc, *count)?;
+        let told = (*length, *sum);
+        answers_long(&rt, alloc, ("run --walk", input.as_bytes()), told)?;
     }
     Ok(())
 }
