@@ -5,4 +5,3 @@ pub mod Answered
 pub mod Run
 pub mod Selecting
 pub mod Laws
-pub mod Ended

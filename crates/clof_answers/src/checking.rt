@@ -29,7 +29,7 @@ use topo_tree::Tree;
 const PAIR_LIMIT: usize = 67_108_864;
 
 /// What is said of the printed text that the source has left behind its input.
-pub(crate) fn check_on<S: Source>(
+pub fn check_on<S: Source>(
     alloc: Global,
     asked: Checking<'_>,
     source: &mut S,

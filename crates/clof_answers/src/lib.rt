@@ -1,27 +1,24 @@
-//! All that the program answers, whatever runs its callers under a lock.
+//! What the program answers, in definitions, and its answers that run no callers under a lock.
 #![tactic(auto)]
 
-mod answer;
-mod calling;
 mod checking;
-mod drilling;
+mod drilled;
 mod error_line;
 mod judging;
 mod laws;
-mod machine;
 mod printing;
 mod reading;
-mod runner;
-mod running;
 mod sections;
 mod selecting;
-mod serving;
-mod top_call;
 mod words;
 
-pub use calling::call_by;
+pub use checking::check_on;
 pub use command_texts::{Fault, Status};
+pub use drilled::{machine, plan_on};
 pub use error_line::report;
 pub use laws::{one_check, one_run};
-pub use runner::Runner;
-pub use top_call::top_by;
+pub use printing::print;
+pub use reading::read_input;
+pub use sections::{section_status, shape_for};
+pub use selecting::select_on;
+pub use words::read;

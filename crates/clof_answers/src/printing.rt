@@ -8,7 +8,7 @@ use crate::Status;
 use edge_io::{Sink, Stopped, write_all};
 
 /// Writes the text of an answer, or hands on the status where there is none.
-pub(crate) fn print<K: Sink>(answer: Result<Vec<u8>, Status>, out: &mut K) -> Status
+pub fn print<K: Sink>(answer: Result<Vec<u8>, Status>, out: &mut K) -> Status
     requires { IfErr answer (λ status. HasWritten status → ⊥) }
     ensures refused { IfErr answer (λ status. result ≡ status) }
     ensures done { IfOk answer (λ _. HasWritten result) }

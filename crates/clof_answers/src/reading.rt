@@ -15,7 +15,7 @@ use std::alloc::Global;
 const INPUT_LIMIT: usize = 16_777_216;
 
 /// All that the source has left, at most the limit of an input.
-pub(crate) fn read_input<S: Source>(alloc: Global, source: &mut S) -> Result<Vec<u8>, Status>
+pub fn read_input<S: Source>(alloc: Global, source: &mut S) -> Result<Vec<u8>, Status>
     ensures read { IfOk result (λ input. WasRead (S.left source.old) (S.given source.old) (S.given source.new) input.items) }
     ensures within { IfOk result (λ input. length input.items ≤ input_limit) }
     ensures at_end { OnOk result (IsDrained (S.left source.old) (S.left source.new)) }

@@ -16,7 +16,7 @@ use std::alloc::{AllocError, Global};
 use topo_tree::Tree;
 
 /// The shape of a plan's lock, whose callers stand on the PUs of these sections.
-pub(crate) fn shape_for(
+pub fn shape_for(
     alloc: Global,
     tree: &Tree,
     plan: &Plan,
@@ -43,7 +43,7 @@ fn pus(alloc: Global, sections: &[Section<'_>]) -> Result<Vec<u32>, AllocError>
 }
 
 /// The status of a fault of the sections: one of them is a limit.
-pub(crate) fn section_status(fault: SectionFault) -> Status
+pub fn section_status(fault: SectionFault) -> Status
     ensures status { result ≡ section_status fault }
     ensures early { EndsEarly result }
 {

@@ -25,7 +25,7 @@ use std::alloc::Global;
 use topo_tree::Tree;
 
 /// The text of the levels that are chosen for the trace that the source has left.
-pub(crate) fn select_on<S: Source>(
+pub fn select_on<S: Source>(
     alloc: Global,
     asked: &Selection<'_>,
     source: &mut S,

@@ -9,7 +9,7 @@ use command_words::{Asked, WordsFault, read_words};
 use std::alloc::Global;
 
 /// What the words ask for, or the status where they ask for nothing.
-pub(crate) fn read(alloc: Global, words: &[String]) -> Result<Asked<'_>, Status>
+pub fn read(alloc: Global, words: &[String]) -> Result<Asked<'_>, Status>
     ensures asked { IfOk result (λ asked. Says words.now (plain asked)) }
     ensures only { IfOk result (λ asked. (other : PlainAsked) → Says words.now other → other ≡ plain asked) }
     ensures refused { IfErr result (λ status. ((status ≡ Status.OutOfMemory) × NamesCommand words.now)

@@ -1,3 +1,4 @@
+pub mod Ended
 pub mod Process
 pub mod Room
 pub mod InMemory

@@ -5,7 +5,7 @@ use Rattle.std.specs.declared.string.String.{String}
 use Rattle.std.specs.declared.alloc.Global.{Global}
 use Rattle.std.specs.declared.io.Error.{Error}
 use Rattle.clof_tool.specs.declared.process.Process.{Process}
-use Rattle.clof_answers.specs.Ended.{SourceState, SinkState}
+use Rattle.clof_tool.specs.Ended.{SourceState, SinkState}
 
 -- the words behind the program's name, or why they can't be had
 abbrev pub words_of_process : {S K E : Type 0} → Process S K E → Result (Vec (String Global) Global) Error

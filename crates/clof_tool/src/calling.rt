@@ -1,11 +1,8 @@
 //! The top call, with its clauses as one relation.
-ghost use Rattle.clof_answers.specs.Ended.{Ended, source_state, sink_state};
+ghost use Rattle.clof_tool.specs.Ended.{Ended, source_state, sink_state};
 
-use crate::Status;
-use crate::by_plan::ByPlan;
-use clof_answers::call_by;
+use crate::{Status, top};
 use edge_io::{Sink, Source};
-use placed_runner::OpenGate;
 use std::alloc::Global;
 use std::sync::Wait;
 use std::thread::Threads;
@@ -25,13 +22,5 @@ pub(crate) fn call_top<R: Threads + Wait + Sync, S: Source, K: Sink, E: Sink>(
         (sink_state E.held E.room E.faults E.stalls err.old) (sink_state E.held E.room E.faults E.stalls err.new)
         result }
 {
-    call_by(
-        rt,
-        alloc,
-        words,
-        source,
-        out,
-        err,
-        &ByPlan { gate: &OpenGate },
-    )
+    top(rt, alloc, words, source, out, err)
 }

@@ -1,10 +1,13 @@
 //! The program's command line, and the one call that does all that the program does.
 #![tactic(auto)]
 
-mod by_plan;
+mod answer;
 mod calling;
+mod drilling;
 mod in_memory;
 mod process;
+mod running;
+mod serving;
 mod top_call;
 
 pub use clof_answers::{one_check, one_run};

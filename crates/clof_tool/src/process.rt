@@ -4,7 +4,7 @@ ghost use Rattle.std.specs.IoError.{error_kind};
 ghost use Rattle.std.specs.Process.{exit_status};
 ghost use Rattle.command_texts.specs.declared.status.Status.{Status as AnyStatus};
 ghost use Rattle.clof_tool.specs.Process.{words_of_process, input_of, output_of, errors_of, IsUnread, IsUnwritten};
-ghost use Rattle.clof_answers.specs.Ended.{Ended, EndedWordless, source_state, sink_state};
+ghost use Rattle.clof_tool.specs.Ended.{Ended, EndedWordless, source_state, sink_state};
 ghost use Rattle.command_texts.specs.Status.{code_of};
 ghost use Rattle.command_words.specs.Words.{NamesCommand, IsUsage};
 ghost use Rattle.edge_io.specs.Standard.{reader_left, reader_given, reader_faults, writer_held, writer_room, writer_faults, writer_stalls};

@@ -14,8 +14,8 @@ ghost use Rattle.clof_answers.specs.Outcome.{ReadsInput, limit_of, HasRead, IsAc
 ghost use Rattle.command_texts.specs.Ends.{HasWritten};
 
 use crate::Status;
-use crate::by_plan::ByPlan;
-use clof_answers::top_by;
+use crate::answer::answer;
+use clof_answers::{print, read, report};
 use edge_io::{Sink, Source};
 use placed_runner::{Gate, OpenGate};
 use std::alloc::Global;
@@ -167,5 +167,14 @@ pub fn top_with<R: Threads + Wait + Sync, S: Source, K: Sink, E: Sink, G: Gate +
         Gains (E.held err.old) (E.held err.new) (line_of result) }
     ensures told_in_part { result ≢ Status.Ok → (written : ℕ) × Gains (E.held err.old) (E.held err.new) (take written (line_of result)) }
 {
-    top_by(rt, alloc, words, source, out, err, &ByPlan { gate })
+    let asked = match read(alloc, words) {
+        Ok(asked) => asked,
+        Err(status) => {
+            report(err, &status);
+            return status;
+        }
+    };
+    let status = print(answer(rt, alloc, asked, source, gate), out);
+    report(err, &status);
+    status
 }
