@@ -1,9 +1,9 @@
 //! The calls.
-ghost use Rattle.lock_handles.specs.Calls.{Begins, Enters, Polls, BeginsRelease, PollsRelease};
+ghost use Rattle.lock_callers.specs.Goes.{Begins, Enters, Polls, BeginsRelease, PollsRelease};
 ghost use Rattle.clof_c.specs.Codes.{Answers, AnswersWaiters, AnswersFree};
 
 use crate::codes::{reply_code, told_code};
-use lock_handles::ClofCaller;
+use lock_handles::{Call, ClofCaller};
 use std::alloc::Global;
 
 /// From Idle: enters the queue.
@@ -11,7 +11,7 @@ use std::alloc::Global;
 pub extern "C" fn clof_begin(alloc: Global, caller: &mut ClofCaller) -> u32
     ensures answers { Answers Begins caller.old.held caller.new.held result }
 {
-    reply_code(caller.begin(alloc))
+    reply_code(caller.act(alloc, Call::Begin))
 }
 
 /// From Idle: enters the queue, and asks once whether the caller is its head.
@@ -19,7 +19,7 @@ pub extern "C" fn clof_begin(alloc: Global, caller: &mut ClofCaller) -> u32
 pub extern "C" fn clof_enter(alloc: Global, caller: &mut ClofCaller) -> u32
     ensures answers { Answers Enters caller.old.held caller.new.held result }
 {
-    reply_code(caller.enter(alloc))
+    reply_code(caller.act(alloc, Call::Enter))
 }
 
 /// From Queued: asks once whether the caller is the head of the queue.
@@ -27,7 +27,7 @@ pub extern "C" fn clof_enter(alloc: Global, caller: &mut ClofCaller) -> u32
 pub extern "C" fn clof_poll(alloc: Global, caller: &mut ClofCaller) -> u32
     ensures answers { Answers Polls caller.old.held caller.new.held result }
 {
-    reply_code(caller.poll(alloc))
+    reply_code(caller.act(alloc, Call::Poll))
 }
 
 /// From Holding: leaves the queue.
@@ -35,7 +35,7 @@ pub extern "C" fn clof_poll(alloc: Global, caller: &mut ClofCaller) -> u32
 pub extern "C" fn clof_begin_release(alloc: Global, caller: &mut ClofCaller) -> u32
     ensures answers { Answers BeginsRelease caller.old.held caller.new.held result }
 {
-    reply_code(caller.begin_release(alloc))
+    reply_code(caller.act(alloc, Call::BeginRelease))
 }
 
 /// From Leaving: goes on with a release.
@@ -43,7 +43,7 @@ pub extern "C" fn clof_begin_release(alloc: Global, caller: &mut ClofCaller) -> 
 pub extern "C" fn clof_poll_release(alloc: Global, caller: &mut ClofCaller) -> u32
     ensures answers { Answers PollsRelease caller.old.held caller.new.held result }
 {
-    reply_code(caller.poll_release(alloc))
+    reply_code(caller.act(alloc, Call::PollRelease))
 }
 
 /// At Holding: whether another caller is queued behind this one.

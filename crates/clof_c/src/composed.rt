@@ -1,6 +1,6 @@
 //! The calls on callers of composed locks.
-ghost use Rattle.level_handles.specs.Calls.{Acts};
-ghost use Rattle.level_handles.specs.declared.act.Call.TheVariants.{Begin, Enter, Poll, BeginRelease, PollRelease};
+ghost use Rattle.lock_callers.specs.declared.call.Call.TheVariants.{Begin, Enter, Poll, BeginRelease, PollRelease};
+ghost use Rattle.level_callers.specs.Goes.{Acts};
 ghost use Rattle.clof_c.specs.Composed.{AnswersComposed, AnswersComposedFree};
 
 use crate::composed_codes::composed_code;

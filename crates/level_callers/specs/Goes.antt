@@ -3,6 +3,8 @@ use Rattle.std.specs.Prelude.{◌≡◌, ℕ, ◌+◌, ◌<◌, ◌⊎◌, Bool,
 use Rattle.keep_local.specs.Shapes.{top_of}
 use Rattle.clof_compose.specs.Courses.{course_of}
 use Rattle.lock_callers.specs.Goes.{is_idle, is_queued, is_holding, is_leaving}
+use Rattle.lock_callers.specs.declared.call.Call.{Call}
+use Rattle.lock_callers.specs.declared.call.Call.TheVariants.{Begin, Enter, Poll, BeginRelease, PollRelease, MayFree}
 use Rattle.lock_callers.specs.declared.standing.Standing.{Standing}
 use Rattle.lock_callers.specs.declared.standing.Standing.TheVariants.{Idle, Queued, Holding, Leaving}
 use Rattle.level_callers.specs.Seen.{Seen}
@@ -78,3 +80,16 @@ BeginsRelease old new reply = Goes (is_holding old.standing) Leaving Idle 0 old 
 
 abbrev pub PollsRelease : Seen → Seen → Reply → Type 0
 PollsRelease old new reply = Goes (is_leaving old.standing) Leaving Idle 0 old new reply
+
+-- whether a caller may be let go: done from idle
+abbrev pub TellsIdle : Bool → Reply → Type 0
+TellsIdle true reply = reply ≡ Done
+TellsIdle false reply = reply ≡ Elsewhere
+
+abbrev pub Acts : Call → Seen → Seen → Reply → Type 0
+Acts Begin old new reply = Begins old new reply
+Acts Enter old new reply = Begins old new reply × HasLooked new reply
+Acts Poll old new reply = Polls old new reply × HasClimbed old new reply
+Acts BeginRelease old new reply = BeginsRelease old new reply × HasBegunToLeave old new reply
+Acts PollRelease old new reply = PollsRelease old new reply × HasDescended old new reply
+Acts MayFree old new reply = (new ≡ old) × TellsIdle (is_idle old.standing) reply

@@ -2,7 +2,7 @@
 ghost use Rattle.std.specs.Prelude.{◌≡◌, false, IfOk, IfErr};
 ghost use Rattle.lock_callers.specs.Goes.{is_idle};
 ghost use Rattle.lock_callers.specs.declared.standing.Standing.TheVariants.{Idle};
-ghost use Rattle.level_callers.specs.Goes.{Begins, Polls, BeginsRelease, PollsRelease};
+ghost use Rattle.level_callers.specs.Goes.{Begins, Polls, BeginsRelease, PollsRelease, TellsIdle};
 ghost use Rattle.level_callers.specs.Goes.{HasClimbed, HasLooked, HasBegunToLeave, HasDescended};
 
 use crate::holder::noted;
@@ -165,6 +165,16 @@ impl<C: Composed<Noted<()>>> Caller<C> {
                 self.stage = other;
                 Reply::Elsewhere
             }
+        }
+    }
+
+    /// Whether the caller may be let go: done from Idle.
+    pub fn may_free(&self) -> Reply
+        ensures told { TellsIdle (is_idle self.now.standing) result }
+    {
+        match self.standing() {
+            Standing::Idle => Reply::Done,
+            _ => Reply::Elsewhere,
         }
     }
 }

@@ -2,12 +2,13 @@
 //! call at a wrong standing is answered and changes nothing.
 #![tactic(auto)]
 
+mod act;
 mod caller;
 mod holder;
 mod making;
 mod reply;
 
 pub use caller::Caller;
-pub use lock_callers::Standing;
+pub use lock_callers::{Call, Standing};
 pub use making::make_callers;
 pub use reply::Reply;

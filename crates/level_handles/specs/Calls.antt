@@ -5,12 +5,8 @@ use Rattle.std.specs.declared.option.Option.TheVariants.{None, Some}
 use Rattle.lock_callers.specs.Goes.{is_idle}
 use Rattle.lock_handles.specs.Calls.{IsSomeThat}
 use Rattle.level_callers.specs.Seen.{Seen}
-use Rattle.level_callers.specs.Goes.{Begins, Polls, BeginsRelease, PollsRelease}
-use Rattle.level_callers.specs.Goes.{HasClimbed, HasLooked, HasBegunToLeave, HasDescended}
 use Rattle.level_callers.specs.declared.reply.Reply.{Reply}
 use Rattle.level_callers.specs.declared.reply.Reply.TheVariants.{Done, Elsewhere}
-use Rattle.level_handles.specs.declared.act.Call.{Call}
-use Rattle.level_handles.specs.declared.act.Call.TheVariants.{Begin, Enter, Poll, BeginRelease, PollRelease}
 use Rattle.level_handles.specs.declared.any_depth.AnyDepth.{AnyDepth}
 use Rattle.level_handles.specs.declared.any_depth.AnyDepth.TheVariants.{One, Two}
 
@@ -22,14 +18,6 @@ seen_of (Two c) = c
 abbrev pub levels_of : AnyDepth → ℕ
 levels_of (One c) = 1
 levels_of (Two c) = 2
-
--- what each call does with a caller, and what it answers
-abbrev pub Acts : Call → Seen → Seen → Reply → Type 0
-Acts Begin old new reply = Begins old new reply
-Acts Enter old new reply = Begins old new reply × HasLooked new reply
-Acts Poll old new reply = Polls old new reply × HasClimbed old new reply
-Acts BeginRelease old new reply = BeginsRelease old new reply × HasBegunToLeave old new reply
-Acts PollRelease old new reply = PollsRelease old new reply × HasDescended old new reply
 
 -- an empty handle stays empty, and the answer says so; else the handle has a caller, with which the call does what it does
 abbrev pub HandleDoes : (Seen → Seen → Reply → Type 0) → Option AnyDepth → Option AnyDepth → Option Reply → Type 0

@@ -1,5 +1,5 @@
 -- What making leaves in the handles. `held` is what each of them has.
-use Rattle.std.specs.Prelude.{◌≡◌, ℕ, ◌+◌, ◌<◌, ◌^◌, false, List, length, reverse, slice_get}
+use Rattle.std.specs.Prelude.{◌≡◌, ℕ, ◌+◌, ◌<◌, ◌^◌, ◌∷◌, [], ◌++◌, false, List, length, reverse, slice_get}
 use Rattle.std.specs.List.{All}
 use Rattle.std.specs.declared.option.Option.{Option}
 use Rattle.std.specs.declared.option.Option.TheVariants.{None, Some}
@@ -37,6 +37,10 @@ pub record MayMake (tag : Tag) (shape : Shape) (shares : List ShareState) : Type
 -- each of the boxes, from the last one on, has what is said of its number
 abbrev pub AreBoxed : (ℕ → AnyDepth → Type 0) → List (Box AnyDepth Global) → Type 0
 AreBoxed Q boxes = (number : ℕ) (b : Box AnyDepth Global) → slice_get (reverse boxes) number ≡ Some b → Q number b.value
+
+-- a box with this caller stands behind the others
+abbrev pub IsAdded : AnyDepth → List (Box AnyDepth Global) → List (Box AnyDepth Global) → Type 0
+IsAdded caller old new = (b : Box AnyDepth Global) × (new ≡ old ++ b ∷ []) × (b.value ≡ caller)
 
 -- each of the handles has a caller of which that is said
 abbrev pub AreHeld : (ℕ → AnyDepth → Type 0) → List (Option AnyDepth) → Type 0

@@ -5,7 +5,7 @@ ghost use Rattle.keep_local.specs.Shapes.{IsWellFormed, callers_of, top_of};
 ghost use Rattle.clof_compose.specs.Roots.{IsFit, root_tag};
 ghost use Rattle.lock_levels.specs.Raised.{IsRaised};
 ghost use Rattle.level_callers.specs.Seen.{AreFresh};
-ghost use Rattle.level_handles.specs.Making.{AreBoxed, IsLockOf, IsNew, MayMake};
+ghost use Rattle.level_handles.specs.Making.{AreBoxed, IsAdded, IsLockOf, IsNew, MayMake};
 
 use crate::any_depth::AnyDepth;
 use crate::depths::{FirstLock, OneLevel, SecondLock, TwoLevels};
@@ -142,8 +142,7 @@ fn one_boxes(alloc: Global, mut callers: Vec<Caller<FirstLock>>) -> Option<Vec<B
 {
     let mut boxes = Vec::new(alloc);
     while let Some(caller) = callers.pop() {
-        let one = Box::new(alloc, AnyDepth::One(OneLevel::of(caller))).ok()?;
-        boxes.push(one).ok()?;
+        add(alloc, &mut boxes, AnyDepth::One(OneLevel::of(caller)))?;
     }
     Some(boxes)
 }
@@ -155,8 +154,15 @@ fn two_boxes(alloc: Global, mut callers: Vec<Caller<SecondLock>>) -> Option<Vec<
 {
     let mut boxes = Vec::new(alloc);
     while let Some(caller) = callers.pop() {
-        let one = Box::new(alloc, AnyDepth::Two(TwoLevels::of(caller))).ok()?;
-        boxes.push(one).ok()?;
+        add(alloc, &mut boxes, AnyDepth::Two(TwoLevels::of(caller)))?;
     }
     Some(boxes)
+}
+
+// Puts a caller into a box behind the others. `None` for want of memory.
+fn add(alloc: Global, boxes: &mut Vec<Box<AnyDepth>>, caller: AnyDepth) -> Option<()>
+    ensures added { IfSome result (λ _. IsAdded caller boxes.old.items boxes.new.items) }
+{
+    let boxed = Box::new(alloc, caller).ok()?;
+    boxes.push(boxed).ok()
 }

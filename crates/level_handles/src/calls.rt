@@ -2,12 +2,12 @@
 ghost use Rattle.std.specs.Prelude.{◌≡◌, is_none};
 ghost use Rattle.std.specs.Option.{MatchOption};
 ghost use Rattle.std.specs.declared.option.Option.TheVariants.{None, Some};
-ghost use Rattle.level_handles.specs.Calls.{Acts, HandleDoes, HandleFrees};
+ghost use Rattle.level_callers.specs.Goes.{Acts};
+ghost use Rattle.level_handles.specs.Calls.{HandleDoes, HandleFrees};
 
-use crate::act::Call;
 use crate::any_depth::AnyDepth;
 use crate::handle::ClofComposedCaller;
-use level_callers::{Reply, Standing};
+use level_callers::{Call, Reply};
 use std::alloc::Global;
 use std::mem;
 
@@ -41,9 +41,9 @@ impl ClofComposedCaller {
     pub fn free(&mut self, alloc: Global) -> Option<Reply>
         ensures frees { HandleFrees self.old.held self.new.held result }
     {
-        let caller = self.take(alloc)?;
-        match caller.standing() {
-            Standing::Idle => Some(Reply::Done),
+        let mut caller = self.take(alloc)?;
+        match caller.act(Call::MayFree) {
+            Reply::Done => Some(Reply::Done),
             _ => {
                 self.put(caller);
                 Some(Reply::Elsewhere)

@@ -1,9 +1,8 @@
 //! A caller of a composed lock of each depth, under a name of its own, so that what is said of a caller of any depth names no lock.
 ghost use Rattle.std.specs.Prelude.{◌≡◌};
-ghost use Rattle.level_handles.specs.Calls.{Acts};
+ghost use Rattle.level_callers.specs.Goes.{Acts};
 
-use crate::act::{Call, act};
-use level_callers::{Caller, Reply, Standing};
+use level_callers::{Call, Caller, Reply};
 use lock_levels::{LevelOver, LockKind, TopOf};
 use own_payload::Noted;
 use std::marker::{Model, PhantomData};
@@ -44,18 +43,11 @@ impl OneLevel {
         }
     }
 
-    /// Where the caller stands.
-    pub(crate) fn standing(&self) -> Standing
-        ensures stands { result ≡ self.now.standing }
-    {
-        self.caller.standing()
-    }
-
     /// Does a call.
     pub(crate) fn act(&mut self, call: Call) -> Reply
         ensures acts { Acts call self.old self.new result }
     {
-        act::<FirstLock>(&mut self.caller, call)
+        self.caller.act(call)
     }
 }
 
@@ -89,17 +81,10 @@ impl TwoLevels {
         }
     }
 
-    /// Where the caller stands.
-    pub(crate) fn standing(&self) -> Standing
-        ensures stands { result ≡ self.now.standing }
-    {
-        self.caller.standing()
-    }
-
     /// Does a call.
     pub(crate) fn act(&mut self, call: Call) -> Reply
         ensures acts { Acts call self.old self.new result }
     {
-        act::<SecondLock>(&mut self.caller, call)
+        self.caller.act(call)
     }
 }

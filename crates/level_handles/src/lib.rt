@@ -1,7 +1,6 @@
 //! The handles of callers of composed locks: what a C program keeps of a caller of a lock of one or two levels.
 #![tactic(auto)]
 
-mod act;
 mod any_depth;
 mod boxes;
 mod calls;
@@ -9,8 +8,8 @@ mod depths;
 mod handle;
 mod making;
 
-pub use act::Call;
 pub use any_depth::AnyDepth;
 pub use depths::{OneLevel, TwoLevels};
 pub use handle::ClofComposedCaller;
+pub use level_callers::Call;
 pub use making::{Made, make};

@@ -5,6 +5,8 @@ use Rattle.std.specs.declared.option.Option.TheVariants.{None, Some}
 use Rattle.lock_rules.specs.Views.{answer_of}
 use Rattle.lock_rules.specs.declared.step.Answer.TheVariants.{Open}
 use Rattle.lock_callers.specs.Seen.{Seen}
+use Rattle.lock_callers.specs.declared.call.Call.{Call}
+use Rattle.lock_callers.specs.declared.call.Call.TheVariants.{Begin, Enter, Poll, BeginRelease, PollRelease, MayFree}
 use Rattle.lock_callers.specs.declared.standing.Standing.{Standing}
 use Rattle.lock_callers.specs.declared.standing.Standing.TheVariants.{Idle, Queued, Holding, Leaving, Spent}
 use Rattle.lock_callers.specs.declared.standing.Reply.{Reply}
@@ -62,3 +64,32 @@ abbrev pub Tells : Bool → Seen → Seen → Option Bool → Type 0
 Tells true old new None = ⊥
 Tells true old new (Some told) = new ≡ record old { loads = old.loads + 1; tested = answer_of told }
 Tells false old new told = (new ≡ old) × (told ≡ None)
+
+-- whether a caller may be let go: done from idle
+abbrev pub TellsIdle : Bool → Reply → Type 0
+TellsIdle true reply = reply ≡ Done
+TellsIdle false reply = reply ≡ Elsewhere
+
+-- what each call does with a caller, and what it answers
+abbrev pub Begins : Seen → Seen → Reply → Type 0
+Begins old new reply = Goes (is_idle old.standing) Queued Holding old new reply
+
+abbrev pub Enters : Seen → Seen → Reply → Type 0
+Enters old new reply = Goes (is_idle old.standing) Queued Holding old new reply × WasLoaded new reply
+
+abbrev pub Polls : Seen → Seen → Reply → Type 0
+Polls old new reply = Goes (is_queued old.standing) Queued Holding old new reply × LoadedOnce old new reply
+
+abbrev pub BeginsRelease : Seen → Seen → Reply → Type 0
+BeginsRelease old new reply = Goes (is_holding old.standing) Leaving Idle old new reply × LoadedOnce old new reply
+
+abbrev pub PollsRelease : Seen → Seen → Reply → Type 0
+PollsRelease old new reply = Goes (is_leaving old.standing) Leaving Idle old new reply × LoadedOnce old new reply
+
+abbrev pub Acts : Call → Seen → Seen → Reply → Type 0
+Acts Begin old new reply = Begins old new reply
+Acts Enter old new reply = Enters old new reply
+Acts Poll old new reply = Polls old new reply
+Acts BeginRelease old new reply = BeginsRelease old new reply
+Acts PollRelease old new reply = PollsRelease old new reply
+Acts MayFree old new reply = (new ≡ old) × TellsIdle (is_idle old.standing) reply

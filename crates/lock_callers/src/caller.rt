@@ -1,6 +1,6 @@
 //! A caller of a lock.
 ghost use Rattle.std.specs.Prelude.{◌≡◌, false, IfOk, IfErr};
-ghost use Rattle.lock_callers.specs.Goes.{Goes, LoadedOnce, WasLoaded, Tells, is_idle, is_queued, is_holding, is_leaving};
+ghost use Rattle.lock_callers.specs.Goes.{Goes, LoadedOnce, WasLoaded, Tells, TellsIdle, is_idle, is_queued, is_holding, is_leaving};
 ghost use Rattle.lock_callers.specs.declared.standing.Standing.TheVariants.{Idle, Queued, Holding, Leaving};
 
 use crate::stage::Stage;
@@ -145,6 +145,16 @@ impl<B: Basic<Plain<()>>> Caller<B> {
                 self.stage = other;
                 Reply::Elsewhere
             }
+        }
+    }
+
+    /// Whether the caller may be let go: done from Idle.
+    pub fn may_free(&self) -> Reply
+        ensures told { TellsIdle (is_idle self.now.standing) result }
+    {
+        match self.standing() {
+            Standing::Idle => Reply::Done,
+            _ => Reply::Elsewhere,
         }
     }
 

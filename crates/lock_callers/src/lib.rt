@@ -2,11 +2,13 @@
 //! wrong standing is answered and changes nothing.
 #![tactic(auto)]
 
+mod call;
 mod caller;
 mod making;
 mod stage;
 mod standing;
 
+pub use call::Call;
 pub use caller::Caller;
 pub use making::make_callers;
 pub use stage::Stage;

@@ -3,8 +3,7 @@ use Rattle.std.specs.Prelude.{◌≡◌, Bool, true, false}
 use Rattle.std.specs.declared.option.Option.{Option}
 use Rattle.std.specs.declared.option.Option.TheVariants.{None, Some}
 use Rattle.lock_callers.specs.Seen.{Seen}
-use Rattle.lock_callers.specs.Goes.{Goes, LoadedOnce, WasLoaded, Tells, is_idle, is_queued, is_holding, is_leaving}
-use Rattle.lock_callers.specs.declared.standing.Standing.TheVariants.{Idle, Queued, Holding, Leaving}
+use Rattle.lock_callers.specs.Goes.{Tells, is_idle, is_holding}
 use Rattle.lock_callers.specs.declared.standing.Reply.{Reply}
 use Rattle.lock_callers.specs.declared.standing.Reply.TheVariants.{Done, Elsewhere}
 use Rattle.lock_handles.specs.declared.any.AnyCaller.{AnyCaller}
@@ -24,22 +23,14 @@ kind_of of.Mcs c = Mcs c
 kind_of of.Clh c = Clh c
 kind_of of.Hemlock c = Hemlock c
 
--- what each call does with a caller, and what it answers
-abbrev pub Begins : Seen → Seen → Reply → Type 0
-Begins old new reply = Goes (is_idle old.standing) Queued Holding old new reply
+-- which of the four locks it is a caller of
+abbrev pub lock_of : AnyCaller → Kind
+lock_of (Ticket c) = of.Ticket
+lock_of (Mcs c) = of.Mcs
+lock_of (Clh c) = of.Clh
+lock_of (Hemlock c) = of.Hemlock
 
-abbrev pub Enters : Seen → Seen → Reply → Type 0
-Enters old new reply = Goes (is_idle old.standing) Queued Holding old new reply × WasLoaded new reply
-
-abbrev pub Polls : Seen → Seen → Reply → Type 0
-Polls old new reply = Goes (is_queued old.standing) Queued Holding old new reply × LoadedOnce old new reply
-
-abbrev pub BeginsRelease : Seen → Seen → Reply → Type 0
-BeginsRelease old new reply = Goes (is_holding old.standing) Leaving Idle old new reply × LoadedOnce old new reply
-
-abbrev pub PollsRelease : Seen → Seen → Reply → Type 0
-PollsRelease old new reply = Goes (is_leaving old.standing) Leaving Idle old new reply × LoadedOnce old new reply
-
+-- what `waiters` does with a caller, and what it tells
 abbrev pub Waits : Seen → Seen → Option Bool → Type 0
 Waits old new told = Tells (is_holding old.standing) old new told
 

@@ -3,6 +3,7 @@ ghost use Rattle.std.specs.Prelude.{◌≡◌, ◌<◌, length, IfSome};
 ghost use Rattle.std.specs.List.{All};
 ghost use Rattle.lock_rules.specs.Tag.{Tag};
 ghost use Rattle.lock_callers.specs.Seen.{idle_of};
+ghost use Rattle.lock_handles.specs.Making.{IsAdded};
 ghost use Rattle.lock_handles.specs.declared.any.AnyCaller.TheVariants as TheVariants;
 
 use crate::any::AnyCaller;
@@ -23,8 +24,7 @@ pub(crate) fn ticket_boxes(alloc: Global, count: u32) -> Option<Vec<Box<AnyCalle
     let mut callers = make_callers::<Ticket<Plain<()>>>(alloc, Waiters::Queue, count)?;
     let mut boxes = Vec::new(alloc);
     while let Some(caller) = callers.pop() {
-        let boxed = Box::new(alloc, AnyCaller::Ticket(caller)).ok()?;
-        boxes.push(boxed).ok()?;
+        add(alloc, &mut boxes, AnyCaller::Ticket(caller))?;
     }
     Some(boxes)
 }
@@ -38,8 +38,7 @@ pub(crate) fn mcs_boxes(alloc: Global, count: u32) -> Option<Vec<Box<AnyCaller>>
     let mut callers = make_callers::<Mcs<Plain<()>>>(alloc, Waiters::Queue, count)?;
     let mut boxes = Vec::new(alloc);
     while let Some(caller) = callers.pop() {
-        let boxed = Box::new(alloc, AnyCaller::Mcs(caller)).ok()?;
-        boxes.push(boxed).ok()?;
+        add(alloc, &mut boxes, AnyCaller::Mcs(caller))?;
     }
     Some(boxes)
 }
@@ -53,8 +52,7 @@ pub(crate) fn clh_boxes(alloc: Global, count: u32) -> Option<Vec<Box<AnyCaller>>
     let mut callers = make_callers::<Clh<Plain<()>>>(alloc, Waiters::Queue, count)?;
     let mut boxes = Vec::new(alloc);
     while let Some(caller) = callers.pop() {
-        let boxed = Box::new(alloc, AnyCaller::Clh(caller)).ok()?;
-        boxes.push(boxed).ok()?;
+        add(alloc, &mut boxes, AnyCaller::Clh(caller))?;
     }
     Some(boxes)
 }
@@ -68,8 +66,15 @@ pub(crate) fn hemlock_boxes(alloc: Global, count: u32) -> Option<Vec<Box<AnyCall
     let mut callers = make_callers::<Hemlock<Plain<()>>>(alloc, Waiters::Queue, count)?;
     let mut boxes = Vec::new(alloc);
     while let Some(caller) = callers.pop() {
-        let boxed = Box::new(alloc, AnyCaller::Hemlock(caller)).ok()?;
-        boxes.push(boxed).ok()?;
+        add(alloc, &mut boxes, AnyCaller::Hemlock(caller))?;
     }
     Some(boxes)
+}
+
+/// Puts a caller into a box behind the others. `None` for want of memory.
+fn add(alloc: Global, boxes: &mut Vec<Box<AnyCaller>>, caller: AnyCaller) -> Option<()>
+    ensures added { IfSome result (λ _. IsAdded caller boxes.old.items boxes.new.items) }
+{
+    let boxed = Box::new(alloc, caller).ok()?;
+    boxes.push(boxed).ok()
 }

@@ -2,11 +2,12 @@
 ghost use Rattle.std.specs.Prelude.{◌≡◌, is_none};
 ghost use Rattle.std.specs.Option.{MatchOption};
 ghost use Rattle.std.specs.declared.option.Option.TheVariants.{None, Some};
-ghost use Rattle.lock_handles.specs.Calls.{HandleDoes, HandleFrees, Begins, Enters, Polls, BeginsRelease, PollsRelease, Waits};
+ghost use Rattle.lock_callers.specs.Goes.{Acts};
+ghost use Rattle.lock_handles.specs.Calls.{HandleDoes, HandleFrees, Waits};
 
 use crate::any::AnyCaller;
 use crate::handle::ClofCaller;
-use lock_callers::{Reply, Standing};
+use lock_callers::{Call, Reply};
 use std::alloc::Global;
 use std::mem;
 
@@ -26,52 +27,12 @@ impl ClofCaller {
         drop(mem::replace(self, ClofCaller::full(caller)));
     }
 
-    /// From Idle: enters the queue.
-    pub fn begin(&mut self, alloc: Global) -> Option<Reply>
-        ensures does { HandleDoes Begins self.old.held self.new.held result }
+    /// Does a call with the caller, from the standing that the call's name says.
+    pub fn act(&mut self, alloc: Global, call: Call) -> Option<Reply>
+        ensures does { HandleDoes (Acts call) self.old.held self.new.held result }
     {
         let mut caller = self.take(alloc)?;
-        let reply = caller.begin();
-        self.put(caller);
-        Some(reply)
-    }
-
-    /// From Idle: enters the queue, and asks once whether the caller is its head.
-    pub fn enter(&mut self, alloc: Global) -> Option<Reply>
-        ensures does { HandleDoes Enters self.old.held self.new.held result }
-    {
-        let mut caller = self.take(alloc)?;
-        let reply = caller.enter();
-        self.put(caller);
-        Some(reply)
-    }
-
-    /// From Queued: asks once whether the caller is the head of the queue.
-    pub fn poll(&mut self, alloc: Global) -> Option<Reply>
-        ensures does { HandleDoes Polls self.old.held self.new.held result }
-    {
-        let mut caller = self.take(alloc)?;
-        let reply = caller.poll();
-        self.put(caller);
-        Some(reply)
-    }
-
-    /// From Holding: leaves the queue.
-    pub fn begin_release(&mut self, alloc: Global) -> Option<Reply>
-        ensures does { HandleDoes BeginsRelease self.old.held self.new.held result }
-    {
-        let mut caller = self.take(alloc)?;
-        let reply = caller.begin_release();
-        self.put(caller);
-        Some(reply)
-    }
-
-    /// From Leaving: goes on with a release.
-    pub fn poll_release(&mut self, alloc: Global) -> Option<Reply>
-        ensures does { HandleDoes PollsRelease self.old.held self.new.held result }
-    {
-        let mut caller = self.take(alloc)?;
-        let reply = caller.poll_release();
+        let reply = caller.act(call);
         self.put(caller);
         Some(reply)
     }
@@ -90,9 +51,9 @@ impl ClofCaller {
     pub fn free(&mut self, alloc: Global) -> Option<Reply>
         ensures frees { HandleFrees self.old.held self.new.held result }
     {
-        let caller = self.take(alloc)?;
-        match caller.standing() {
-            Standing::Idle => Some(Reply::Done),
+        let mut caller = self.take(alloc)?;
+        match caller.act(Call::MayFree) {
+            Reply::Done => Some(Reply::Done),
             _ => {
                 self.put(caller);
                 Some(Reply::Elsewhere)

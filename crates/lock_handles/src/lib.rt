@@ -9,4 +9,5 @@ mod making;
 
 pub use any::{AnyCaller, Kind};
 pub use handle::ClofCaller;
+pub use lock_callers::Call;
 pub use making::{Made, make};

@@ -1,5 +1,4 @@
-use Rattle.std.proofs.Common.{◌≡◌, [], ◌∷◌, ◌++◌, length, ap, ◌∙◌, subst, arith}
-use Rattle.std.proofs.lemmas.Grind.{common_steps}
+use Rattle.std.proofs.Common.{◌≡◌, length, ap, ◌∙◌, subst, arith}
 use mathlib.Core.Logic.{dite}
 use native.Mathlib.Decide.{ℕ_discrete}
 use Rattle.clof_compose.proofs.Lists.{length_more}
@@ -7,7 +6,6 @@ use Rattle.own_payload.proofs.Items.{in_front}
 use Rattle.level_callers.specs.Seen.{IsFresh}
 use Rattle.level_handles.specs.Calls.{levels_of, seen_of}
 use Rattle.level_handles.specs.Making.{IsNew}
-use Rattle.level_handles.specs.declared.any_depth.AnyDepth.TheVariants.{One}
 use Rattle.level_handles.proofs.Boxed.{boxed_more}
 use Rattle.level_handles.proofs.boxes.one_boxes.Goals as goal
 
@@ -17,17 +15,16 @@ loop-caller-preserved c =
     let counted = inv.counted in
     let cut = c.in-Some.ensures.items in
     let fewer = length_more c.pop.new.self.items c.loop-caller.callers.items c.in-Some.caller cut in
-    let pushed : c.push.new.self.items ≡ c.loop-caller.boxes.items ++ c.in_ok-one.one ∷ [] = grind (arith, common_steps) in
-    let more = length_more c.loop-caller.boxes.items c.push.new.self.items c.in_ok-one.one pushed in
-    let value : c.in_ok-one.one.value ≡ One c.of.result = grind (arith, common_steps) in
+    let added = c.in_ok-add.ensures.added in
+    let more = length_more c.loop-caller.boxes.items c.add.new.boxes.items added.0 added.1 in
     record {
       counted = omega (arith, fewer, more, counted);
       fresh = λ lock all. in_front (IsFresh lock) c.loop-caller.callers.items c.pop.new.self.items c.in-Some.caller cut
           (inv.fresh lock all);
       behind = λ lock all.
           boxed_more 1 lock c.loop-caller.callers.items c.pop.new.self.items c.in-Some.caller c.loop-caller.boxes.items
-          c.push.new.self.items c.in_ok-one.one cut pushed (ap seen_of value ∙ c.of.ensures.same)
-          (ap levels_of value) (inv.fresh lock all) (inv.behind lock all);
+          c.add.new.boxes.items added.0 cut added.1 (ap seen_of added.2 ∙ c.of.ensures.same) (ap levels_of added.2)
+          (inv.fresh lock all) (inv.behind lock all);
     }
 
 pub returns-clause-callers : goal.returns-clause-callers
