@@ -96,14 +96,7 @@ pub fn work_under<
     W: UnderLock<P, Q, K, J, B, F, G> + Send + Sync,
     C: Waits<P, Pass = Q> + Sync + Drop,
     R: Threads + Wait + Sync,
->(
-    rt: &R,
-    alloc: Global,
-    lock: C,
-    shared: &G,
-    passes: Vec<Q>,
-    brought: B,
-) -> Result<F, OutOfMemory>
+>(rt: &R, alloc: Global, lock: C, shared: &G, passes: Vec<Q>, brought: B) -> Result<F, OutOfMemory>
 where
     C::Queue: Send,
     C::Held: Send,
