@@ -1,6 +1,6 @@
 -- Bytes in memory: what is printed for what a source has left, and that a sink with room isn't full.
 use Rattle.std.proofs.Common.{◌≡◌, ◌⊎◌, ℕ, ◌<◌, List, length, map, Option, Some, None, arith, refl, sym, ◌∙◌, subst, inl, inr}
-use Rattle.std.specs.Prelude.{◌++◌, string_bytes, take}
+use Rattle.std.specs.Prelude.{string_bytes, take}
 use Rattle.std.specs.declared.string.String.{String}
 use Rattle.std.specs.declared.alloc.Global.{Global}
 use Rattle.edge_io.specs.Counts.{Rose}

@@ -1,5 +1,5 @@
 //! The top call.
-ghost use Rattle.std.specs.Prelude.{◌≡◌, ◌≢◌, ◌<◌, ◌⊎◌, ◌↔◌, ℕ, List, Some, length, take, IfErr, IfOk, IfSome};
+ghost use Rattle.std.specs.Prelude.{◌≡◌, ◌≢◌, ◌<◌, ◌⊎◌, ℕ, List, Some, length, take, IfSome};
 ghost use Rattle.out_of_memory.specs.Memory.{UnlessMemory};
 ghost use Rattle.edge_io.specs.Counts.{Rose};
 ghost use Rattle.edge_io.specs.Contents.{Gains, IsDrained};
@@ -7,7 +7,6 @@ ghost use Rattle.edge_io.specs.Reading.{HasGiven};
 ghost use Rattle.command_texts.specs.declared.status.Status.{Status as AnyStatus};
 ghost use Rattle.command_texts.specs.Line.{line_of};
 ghost use Rattle.command_words.specs.Asked.{Asked as PlainAsked};
-ghost use Rattle.command_words.specs.Plain.{plain};
 ghost use Rattle.command_words.specs.Words.{Says, NamesCommand, IsUsage};
 ghost use Rattle.command_texts.specs.Ends.{IsRefusal};
 ghost use Rattle.clof_answers.specs.Outcome.{ReadsInput, limit_of, HasRead, IsAccepted, IsAnswer, WordsRefused, InputRefused, HasCause};
