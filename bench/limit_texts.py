@@ -1,5 +1,5 @@
 #!/usr/bin/env python3
-"""Works out the texts at the limits that the tests of crates/answer_trials compare by their length and checksum.
+"""Works out the texts at the limits that the tests of crates/clof_trials compare by their length and checksum.
 
 Each text is made from its definition by plain loops, and nothing of the program is used. The checksum is FNV-1a of 64 bits over the
 text's bytes (Fowler, Noll and Vo; offset basis 14695981039346656037, prime 1099511628211). Prints a line a text: name, length, checksum.

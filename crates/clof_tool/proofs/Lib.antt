@@ -1,14 +1,2 @@
-pub mod Checks
 pub mod Codes
-pub mod Drills
-pub mod Judgements
-pub mod DrilledMachine
-pub mod Marks
-pub mod Pairs
-pub mod Places
-pub mod Plans
 pub mod Room
-pub mod Runs
-pub mod SectionRuns
-pub mod Stops
-pub mod Words

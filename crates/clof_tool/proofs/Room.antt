@@ -1,6 +1,6 @@
 -- Bytes in memory: what is printed for what a source has left, and that a sink with room isn't full.
 use Rattle.std.proofs.Common.{◌≡◌, ◌⊎◌, ℕ, ◌<◌, List, length, map, Option, Some, None, arith, refl, sym, ◌∙◌, subst, inl, inr}
-use Rattle.std.specs.Prelude.{◌++◌, string_bytes, take}
+use Rattle.std.specs.Prelude.{string_bytes, take}
 use Rattle.std.specs.declared.string.String.{String}
 use Rattle.std.specs.declared.alloc.Global.{Global}
 use Rattle.edge_io.specs.Counts.{Rose}
@@ -9,7 +9,7 @@ use Rattle.command_texts.specs.declared.status.Status.{Status}
 use Rattle.command_texts.specs.declared.status.Status.TheVariants as statuses
 use Rattle.command_words.specs.Asked.{Asked, Run, Set, Topo, Calc, Distrib, Select, Drill, Check}
 use Rattle.command_words.specs.Words.{Says, NamesCommand, IsUsage, asked_of}
-use Rattle.clof_tool.specs.Outcome.{HasRead, IsAnswer}
+use Rattle.clof_answers.specs.Outcome.{HasRead, IsAnswer}
 use Rattle.clof_tool.specs.Room.{HasRoom}
 
 -- what was read of a source that tells what it has left is just that

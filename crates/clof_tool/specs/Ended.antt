@@ -13,7 +13,7 @@ use Rattle.command_texts.specs.Ends.{IsRefusal, HasWritten}
 use Rattle.command_texts.specs.Line.{line_of}
 use Rattle.command_words.specs.Asked.{Asked}
 use Rattle.command_words.specs.Words.{Says, NamesCommand, IsUsage}
-use Rattle.clof_tool.specs.Outcome.{limit_of, ReadsInput, HasRead, IsAccepted, IsAnswer, WordsRefused, InputRefused, HasCause}
+use Rattle.clof_answers.specs.Outcome.{limit_of, ReadsInput, HasRead, IsAccepted, IsAnswer, WordsRefused, InputRefused, HasCause}
 
 -- what a source tells of itself: the bytes that it has left, how many it has given, how many reads have failed
 pub record SourceState : Type 0 where

@@ -1,11 +1,4 @@
-pub mod Checking
-pub mod Drilling
-pub mod Outcome
-pub mod Answered
 pub mod Ended
 pub mod Process
 pub mod Room
-pub mod Run
-pub mod Selecting
 pub mod InMemory
-pub mod Laws

@@ -4,7 +4,7 @@ use Rattle.std.specs.declared.string.String.{String}
 use Rattle.std.specs.declared.alloc.Global.{Global}
 use Rattle.command_words.specs.Asked.{Asked}
 use Rattle.command_words.specs.Words.{Says}
-use Rattle.clof_tool.specs.Outcome.{IsAnswer}
+use Rattle.clof_answers.specs.Outcome.{IsAnswer}
 
 -- there is room for every text that answers words and an input
 abbrev pub HasRoom : List (String Global) → List ℕ → ℕ → Type 0

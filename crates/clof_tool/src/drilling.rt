@@ -1,18 +1,17 @@
 //! What `drill` prints.
-ghost use Rattle.std.specs.Prelude.{◌≡◌, IfOk, IfErr};
+ghost use Rattle.std.specs.Prelude.{◌≡◌, ◌<◌, ◌^◌, All, length, map, sum_by, IfOk, IfErr};
+ghost use Rattle.synth_text.specs.Rules.{pu_count};
 ghost use Rattle.lock_plan.specs.Plans.{IsPlanFor};
-ghost use Rattle.drill_text.specs.Drill.{drill_text};
-ghost use Rattle.clof_tool.specs.Drilling.{drilled_machine};
+ghost use Rattle.drill_text.specs.Drill.{drill_sections, drill_text};
+ghost use Rattle.clof_answers.specs.Drilling.{drilled_machine};
 
 use crate::Status;
-use crate::running::shape_for;
-use command_texts::topology::tree;
-use drill_text::{KEEPS, LEVELS, LOCKS, MACHINE, sections, summary};
+use clof_answers::{machine, plan_on, shape_for};
+use drill_text::{sections, summary};
 use lock_plan::Plan;
 use out_of_memory::OutOfMemory;
-use placed_runner::{Gate, spread};
+use placed_runner::{Gate, Section, spread};
 use planned_runner::{Manner, Sharing, run};
-use run_faults::PlanFault;
 use std::alloc::Global;
 use std::sync::Wait;
 use std::thread::Threads;
@@ -51,48 +50,49 @@ fn drilled<R: Threads + Wait + Sync, G: Gate + Sync>(
 {
     let tree = machine(alloc)?;
     let plan = plan_on(alloc, &tree)?;
+    drilled_under(rt, alloc, &tree, &plan, number, gate)
+}
+
+// The same on its machine, under the lock of a plan.
+fn drilled_under<R: Threads + Wait + Sync, G: Gate + Sync>(
+    rt: &R,
+    alloc: Global,
+    tree: &Tree,
+    plan: &Plan,
+    number: u32,
+    gate: &G,
+) -> Result<Vec<u8>, OutOfMemory>
+    requires tree { tree.now ≡ drilled_machine }
+    requires plan { IsPlanFor tree.now plan.now }
+    ensures { IfOk result (λ printed. printed.items ≡ drill_text number) }
+{
     let bytes = sections(alloc, number)?;
-    let sections = spread(alloc, &tree, &bytes)?;
-    let shape = shape_for(alloc, &tree, &plan, &sections)?;
+    let sections = spread(alloc, tree, &bytes)?;
+    drilled_by(rt, alloc, tree, plan, &sections, number, gate)
+}
+
+// The same of its callers' sections.
+fn drilled_by<R: Threads + Wait + Sync, G: Gate + Sync>(
+    rt: &R,
+    alloc: Global,
+    tree: &Tree,
+    plan: &Plan,
+    sections: &[Section<'_>],
+    number: u32,
+    gate: &G,
+) -> Result<Vec<u8>, OutOfMemory>
+    requires plan { IsPlanFor tree.now plan.now }
+    requires pus { All (λ section. section.pu < pu_count tree.now) sections.now }
+    requires many { length sections.now ≡ 64 }
+    requires small { sum_by (λ section. length section.bytes.now) sections.now < 2 ^ 32 }
+    requires bytes { map (λ section. section.bytes.now) sections.now ≡ drill_sections number }
+    ensures { IfOk result (λ printed. printed.items ≡ drill_text number) }
+{
+    let shape = shape_for(alloc, tree, plan, sections)?;
     let manner = Manner::Cohorts(Sharing {
         threads: DRILL_THREADS,
         quantum: DRILL_QUANTUM,
     });
-    let left = run(rt, alloc, &plan, &shape, &sections, manner, gate)?;
+    let left = run(rt, alloc, plan, &shape, sections, manner, gate)?;
     summary(alloc, number, &left.journal)
-}
-
-// The machine of a drill.
-fn machine(alloc: Global) -> Result<Tree, OutOfMemory>
-    ensures { IfOk result (λ tree. tree ≡ drilled_machine) }
-{
-    match tree(alloc, MACHINE) {
-        Ok(tree) => Ok(tree),
-        Err(status) => Err(only_memory(status)),
-    }
-}
-
-// The one status with which the description is refused: it describes a machine that is built.
-fn only_memory(_status: Status) -> OutOfMemory
-    requires { _status ≡ Status.OutOfMemory }
-{
-    OutOfMemory
-}
-
-// The plan of a drill's lock.
-fn plan_on(alloc: Global, tree: &Tree) -> Result<Plan, OutOfMemory>
-    requires { tree.now ≡ drilled_machine }
-    ensures { IfOk result (IsPlanFor tree.now) }
-{
-    match Plan::read(alloc, tree, LEVELS, Some(LOCKS), KEEPS) {
-        Ok(plan) => Ok(plan),
-        Err(fault) => Err(only_memory_for_plan(fault)),
-    }
-}
-
-// The one fault with which the plan is refused: its texts break no rule.
-fn only_memory_for_plan(_fault: PlanFault) -> OutOfMemory
-    requires { _fault ≡ PlanFault.OutOfMemory }
-{
-    OutOfMemory
 }

@@ -2,7 +2,7 @@
 ghost use Rattle.std.specs.Prelude.{◌≡◌, ◌≢◌, ◌++◌, ℕ, List};
 ghost use Rattle.command_words.specs.Asked.{Asked as PlainAsked};
 ghost use Rattle.command_words.specs.Words.{Says};
-ghost use Rattle.clof_tool.specs.Outcome.{IsAnswer};
+ghost use Rattle.clof_answers.specs.Outcome.{IsAnswer};
 ghost use Rattle.clof_tool.specs.Ended.{Ended, sink_state};
 ghost use Rattle.clof_tool.specs.InMemory.{sure_source, sure_sink};
 ghost use Rattle.clof_tool.specs.Room.{HasRoom};

@@ -11,7 +11,7 @@ ghost use Rattle.edge_io.specs.Standard.{reader_left, reader_given, reader_fault
 
 use crate::Status;
 use crate::calling::call_top;
-use crate::report::report;
+use clof_answers::report;
 use edge_io::{Sink, Source, StdSink, StdSource};
 use std::alloc::Global;
 use std::io::{ErrorKind, Stderr, Stdin, Stdout};

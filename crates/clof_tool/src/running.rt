@@ -1,26 +1,28 @@
 //! What `run` prints of an input.
-ghost use Rattle.std.specs.Prelude.{◌≡◌, ◌<◌, ◌≤◌, ◌^◌, All, length, map, sum_by, IfOk, IfErr, IsOk};
+ghost use Rattle.std.specs.Prelude.{◌≡◌, ◌+◌, ◌<◌, ◌≤◌, ◌^◌, All, length, map, sum_by, IfOk, IfErr, IsOk};
 ghost use Rattle.out_of_memory.specs.Memory.{UnlessMemory};
 ghost use Rattle.synth_text.specs.Rules.{pu_count};
-ghost use Rattle.lock_plan.specs.Laws.{IsTree};
+ghost use Rattle.keep_local.specs.Shapes.{IsWellFormed, callers_of, top_of};
 ghost use Rattle.lock_plan.specs.Plans.{IsPlanFor};
-ghost use Rattle.lock_plan.specs.Shapes.{IsShapeOf};
+ghost use Rattle.placed_runner.specs.Printed.{IsRun};
 ghost use Rattle.placed_runner.specs.Sections.{caller_limit};
+ghost use Rattle.fresh_runner.specs.Receipts.{IsMarkedRun};
 ghost use Rattle.placed_runner.specs.Views.{section_view};
 ghost use Rattle.command_texts.specs.declared.status.Status.{Status as AnyStatus};
 ghost use Rattle.run_check.specs.Pairs.{input_limit};
-ghost use Rattle.clof_tool.specs.Run.{section_status, PrintsRun, PrintsUnder, RefusesSections};
+ghost use Rattle.clof_answers.specs.Run.{PrintsRun, PrintsUnder, RefusesSections};
 ghost use Rattle.command_texts.specs.Ends.{EndsEarly};
 
-use crate::{Fault, Status};
+use crate::Status;
+use clof_answers::{section_status, shape_for};
 use command_words::Running;
 use fresh_runner::printed_with_receipts;
 use keep_local::Shape;
 use lock_plan::Plan;
 use out_of_memory::OutOfMemory;
-use placed_runner::{Gate, Section, SectionFault, read_sections};
+use placed_runner::{Gate, Section, read_sections};
 use planned_runner::{Manner, Sharing, run, run_marked};
-use std::alloc::{AllocError, Global};
+use std::alloc::Global;
 use std::sync::Wait;
 use std::thread::Threads;
 use threaded_runner::printed;
@@ -78,10 +80,54 @@ fn run_under<R: Threads + Wait + Sync, G: Gate + Sync>(
         return Ok(Vec::new(alloc));
     }
     if asked.receipts {
-        let made = run_marked(rt, alloc, plan, &shape, sections, gate)?;
-        return printed_with_receipts(alloc, sections, &made);
+        marked_text(rt, alloc, plan, &shape, sections, gate)
+    } else {
+        plain_text(rt, alloc, plan, &shape, sections, asked, gate)
     }
-    let left = run(rt, alloc, plan, &shape, sections, manner_of(&asked), gate)?;
+}
+
+// The text of a run under a lock of this shape, with receipts.
+fn marked_text<R: Threads + Wait + Sync, G: Gate + Sync>(
+    rt: &R,
+    alloc: Global,
+    plan: &Plan,
+    shape: &Shape,
+    sections: &[Section<'_>],
+    gate: &G,
+) -> Result<Vec<u8>, OutOfMemory>
+    requires plan { length plan.now.kinds ≡ top_of shape.now + 1 }
+    requires levels { top_of shape.now < 5 }
+    requires formed { IsWellFormed shape.now }
+    requires callers { callers_of shape.now ≡ length sections.now }
+    requires some { 0 < length sections.now }
+    requires few { length sections.now ≤ caller_limit }
+    requires small { sum_by (λ section. length section.bytes.now) sections.now < 2 ^ 32 }
+    ensures { IfOk result (λ printed. IsMarkedRun (map section_view sections.now) shape.now printed.items) }
+{
+    let made = run_marked(rt, alloc, plan, shape, sections, gate)?;
+    printed_with_receipts(alloc, sections, &made)
+}
+
+// The text of one without.
+fn plain_text<R: Threads + Wait + Sync, G: Gate + Sync>(
+    rt: &R,
+    alloc: Global,
+    plan: &Plan,
+    shape: &Shape,
+    sections: &[Section<'_>],
+    asked: Running<'_>,
+    gate: &G,
+) -> Result<Vec<u8>, OutOfMemory>
+    requires plan { length plan.now.kinds ≡ top_of shape.now + 1 }
+    requires levels { top_of shape.now < 5 }
+    requires formed { IsWellFormed shape.now }
+    requires callers { callers_of shape.now ≡ length sections.now }
+    requires some { 0 < length sections.now }
+    requires few { length sections.now ≤ caller_limit }
+    requires small { sum_by (λ section. length section.bytes.now) sections.now < 2 ^ 32 }
+    ensures { IfOk result (λ printed. IsRun (map section_view sections.now) shape.now printed.items) }
+{
+    let left = run(rt, alloc, plan, shape, sections, manner_of(&asked), gate)?;
     printed(alloc, sections, &left)
 }
 
@@ -97,44 +143,5 @@ fn manner_of(asked: &Running<'_>) -> Manner {
         } else {
             Manner::Threads
         },
-    }
-}
-
-/// The shape of a plan's lock, whose callers stand on the PUs of these sections.
-pub(crate) fn shape_for(
-    alloc: Global,
-    tree: &Tree,
-    plan: &Plan,
-    sections: &[Section<'_>],
-) -> Result<Shape, OutOfMemory>
-    requires plan { IsPlanFor tree.now plan.now }
-    requires pus { All (λ section. section.pu < pu_count tree.now) sections.now }
-    ensures shape { IfOk result (IsShapeOf tree.now plan.now (map (λ section. section.pu) sections.now)) }
-    ensures tree { IfOk result (IsTree plan.now (map (λ section. section.pu) sections.now)) }
-{
-    let pus = pus(alloc, sections)?;
-    plan.shape(alloc, tree, &pus)
-}
-
-// The PUs of sections.
-fn pus(alloc: Global, sections: &[Section<'_>]) -> Result<Vec<u32>, AllocError>
-    ensures { IfOk result (λ pus. pus.items ≡ map (λ section. section.pu) sections.now) }
-{
-    let mut pus = Vec::with_capacity(alloc, sections.len())?;
-    for section in sections {
-        pus.push(section.pu)?;
-    }
-    Ok(pus)
-}
-
-/// The status of a fault of the sections: one of them is a limit.
-pub(crate) fn section_status(fault: SectionFault) -> Status
-    ensures status { result ≡ section_status fault }
-    ensures early { EndsEarly result }
-{
-    match fault {
-        SectionFault::TooManyCallers => Status::Limit(Fault::Section(fault)),
-        SectionFault::OutOfMemory => Status::OutOfMemory,
-        _ => Status::Malformed(Fault::Section(fault)),
     }
 }

@@ -11,13 +11,13 @@ ghost use Rattle.command_texts.specs.declared.status.Status.{Status as AnyStatus
 ghost use Rattle.command_texts.specs.Ends.{IsRefusal, HasWritten};
 ghost use Rattle.plan_texts.specs.RunPlan.{RefusesPlan};
 ghost use Rattle.run_check.specs.Pairs.{input_limit};
-ghost use Rattle.clof_tool.specs.Run.{PrintsSections, PrintsUnder, Refuses, RefusesPlanned, RunRefuses};
-ghost use Rattle.clof_tool.specs.Outcome.{WasRead, Found, FoundPlanned};
-ghost use Rattle.clof_tool.specs.Answered.{Answered, AnswersUnrefused};
+ghost use Rattle.clof_answers.specs.Run.{PrintsSections, PrintsUnder, Refuses, RefusesPlanned, RunRefuses};
+ghost use Rattle.clof_answers.specs.Outcome.{WasRead, Found, FoundPlanned};
+ghost use Rattle.clof_answers.specs.Answered.{Answered, AnswersUnrefused};
 
 use crate::Status;
-use crate::answer::read_input;
 use crate::running::run_text;
+use clof_answers::read_input;
 use command_texts::topology::tree;
 use command_words::Running;
 use edge_io::Source;

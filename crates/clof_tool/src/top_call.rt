@@ -1,5 +1,5 @@
 //! The top call.
-ghost use Rattle.std.specs.Prelude.{◌≡◌, ◌≢◌, ◌<◌, ◌⊎◌, ◌↔◌, ℕ, List, Some, length, take, IfErr, IfOk, IfSome};
+ghost use Rattle.std.specs.Prelude.{◌≡◌, ◌≢◌, ◌<◌, ◌⊎◌, ℕ, List, Some, length, take, IfSome};
 ghost use Rattle.out_of_memory.specs.Memory.{UnlessMemory};
 ghost use Rattle.edge_io.specs.Counts.{Rose};
 ghost use Rattle.edge_io.specs.Contents.{Gains, IsDrained};
@@ -7,17 +7,15 @@ ghost use Rattle.edge_io.specs.Reading.{HasGiven};
 ghost use Rattle.command_texts.specs.declared.status.Status.{Status as AnyStatus};
 ghost use Rattle.command_texts.specs.Line.{line_of};
 ghost use Rattle.command_words.specs.Asked.{Asked as PlainAsked};
-ghost use Rattle.command_words.specs.Plain.{plain};
 ghost use Rattle.command_words.specs.Words.{Says, NamesCommand, IsUsage};
 ghost use Rattle.command_texts.specs.Ends.{IsRefusal};
-ghost use Rattle.clof_tool.specs.Outcome.{ReadsInput, limit_of, HasRead, IsAccepted, IsAnswer, WordsRefused, InputRefused, HasCause};
+ghost use Rattle.clof_answers.specs.Outcome.{ReadsInput, limit_of, HasRead, IsAccepted, IsAnswer, WordsRefused, InputRefused, HasCause};
 ghost use Rattle.command_texts.specs.Ends.{HasWritten};
 
 use crate::Status;
 use crate::answer::answer;
-use crate::report::report;
-use command_words::{Asked, WordsFault, read_words};
-use edge_io::{Sink, Source, Stopped, write_all};
+use clof_answers::{print, read, report};
+use edge_io::{Sink, Source};
 use placed_runner::{Gate, OpenGate};
 use std::alloc::Global;
 use std::sync::Wait;
@@ -178,45 +176,4 @@ pub fn top_with<R: Threads + Wait + Sync, S: Source, K: Sink, E: Sink, G: Gate +
     let status = print(answer(rt, alloc, asked, source, gate), out);
     report(err, &status);
     status
-}
-
-// What the words ask for, or the status where they ask for nothing.
-fn read(alloc: Global, words: &[String]) -> Result<Asked<'_>, Status>
-    ensures asked { IfOk result (λ asked. Says words.now (plain asked)) }
-    ensures only { IfOk result (λ asked. (other : PlainAsked) → Says words.now other → other ≡ plain asked) }
-    ensures refused { IfErr result (λ status. ((status ≡ Status.OutOfMemory) × NamesCommand words.now)
-        ⊎ ((status ≡ Status.Usage) × IsUsage words.now)) }
-{
-    match read_words(alloc, words) {
-        Ok(asked) => Ok(asked),
-        Err(WordsFault::Usage) => Err(Status::Usage),
-        Err(WordsFault::OutOfMemory) => Err(Status::OutOfMemory),
-    }
-}
-
-// Writes the text of an answer, or hands on the status where there is none.
-fn print<K: Sink>(answer: Result<Vec<u8>, Status>, out: &mut K) -> Status
-    requires { IfErr answer (λ status. HasWritten status → ⊥) }
-    ensures refused { IfErr answer (λ status. result ≡ status) }
-    ensures done { IfOk answer (λ _. HasWritten result) }
-    ensures printed { result ≡ Status.Ok → IfOk answer (λ text. Gains (K.held out.old) (K.held out.new) text.items) }
-    ensures write_fault { (written : ℕ) → result ≡ Status.WriteFault written →
-        Rose (K.faults out.old) (K.faults out.new) ⊎ Rose (K.stalls out.old) (K.stalls out.new) }
-    ensures write_full { (written : ℕ) → result ≡ Status.WriteFault written →
-        Rose (K.faults out.old) (K.faults out.new) ⊎ IfSome (K.room out.old) (λ room. room ≡ written) }
-    ensures cut_short { (written : ℕ) → result ≡ Status.WriteFault written →
-        IfOk answer (λ text. (written < length text.items) × Gains (K.held out.old) (K.held out.new) (take written text.items)) }
-    ensures unwritten { (HasWritten result → ⊥) → out.new ≡ out.old }
-    ensures no_write_fault { result ≡ Status.Ok → K.faults out.new ≡ K.faults out.old }
-    ensures no_stall { result ≡ Status.Ok → K.stalls out.new ≡ K.stalls out.old }
-    ensures complete { (Rose (K.faults out.old) (K.faults out.new) → ⊥) → (Rose (K.stalls out.old) (K.stalls out.new) → ⊥) →
-        IfOk answer (λ _. result ≡ Status.Ok) }
-{
-    match answer {
-        Ok(text) => match write_all(out, &text) {
-            Ok(()) => Status::Ok,
-            Err(Stopped { written }) => Status::WriteFault { written },
-        },
-        Err(status) => status,
-    }
 }

@@ -55,9 +55,19 @@ fn expect_rows(
         let (words, told) = row.split_once('|').ok_or("a row without a bar")?;
         let line = format!(in alloc; "{front}{words}")?;
         let wanted = lines_of(alloc, code, told)?;
-        expect(rt, alloc, &listed(alloc, &line, description)?, &wanted)?;
+        expect_row(rt, alloc, &line, description, &wanted)?;
     }
     Ok(())
+}
+
+fn expect_row(
+    rt: &impl Abort,
+    alloc: Global,
+    line: &str,
+    description: &str,
+    wanted: &str,
+) -> Result<(), Fail> {
+    expect(rt, alloc, &listed(alloc, line, description)?, wanted)
 }
 
 // The lines that a row tells, behind a code.
@@ -89,10 +99,20 @@ fn expect(rt: &impl Abort, alloc: Global, words: &[&str], wanted: &str) -> Resul
 // How words end.
 fn ended(alloc: Global, words: &[&str]) -> Result<Vec<u8>, Fail> {
     let mut owned = Vec::new(alloc);
+    own(alloc, &mut owned, words)?;
+    answered(alloc, &owned)
+}
+
+// Appends words.
+fn own(alloc: Global, owned: &mut Vec<String>, words: &[&str]) -> Result<(), Fail> {
     for word in words {
         owned.push(String::from_str(alloc, word)?)?;
     }
-    match read_words(alloc, &owned) {
+    Ok(())
+}
+
+fn answered(alloc: Global, words: &[String]) -> Result<Vec<u8>, Fail> {
+    match read_words(alloc, words) {
         Ok(asked) => told(alloc, output(alloc, &asked)),
         Err(WordsFault::Usage) => told(alloc, Err(Status::Usage)),
         Err(WordsFault::OutOfMemory) => told(alloc, Err(Status::OutOfMemory)),

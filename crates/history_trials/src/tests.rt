@@ -280,27 +280,31 @@ pub(crate) fn expect_answers(
     Ok(())
 }
 
-pub(crate) fn joined(alloc: Global, parts: Parts) -> Result<Vec<u8>, OutOfMemory> {
-    let mut bytes = Vec::new(alloc);
+fn join_parts(alloc: Global, bytes: &mut Vec<u8>, parts: Parts) -> Result<(), OutOfMemory> {
     for (front, byte, count) in parts {
         bytes.extend_from_slice(front)?;
         bytes.extend_from_slice(&vec![in alloc; *byte; *count]?)?;
     }
+    Ok(())
+}
+
+pub(crate) fn joined(alloc: Global, parts: Parts) -> Result<Vec<u8>, OutOfMemory> {
+    let mut bytes = Vec::new(alloc);
+    join_parts(alloc, &mut bytes, parts)?;
     Ok(bytes)
 }
 
-fn expect_long_answers(
-    rt: &impl Abort,
-    alloc: Global,
-    rows: &[(Parts, Parts)],
-) -> Result<(), Fail> {
+fn expect_answer(rt: &impl Abort, alloc: Global, section: &[u8], wanted: &[u8]) {
+    let answered = is_answered(alloc, section, wanted).expect(rt, "memory");
+    assert!(rt; answered, "at {} bytes", section.len());
+}
+
+fn expect_long_answers(rt: &impl Abort, alloc: Global, rows: &[(Parts, Parts)]) {
     for (section, wanted) in rows {
-        let section = joined(alloc, section)?;
-        let wanted = joined(alloc, wanted)?;
-        let answered = is_answered(alloc, &section, &wanted)?;
-        assert!(rt; answered, "at {} bytes", section.len());
+        let section = joined(alloc, section).expect(rt, "memory");
+        let wanted = joined(alloc, wanted).expect(rt, "memory");
+        expect_answer(rt, alloc, &section, &wanted);
     }
-    Ok(())
 }
 
 #[test]
@@ -323,12 +327,9 @@ fn leaves_out_the_replies_of_quiet_commands_alone(rt: HostRuntime) -> Result<(),
     expect_answers(&rt, rt.alloc(), QUIET)
 }
 
-#[test]
-fn keeps_a_journal(rt: HostRuntime) -> Result<(), Fail> {
-    let section =
-        b"set n 0 0 20\r\n18446744073709551615\r\nincr n 1\r\ndecr n 5\r\ncas n 0 0 1 1\r\n7\r\n\
-        cas n 0 0 1 3\r\n7\r\ngets n\r\nset n 0 0 1 noreply\r\n8\r\nget n";
-    let journal = applied(rt.alloc(), section)?;
+fn expect_journal(rt: &impl Abort, journal: &Journal)
+    requires { 0 < length journal.now.sections }
+{
     assert_eq!(rt; journal.entries(), 7);
     assert!(rt; journal.whole());
     let tally = journal.tally(0);
@@ -346,41 +347,51 @@ fn keeps_a_journal(rt: HostRuntime) -> Result<(), Fail> {
     assert!(rt; journal.reply(6).is_empty());
     assert!(rt; journal.store().block(b"n") == Some(b"8".as_slice()));
     assert!(rt; journal.store().block(b"b").is_none());
+}
+
+#[test]
+fn keeps_a_journal(rt: HostRuntime) -> Result<(), Fail> {
+    let section =
+        b"set n 0 0 20\r\n18446744073709551615\r\nincr n 1\r\ndecr n 5\r\ncas n 0 0 1 1\r\n7\r\n\
+        cas n 0 0 1 3\r\n7\r\ngets n\r\nset n 0 0 1 noreply\r\n8\r\nget n";
+    let journal = applied(rt.alloc(), section)?;
+    expect_journal(&rt, &journal);
     Ok(())
 }
 
 #[test]
-fn keeps_the_limit_of_a_value(rt: HostRuntime) -> Result<(), Fail> {
-    expect_long_answers(&rt, rt.alloc(), LIMITS)
+fn keeps_the_limit_of_a_value(rt: HostRuntime) {
+    expect_long_answers(&rt, rt.alloc(), LIMITS);
 }
 
 #[test]
-fn keeps_an_item_whose_new_value_is_too_large(rt: HostRuntime) -> Result<(), Fail> {
-    expect_long_answers(&rt, rt.alloc(), TOO_LARGE)
+fn keeps_an_item_whose_new_value_is_too_large(rt: HostRuntime) {
+    expect_long_answers(&rt, rt.alloc(), TOO_LARGE);
 }
 
 #[test]
-fn reads_lines_of_any_length(rt: HostRuntime) -> Result<(), Fail> {
-    expect_long_answers(&rt, rt.alloc(), LONG_LINES)
+fn reads_lines_of_any_length(rt: HostRuntime) {
+    expect_long_answers(&rt, rt.alloc(), LONG_LINES);
 }
 
-// A first item, then so many others, and what became of the first.
-fn behind_many(alloc: Global, count: u32) -> Result<Vec<u8>, Fail> {
-    let mut section = Vec::from_slice(alloc, b"set k 5 0 1\r\na\r\n")?;
+// Adds a first item, then so many others, and what became of the first.
+fn add_many(alloc: Global, section: &mut Vec<u8>, count: u32) -> Result<(), Fail> {
+    section.extend_from_slice(b"set k 5 0 1\r\na\r\n")?;
     for number in 0..count {
         let line = format!(in alloc; "set k{number} 0 0 8 noreply\r\nabcdefgh\r\n")?;
         section.extend_from_slice(line.as_bytes())?;
     }
     section.extend_from_slice(b"gets k\r\n")?;
-    Ok(section)
+    Ok(())
 }
 
 #[test]
 fn keeps_an_item_that_nobody_removes(rt: HostRuntime) -> Result<(), Fail> {
     let alloc = rt.alloc();
-    let section = behind_many(alloc, 5_000)?;
-    let answered = is_answered(alloc, &section, b"STORED\r\nVALUE k 5 1 1\r\na\r\nEND\r\n")?;
-    assert!(rt; answered);
+    let mut section = Vec::new(alloc);
+    add_many(alloc, &mut section, 5_000)?;
+    let wanted = b"STORED\r\nVALUE k 5 1 1\r\na\r\nEND\r\n";
+    expect_answer(&rt, alloc, &section, wanted);
     Ok(())
 }
 
@@ -392,19 +403,33 @@ fn goes_to_a_thread_and_back(rt: HostRuntime) -> Result<(), Fail> {
     Ok(())
 }
 
+fn every_byte() -> [u8; 256] {
+    let mut block = [0; 256];
+    for byte in 0..=255u8 {
+        block[byte as usize] = byte;
+    }
+    block
+}
+
+fn storing(alloc: Global, block: &[u8]) -> Result<Vec<u8>, OutOfMemory> {
+    let mut section = Vec::from_slice(alloc, b"set k 0 0 256\r\n")?;
+    section.extend_from_slice(block)?;
+    section.extend_from_slice(b"\r\n")?;
+    Ok(section)
+}
+
+fn expect_block(rt: &impl Abort, alloc: Global, section: &[u8], block: &[u8]) {
+    assert!(rt; section.len() < 1_000);
+    let journal = applied(alloc, section).expect(rt, "memory");
+    assert!(rt; journal.store().block(b"k") == Some(block));
+}
+
 #[test]
 fn keeps_every_byte_of_a_value(rt: HostRuntime) -> Result<(), Fail> {
     let alloc = rt.alloc();
-    let mut block = Vec::new(alloc);
-    for byte in 0..=255u8 {
-        block.push(byte)?;
-    }
-    let mut section = Vec::from_slice(alloc, b"set k 0 0 256\r\n")?;
-    section.extend_from_slice(&block)?;
-    section.extend_from_slice(b"\r\n")?;
-    assert!(rt; section.len() < 1_000);
-    let journal = applied(alloc, &section)?;
-    assert!(rt; journal.store().block(b"k") == Some(block.as_slice()));
+    let block = every_byte();
+    let section = storing(alloc, &block)?;
+    expect_block(&rt, alloc, &section, &block);
     Ok(())
 }
 
@@ -437,11 +462,15 @@ fn both_applied<'a>(
     Ok(journal)
 }
 
-#[test]
-fn answers_two_callers_from_one_store(rt: HostRuntime) -> Result<(), Fail> {
-    let journal = both_applied(&rt, rt.alloc(), b"set k 0 0 1\r\na\r\n", b"get k\r\n")?;
+fn expect_second_reply(rt: &impl Abort, journal: &Journal) {
     assert_eq!(rt; journal.entries(), 2);
     assert_eq!(rt; journal.entry(1).caller, 1);
     assert_eq!(rt; journal.reply(1), b"VALUE k 0 1\r\na\r\nEND\r\n".as_slice());
+}
+
+#[test]
+fn answers_two_callers_from_one_store(rt: HostRuntime) -> Result<(), Fail> {
+    let journal = both_applied(&rt, rt.alloc(), b"set k 0 0 1\r\na\r\n", b"get k\r\n")?;
+    expect_second_reply(&rt, &journal);
     Ok(())
 }

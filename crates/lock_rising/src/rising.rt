@@ -1,7 +1,8 @@
 //! The levels of a lock, made from the top down.
 //!
-//! Each function adds one level below a lock of any type and hands on what it made. So none of them has a type of more than one level to
-//! compare, and what the checker makes of five levels is five times what it makes of one.
+//! Each function adds one level below a lock of any type and hands on what it made; three of them leave a level that is the lowest to
+//! `with_lowest`. So none of them has a type of more than one level to compare, and what the checker makes of five levels is five times
+//! what it makes of one.
 ghost use Rattle.std.specs.Prelude.{◌≡◌, ◌+◌, ◌<◌, ◌≤◌, length, IfOk};
 ghost use Rattle.keep_local.specs.Shapes.{callers_of, top_of};
 ghost use Rattle.clof_compose.specs.Roots.{IsFit, root_tag};
@@ -10,13 +11,13 @@ ghost use Rattle.lock_rising.specs.Ready.{MayRise};
 
 use crate::given::Given;
 use crate::under::run_under;
-use crate::under_lock::UnderLock;
 use clof_compose::{Payload, Resting, Root, TopPass, Waits};
 use lock_levels::{
     HasKinds, LevelOver, LowPass, TopOf, add_below, kind_at, low_passes_are_shared, make_top_of,
     top_passes_are_shared,
 };
 use lock_rules::{Pass, passes_are_shared};
+use lock_work::UnderLock;
 use out_of_memory::OutOfMemory;
 use std::sync::Wait;
 use std::thread::Threads;

@@ -1,12 +1,12 @@
 //! The two ends of a run on threads.
 ghost use Rattle.std.specs.Prelude.{◌≡◌, ℕ, slice_get, IfSome, Some};
-ghost use Rattle.lock_rising.specs.Ready.{AreBack};
+ghost use Rattle.lock_work.specs.Ready.{AreBack};
 ghost use Rattle.own_payload.specs.Jobs.{HasServed, MayWork};
 ghost use Rattle.own_payload.specs.Ready.{IsReady};
 ghost use Rattle.own_runner.specs.Runs.{AreOpen, HaveEnded};
 
 use clof_compose::{Composed, Resting};
-use lock_rising::Dealt;
+use lock_work::Dealt;
 use own_payload::{Job, Lists, Noted, Serves, deal};
 use std::alloc::Global;
 

@@ -2,14 +2,14 @@
 ghost use Rattle.std.specs.Prelude.{◌≡◌, ℕ, slice_get, IfErr, IfOk, IfSome, Some};
 ghost use Rattle.lock_rules.specs.Tag.{leaf};
 ghost use Rattle.clof_compose.specs.Roots.{IsFit, root_tag};
-ghost use Rattle.lock_rising.specs.Ready.{AreBack, IsSet};
+ghost use Rattle.lock_work.specs.Ready.{AreBack, IsSet};
 ghost use Rattle.own_payload.specs.Jobs.{HasServed, MayWork};
 ghost use Rattle.own_runner.specs.Runs.{AreBrought, AreOpen, HaveEnded, IsLeft};
 
 use crate::jobs::{Jobs, deal_jobs, gathered};
 use clof_compose::{Composed, Resting, Root, Waits};
 use keep_local::Share;
-use lock_rising::{Dealt, OnThread, UnderLock};
+use lock_work::{Dealt, OnThread, UnderLock};
 use out_of_memory::OutOfMemory;
 use own_payload::{Job, Lists, Noted, Serves, close_ended, serve_caller};
 use std::alloc::Global;

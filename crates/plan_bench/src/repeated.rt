@@ -1,7 +1,7 @@
 //! What the callers of a lock whose trail keeps no turns do, whatever lock that is.
 ghost use Rattle.std.specs.Prelude.{◌≡◌, ℕ, slice_get, IfErr, IfOk, IfSome, Some};
 ghost use Rattle.clof_compose.specs.Roots.{IsFit};
-ghost use Rattle.lock_rising.specs.Ready.{AreBack, IsSet};
+ghost use Rattle.lock_work.specs.Ready.{AreBack, IsSet};
 ghost use Rattle.own_payload.specs.Jobs.{HasServed, MayWork};
 ghost use Rattle.own_runner.specs.Runs.{AreBrought, AreOpen, HaveEnded};
 
@@ -9,7 +9,7 @@ use crate::holding::hold_often;
 use crate::jobs::{Jobs, closed, deal_jobs, gathered};
 use clof_compose::{Composed, Resting, Root, Waits};
 use keep_local::Share;
-use lock_rising::{Dealt, OnThread, UnderLock};
+use lock_work::{Dealt, OnThread, UnderLock};
 use out_of_memory::OutOfMemory;
 use own_payload::{Job, Lists, Noted};
 use std::alloc::Global;

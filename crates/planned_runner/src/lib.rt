@@ -5,12 +5,8 @@
 #![tactic(auto)]
 
 mod manner;
-mod marked;
 mod marked_runs;
-mod parts;
-mod plain;
 mod runs;
-mod seated;
 mod shapes;
 mod shared_runs;
 

@@ -6,7 +6,6 @@ ghost use Rattle.placed_runner.specs.Sections.{caller_limit};
 ghost use Rattle.threaded_runner.specs.Finished.{IsFinished};
 ghost use Rattle.fresh_runner.specs.Marked.{AreMarked};
 
-use crate::marked::{FreshBrought, Receipted};
 use crate::shapes::copied;
 use clof_compose::TopPass;
 use fresh_runner::{
@@ -18,6 +17,7 @@ use lock_rising::{Given, rise, rise_flat};
 use lock_rules::Pass;
 use out_of_memory::OutOfMemory;
 use placed_runner::{Gate, Section};
+use run_work::{FreshBrought, Receipted};
 use std::alloc::Global;
 use std::sync::Wait;
 use std::thread::Threads;

@@ -5,7 +5,6 @@ ghost use Rattle.placed_runner.specs.Sections.{caller_limit};
 ghost use Rattle.threaded_runner.specs.Finished.{IsFinished};
 
 use crate::manner::Manner;
-use crate::plain::{Brought, Plain};
 use crate::shapes::copied;
 use crate::shared_runs::run_shared;
 use clof_compose::TopPass;
@@ -15,6 +14,7 @@ use lock_rising::{Given, rise, rise_flat};
 use lock_rules::Pass;
 use out_of_memory::OutOfMemory;
 use placed_runner::{Gate, Section};
+use run_work::{Brought, Plain};
 use std::alloc::Global;
 use std::sync::Wait;
 use std::thread::Threads;

@@ -5,7 +5,6 @@ ghost use Rattle.placed_runner.specs.Sections.{caller_limit};
 ghost use Rattle.threaded_runner.specs.Finished.{IsFinished};
 
 use crate::manner::Sharing;
-use crate::seated::{Room, Seated, Waiting};
 use crate::shapes::{copied, homes};
 use clof_compose::TopPass;
 use cohort_desks::Desk;
@@ -16,6 +15,7 @@ use lock_rising::{Given, rise, rise_flat};
 use lock_rules::Pass;
 use out_of_memory::OutOfMemory;
 use placed_runner::{Gate, Section};
+use run_work::{Room, Seated, Waiting};
 use std::alloc::Global;
 use std::sync::Wait;
 use std::thread::Threads;
@@ -45,11 +45,13 @@ pub(crate) fn run_shared<'a, R: Threads + Wait + Sync, G: Gate + Sync>(
     top_passes_may_be_sent();
     low_passes_may_be_sent();
     let (root, shares) = root_of(alloc, sections, copied(alloc, shape)?)?;
+    let Sharing { threads, quantum } = sharing;
     let brought = Waiting {
         shares,
         sections,
         homes: homes(alloc, shape)?,
-        sharing,
+        threads,
+        quantum,
     };
     let given = Given {
         rt,

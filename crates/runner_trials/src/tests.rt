@@ -190,22 +190,28 @@ fn expect_fault(
     }
 }
 
+fn expect_faults(rt: &impl Abort, alloc: Global, topology: &Topology) {
+    for (input, want) in FAULTS {
+        expect_fault(rt, alloc, topology, input, *want);
+    }
+}
+
 #[test]
 fn refuses_the_first_broken_rule(rt: HostRuntime) {
-    let topology = topology(&rt, rt.alloc(), b"Package:1 [NUMANode] Core:2 PU:2");
-    for (input, want) in FAULTS {
-        expect_fault(&rt, rt.alloc(), &topology, input, *want);
-    }
+    let text = b"Package:1 [NUMANode] Core:2 PU:2";
+    expect_faults(&rt, rt.alloc(), &topology(&rt, rt.alloc(), text));
+}
+
+fn expect_tree_sections(rt: &impl Abort, alloc: Global, tree: &Tree) {
+    let input = b"worker pu:1 0\n\nworker 0x1 1\na\n";
+    let sections = read_sections(alloc, tree, input).expect(rt, "sections");
+    assert!(rt; are_on(&sections, &[1, 1]));
 }
 
 #[test]
 fn reads_sections_on_a_tree(rt: HostRuntime) -> Result<(), Fail> {
     let tree = Tree::build(rt.alloc(), read(rt.alloc(), b"PU:2(indexes=1,0)")?)?;
-    let sections = read_sections(rt.alloc(), &tree, b"worker pu:1 0\n\nworker 0x1 1\na\n")?;
-    match sections.as_slice() {
-        [one, other] => assert!(rt; one.pu == 1 && other.pu == 1),
-        _ => panic!(rt; "other sections"),
-    }
+    expect_tree_sections(&rt, rt.alloc(), &tree);
     Ok(())
 }
 
@@ -222,33 +228,39 @@ fn are_on(sections: &[Section<'_>], pus: &[u32]) -> bool {
     true
 }
 
+fn expect_places(rt: &impl Abort, alloc: Global, topology: &Topology, input: &[u8], want: &[u32]) {
+    let sections = read_sections(alloc, topology, input).expect(rt, "sections");
+    assert!(rt; are_on(&sections, want), "at {want:?}");
+}
+
 #[test]
-fn reads_places(rt: HostRuntime) -> Result<(), Fail> {
+fn reads_places(rt: HostRuntime) {
+    let alloc = rt.alloc();
     for (description, input, want) in PLACES {
-        let topology = topology(&rt, rt.alloc(), description);
-        let sections = read_sections(rt.alloc(), &topology, input)?;
-        assert!(rt; are_on(&sections, want), "at {want:?}");
+        expect_places(&rt, alloc, &topology(&rt, alloc, description), input, want);
     }
+}
+
+fn expect_256_sections(
+    rt: &impl Abort,
+    alloc: Global,
+    topology: &Topology,
+    input: &mut Vec<u8>,
+) -> Result<(), Fail> {
+    for _ in 0..256 {
+        input.extend_from_slice(b"worker * 0\n\n")?;
+    }
+    assert_eq!(rt; read_sections(alloc, topology, input)?.len(), 256);
+    input.extend_from_slice(b"x")?;
+    expect_fault(rt, alloc, topology, input, SectionFault::TooManyCallers);
     Ok(())
 }
 
 #[test]
 fn takes_256_sections(rt: HostRuntime) -> Result<(), Fail> {
-    let topology = topology(&rt, rt.alloc(), b"PU:1");
-    let mut input = Vec::new(rt.alloc());
-    for _ in 0..256 {
-        input.extend_from_slice(b"worker * 0\n\n")?;
-    }
-    assert_eq!(rt; read_sections(rt.alloc(), &topology, &input)?.len(), 256);
-    input.extend_from_slice(b"x")?;
-    expect_fault(
-        &rt,
-        rt.alloc(),
-        &topology,
-        &input,
-        SectionFault::TooManyCallers,
-    );
-    Ok(())
+    let alloc = rt.alloc();
+    let mut input = Vec::new(alloc);
+    expect_256_sections(&rt, alloc, &topology(&rt, alloc, b"PU:1"), &mut input)
 }
 
 // Applies the next command of a caller. Where it has none left, or memory is wanting, the journal is of no further use.
@@ -322,13 +334,18 @@ fn turns_of(alloc: Global, rows: &[(u32, u32, u32, u32)]) -> Result<Vec<Turn>, O
 }
 
 fn expect_runs(rt: &impl Abort, alloc: Global, runs: &[Run]) -> Result<(), Fail> {
-    for (pus, first, second, rows, want) in runs {
-        assert!(rt; first.len() < 1_048_576 && second.len() < 1_048_576);
-        let turns = turns_of(alloc, rows)?;
-        let text = printed(alloc, *pus, first, second, &turns)?;
-        assert!(rt; text.as_slice() == *want);
-        assert!(rt; text.capacity() == text.len());
+    for run in runs {
+        let turns = turns_of(alloc, run.3)?;
+        expect_run(rt, alloc, run, &turns)?;
     }
+    Ok(())
+}
+
+fn expect_run(rt: &impl Abort, alloc: Global, run: &Run, turns: &[Turn]) -> Result<(), Fail> {
+    let (pus, first, second, _, want) = *run;
+    assert!(rt; first.len() < 1_048_576 && second.len() < 1_048_576);
+    let text = printed(alloc, pus, first, second, turns)?;
+    assert!(rt; text.as_slice() == want && text.capacity() == text.len());
     Ok(())
 }
 
@@ -342,17 +359,19 @@ fn prints_numbers_of_up_to_ten_digits(rt: HostRuntime) -> Result<(), Fail> {
     expect_runs(&rt, rt.alloc(), DIGITS)
 }
 
-#[test]
-fn reads_a_section_of_moments(rt: HostRuntime) -> Result<(), Fail> {
-    let topology = topology(&rt, rt.alloc(), b"PU:1");
+fn expect_moments(rt: &impl Abort, alloc: Global, topology: &Topology) {
     let input = b"worker * 78\nmoment 100\r\nset a 0 50 1\r\nx\r\nmoment 149\r\nget a\r\n\
           moment 150\r\nget a\r\nmoment 10\r\n\n";
-    let sections = read_sections(rt.alloc(), &topology, input)?;
+    let sections = read_sections(alloc, topology, input).expect(rt, "sections");
     let [section] = sections.as_slice() else {
         panic!(rt; "other sections");
     };
     assert!(rt; section.bytes == MOMENTS && MOMENTS.len() == 78);
-    Ok(())
+}
+
+#[test]
+fn reads_a_section_of_moments(rt: HostRuntime) {
+    expect_moments(&rt, rt.alloc(), &topology(&rt, rt.alloc(), b"PU:1"));
 }
 
 #[test]
@@ -390,16 +409,20 @@ fn many_turns(alloc: Global) -> Result<Vec<Turn>, OutOfMemory> {
     Ok(turns)
 }
 
+fn expect_size(rt: &impl Abort, alloc: Global, gets: &[u8], turns: &[Turn]) -> Result<(), Fail> {
+    let set = b"set ~ 0 0 4\r\n\n\x7f\x1f\"\r\n";
+    assert!(rt; gets.len() < 1_048_576);
+    for pus in [(0, 9), (10, 4095), (100, 99)] {
+        let text = printed(alloc, pus, set, gets, turns)?;
+        assert_eq!(rt; text.capacity(), text.len());
+    }
+    Ok(())
+}
+
 // The buffer of a text has its size, whatever digits its numbers and whatever signs its commands have.
 #[test]
 fn makes_a_text_in_a_buffer_of_its_size(rt: HostRuntime) -> Result<(), Fail> {
     let gets = many_gets(rt.alloc())?;
     let turns = many_turns(rt.alloc())?;
-    let set = b"set ~ 0 0 4\r\n\n\x7f\x1f\"\r\n";
-    assert!(rt; gets.len() < 1_048_576);
-    for pus in [(0, 9), (10, 4095), (100, 99)] {
-        let text = printed(rt.alloc(), pus, set, &gets, &turns)?;
-        assert_eq!(rt; text.capacity(), text.len());
-    }
-    Ok(())
+    expect_size(&rt, rt.alloc(), &gets, &turns)
 }

@@ -26,6 +26,12 @@ fn built(rt: &impl Abort, alloc: Global, text: &str) -> Topology {
     Topology::build(alloc, description).expect(rt, text)
 }
 
+// Its tree alone.
+fn built_tree(rt: &impl Abort, alloc: Global, text: &str) -> Tree {
+    let description = read(alloc, text.as_bytes()).expect(rt, text);
+    Tree::build(alloc, description).expect(rt, text)
+}
+
 fn check_layer(rt: &impl Abort, topology: &Topology, layer: Layer)
     ensures { IsLayer topology.now layer }
 {

@@ -1,6 +1,6 @@
 //! The two ends of a trial on threads.
 ghost use Rattle.std.specs.Prelude.{◌≡◌, ℕ, slice_get, IfErr, IfOk, Some};
-ghost use Rattle.lock_rising.specs.Ready.{AreBack};
+ghost use Rattle.lock_work.specs.Ready.{AreBack};
 ghost use Rattle.tree_harness.specs.Crews.{AreOpen, IsCrew};
 ghost use Rattle.tree_harness.specs.Ready.{IsReady};
 ghost use Rattle.tree_harness.specs.Shifts.{HasWorked, MayWork};
@@ -9,7 +9,7 @@ use crate::crew::{Crew, Jobs};
 use clof_compose::{Composed, Resting};
 use keep_local::Share;
 use level_harness::{Job, Roll, deal};
-use lock_rising::Dealt;
+use lock_work::Dealt;
 use std::alloc::Global;
 
 /// A job for each caller of a lock, in order. Without memory for them the callers are lost.

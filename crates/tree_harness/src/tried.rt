@@ -2,7 +2,7 @@
 ghost use Rattle.std.specs.Prelude.{◌≡◌, ℕ, slice_get, IfErr, IfOk, Some};
 ghost use Rattle.clof_compose.specs.Roots.{IsFit, root_tag};
 ghost use Rattle.level_harness.specs.Rooms.{roll_tag};
-ghost use Rattle.lock_rising.specs.Ready.{AreBack, IsSet};
+ghost use Rattle.lock_work.specs.Ready.{AreBack, IsSet};
 ghost use Rattle.tree_harness.specs.Crews.{AreOpen, IsCrew};
 ghost use Rattle.tree_harness.specs.Ready.{IsBrought, IsLeft};
 ghost use Rattle.tree_harness.specs.Shifts.{HasWorked, MayWork};
@@ -14,7 +14,7 @@ use crate::jobs::{deal_jobs, gathered};
 use crate::outcome::{End, Outcome};
 use clof_compose::{Composed, Resting, Root, Waits};
 use level_harness::{Job, Roll, hold_all};
-use lock_rising::{Dealt, OnThread, UnderLock};
+use lock_work::{Dealt, OnThread, UnderLock};
 use out_of_memory::OutOfMemory;
 use std::alloc::Global;
 use std::sync::Wait;

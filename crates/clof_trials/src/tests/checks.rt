@@ -1,7 +1,7 @@
 //! Checks of printed runs: the verdict on a text, and how what was read is refused.
-use super::{Printed, Refused, call, counting, has_text, prints, prints_each, refuses_each};
+use super::{Ending, Printed, Refused, WELL, call, counting, ends, prints_each, refuses_each};
 use clof_tool::Fault::{Check, Input, Plan, Section};
-use clof_tool::Status::{self, Limit, Malformed};
+use clof_tool::Status::{Limit, Malformed};
 use lock_plan::PlanFault;
 use placed_runner::{OpenGate, SectionFault};
 use run_check::CheckFault;
@@ -15,7 +15,7 @@ use std::thread::Threads;
 const READ: &[Printed] = &[
     (
         "check",
-        "input 36\nworker * 23\nset a 5 0 1\r\nx\r\nget a\r\n\n\n\
+        b"input 36\nworker * 23\nset a 5 0 1\r\nx\r\nget a\r\n\n\n\
          turn 0 caller 0 pu 0 climb 0 tests 0 left 0 \"set a 5 0 1\\r\\nx\\r\\n\" \"STORED\\r\\n\"\n\
          turn 1 caller 0 pu 0 climb 0 tests 0 left 0 \"get a\\r\\n\" \"VALUE a 5 1\\r\\nx\\r\\nEND\\r\\n\"\n\
          caller 0 pu 0 commands 2 rest 0\n",
@@ -23,7 +23,7 @@ const READ: &[Printed] = &[
     ),
     (
         "check",
-        "input 36\nworker * 23\nset a 5 0 1\r\nx\r\nget a\r\n\n\n\
+        b"input 36\nworker * 23\nset a 5 0 1\r\nx\r\nget a\r\n\n\n\
          turn 0 caller 0 pu 0 climb 0 tests 0 left 0 \"set a 5 0 1\\r\\nx\\r\\n\" \"STORED\\r\\n\"\n\
          turn 1 caller 0 pu 0 climb 0 tests 0 left 0 \"get a\\r\\n\" \"END\\r\\n\"\n\
          caller 0 pu 0 commands 2 rest 0\n",
@@ -31,13 +31,13 @@ const READ: &[Printed] = &[
     ),
     (
         "check",
-        "input 36\nworker * 23\nset a 5 0 1\r\nx\r\nget a\r\n\n\n\
+        b"input 36\nworker * 23\nset a 5 0 1\r\nx\r\nget a\r\n\n\n\
          turn 0 caller 0 pu 0 climb 0 tests 0 left 0 \"set a 5 0 1\\r\\nx\\r\\n\" \"STORED\\r\\n\"\n\
          turn 1 caller 0 pu 0 climb 0 tests 0 left 0 \"get a\\r\\n\" \"VALUE a 5 1\\r\\nx\\r\\nEND\\r\\n\"\n",
         "no 2\n",
     ),
-    ("check", "input 0\n\n", "yes\n"),
-    ("check", "input 0\n\n\n", "no 0\n"),
+    ("check", b"input 0\n\n", "yes\n"),
+    ("check", b"input 0\n\n\n", "no 0\n"),
 ];
 
 #[test]
@@ -52,7 +52,7 @@ pub(super) fn says<R: Threads + Wait + Sync + Abort>(
     (line, input, printed, verdict): (&str, &str, &str, &str),
 ) -> Result<(), Fail> {
     let read = format!(in alloc; "input {}\n{input}\n{printed}", input.len())?;
-    prints(rt, alloc, (line, &read, verdict))
+    ends(rt, alloc, (line, read.as_bytes()), WELL, verdict)
 }
 
 // Two callers on the cores of a package, each with one command, and what a run of them prints under two levels.
@@ -156,14 +156,7 @@ fn is_one_of_a_run<R: Threads + Wait + Sync + Abort>(
     (run, check): (&str, &str),
 ) -> Result<(), Fail> {
     let input = counting(alloc, 8)?;
-    let out = call(
-        rt,
-        alloc,
-        run,
-        input.as_bytes(),
-        &OpenGate,
-        (Status::Ok, ""),
-    )?;
+    let out = call(rt, alloc, run, input.as_bytes(), &OpenGate, WELL)?;
     let printed = std::str::from_utf8(out.bytes())?;
     says(rt, alloc, (check, &input, printed, "yes\n"))
 }
@@ -179,39 +172,39 @@ fn says_yes_of_what_a_run_prints(rt: HostRuntime) -> Result<(), Fail> {
 const PAIRS: &[Refused] = &[
     (
         "check",
-        "input 3\nab",
+        b"input 3\nab",
         Malformed(Check(CheckFault::Short)),
         "clof: check Short\n",
     ),
     (
         "check",
-        "input 2\nabc\n",
+        b"input 2\nabc\n",
         Malformed(Check(CheckFault::Short)),
         "clof: check Short\n",
     ),
     (
         "check",
-        "",
+        b"",
         Malformed(Check(CheckFault::BadHead)),
         "clof: check BadHead\n",
     ),
     (
         "check",
-        "input 16777217\n",
+        b"input 16777217\n",
         Malformed(Check(CheckFault::BadHead)),
         "clof: check BadHead\n",
     ),
     // The sections come behind the form, and their places are those in the input.
     (
         "check",
-        "input 20\nworker * 7\nget a\r\n\nx\nturn ",
+        b"input 20\nworker * 7\nget a\r\n\nx\nturn ",
         Malformed(Section(SectionFault::BadHead { at: 19 })),
         "clof: section BadHead 19\n",
     ),
     // The plan comes before what was read.
     (
         "check --keep=65536",
-        "x",
+        b"x",
         Malformed(Plan(PlanFault::KeepRange { place: 0 })),
         "clof: plan KeepRange 0\n",
     ),
@@ -223,22 +216,24 @@ fn refuses_what_is_no_pair(rt: HostRuntime) -> Result<(), Fail> {
 }
 
 // Four times as much may be read as for a run: one byte more is too much, whatever it says.
-const LONG: &[(usize, Status, &str)] = &[
+const LONG: &[(usize, Ending<'static>)] = &[
     (
         67_108_864,
-        Malformed(Check(CheckFault::BadHead)),
-        "clof: check BadHead\n",
+        (
+            Some(Malformed(Check(CheckFault::BadHead))),
+            3,
+            "clof: check BadHead\n",
+        ),
     ),
-    (67_108_865, Limit(Input), "clof: input\n"),
+    (67_108_865, (Some(Limit(Input)), 4, "clof: input\n")),
 ];
 
 #[test]
 fn limits_what_is_read(rt: HostRuntime) -> Result<(), Fail> {
     for row in LONG {
-        let (size, status, told) = *row;
+        let (size, ending) = *row;
         let read = vec![in rt.alloc(); b'x'; size]?;
-        let out = call(&rt, rt.alloc(), "check", &read, &OpenGate, (status, told))?;
-        has_text(&rt, told, out.bytes(), "");
+        ends(&rt, rt.alloc(), ("check", &read), ending, "")?;
     }
     Ok(())
 }

@@ -1,6 +1,7 @@
 //! Gates that are told when a caller is queued for the lock, and when it holds it.
 use crossbeam_utils::Backoff;
 use placed_runner::Gate;
+use std::process::Abort;
 use std::sync::atomic::{AtomicU32, Ordering};
 
 // A gate that counts how often callers told it that they hold the lock.
@@ -94,4 +95,9 @@ impl Gate for Meeting {
             self.await_queued(of(&self.queued, 1 - caller.min(1)));
         }
     }
+}
+
+// Checks that the callers of a command line met.
+pub(super) fn have_met(rt: &impl Abort, line: &str, gate: &Meeting) {
+    assert!(rt; gate.met(), "at {line}");
 }

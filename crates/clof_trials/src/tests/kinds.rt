@@ -1,10 +1,10 @@
 //! A walk that tells kinds of locks apart.
-use super::prints;
+use super::{WELL, ends};
 use std::alloc::Global;
 use std::test::Fail;
 
 // Four callers on two packages, the first and the last of them on one PU.
-const INPUT: &str = "worker pu:2 14\nget a\r\nget a\r\n\n\
+const INPUT: &[u8] = b"worker pu:2 14\nget a\r\nget a\r\n\n\
     worker pu:0 21\nget a\r\nget a\r\nget a\r\n\n\
     worker pu:3 21\nget a\r\nget a\r\nget a\r\n\n\
     worker pu:2 21\nget a\r\nget a\r\nget a\r\n\n";
@@ -75,7 +75,7 @@ fn tells_kinds_apart(rt: HostRuntime) -> Result<(), Fail> {
     for row in WALKS {
         let (line, callers, tests) = row;
         let text = text_of(rt.alloc(), callers, tests)?;
-        prints(&rt, rt.alloc(), (line, INPUT, &text))?;
+        ends(&rt, rt.alloc(), (line, INPUT), WELL, &text)?;
     }
     Ok(())
 }

@@ -1,7 +1,6 @@
 //! Runs whose callers keep receipts of their turns.
 use super::checks::says;
-use super::{Printed, call, counting, has_text, prints_each};
-use clof_tool::Status;
+use super::{Printed, WELL, call, counting, has_text, prints_each};
 use placed_runner::OpenGate;
 use std::alloc::Global;
 use std::process::Abort;
@@ -12,7 +11,7 @@ use std::thread::Threads;
 const KEPT: &[Printed] = &[
     (
         "run --receipts",
-        "worker * 23\nset a 5 0 1\r\nx\r\nget a\r\n\n",
+        b"worker * 23\nset a 5 0 1\r\nx\r\nget a\r\n\n",
         "turn 0 caller 0 pu 0 climb 0 tests 0 left 0 \"set a 5 0 1\\r\\nx\\r\\n\" \"STORED\\r\\n\"\n\
          turn 1 caller 0 pu 0 climb 0 tests 0 left 0 \"get a\\r\\n\" \"VALUE a 5 1\\r\\nx\\r\\nEND\\r\\n\"\n\
          caller 0 pu 0 commands 2 rest 0\n\
@@ -20,10 +19,10 @@ const KEPT: &[Printed] = &[
     ),
     (
         "run --receipts",
-        "worker * 0\n\n",
+        b"worker * 0\n\n",
         "caller 0 pu 0 commands 0 rest 0\nreceipts 0\n",
     ),
-    ("run --receipts", "", ""),
+    ("run --receipts", b"", ""),
 ];
 
 #[test]
@@ -62,14 +61,7 @@ fn keeps_receipts<R: Threads + Wait + Sync + Abort>(
     (run, check): (&str, &str),
 ) -> Result<(), Fail> {
     let input = counting(alloc, 8)?;
-    let out = call(
-        rt,
-        alloc,
-        run,
-        input.as_bytes(),
-        &OpenGate,
-        (Status::Ok, ""),
-    )?;
+    let out = call(rt, alloc, run, input.as_bytes(), &OpenGate, WELL)?;
     let printed = std::str::from_utf8(out.bytes())?;
     let (text, receipts) = printed.split_once("receipts 0").ok_or("no receipts")?;
     let told = told_by(alloc, text)?;

@@ -1,14 +1,13 @@
 //! Runs on threads, whose turns come as it happens, through gates that are told of them.
-use super::gates::{Counter, Meeting};
-use super::{call, counting, has_number, has_text};
-use clof_tool::Status;
+use super::gates::{Counter, Meeting, have_met};
+use super::{WELL, call, counting, has_number, has_parts, has_text};
 use std::alloc::Global;
 use std::process::Abort;
 use std::sync::Wait;
 use std::test::Fail;
 use std::thread::Threads;
 
-const TWO_GETS: &str = "worker * 7\nget a\r\n\nworker * 7\nget a\r\n\n";
+const TWO_GETS: &[u8] = b"worker * 7\nget a\r\n\nworker * 7\nget a\r\n\n";
 
 // Command lines of two callers who meet, and what is printed where the first of them holds first, and where the second does.
 const MEETINGS: &[(&str, &str, &str)] = &[
@@ -61,14 +60,7 @@ fn meet<R: Threads + Wait + Sync + Abort>(
     (line, one, other): (&str, &str, &str),
 ) -> Result<(), Fail> {
     let gate = Meeting::new();
-    let out = call(
-        rt,
-        alloc,
-        line,
-        TWO_GETS.as_bytes(),
-        &gate,
-        (Status::Ok, ""),
-    )?;
+    let out = call(rt, alloc, line, TWO_GETS, &gate, WELL)?;
     is_either(rt, line, out.bytes(), one, other);
     have_met(rt, line, &gate);
     Ok(())
@@ -79,10 +71,6 @@ fn is_either(rt: &impl Abort, line: &str, text: &[u8], one: &str, other: &str) {
         text == one.as_bytes() || text == other.as_bytes(),
         "at {line}"
     );
-}
-
-fn have_met(rt: &impl Abort, line: &str, gate: &Meeting) {
-    assert!(rt; gate.met(), "at {line}");
 }
 
 #[test]
@@ -133,18 +121,10 @@ fn count<R: Threads + Wait + Sync + Abort>(
 ) -> Result<(), Fail> {
     let gate = Counter::new();
     let input = counting(alloc, callers)?;
-    let out = call(rt, alloc, line, input.as_bytes(), &gate, (Status::Ok, ""))?;
+    let out = call(rt, alloc, line, input.as_bytes(), &gate, WELL)?;
     has_number(rt, line, gate.count(), holds);
     has_parts(rt, std::str::from_utf8(out.bytes())?, parts);
     Ok(())
-}
-
-// Checks how often parts stand in a text.
-fn has_parts(rt: &impl Abort, text: &str, parts: &[(&str, usize)]) {
-    for row in parts {
-        let (part, times) = *row;
-        has_number(rt, part, text.matches(part).count(), times);
-    }
 }
 
 #[test]
@@ -187,7 +167,7 @@ fn hold<R: Threads + Wait + Sync + Abort>(
     (line, input, text, holds): (&str, &str, &str, usize),
 ) -> Result<(), Fail> {
     let gate = Counter::new();
-    let out = call(rt, alloc, line, input.as_bytes(), &gate, (Status::Ok, ""))?;
+    let out = call(rt, alloc, line, input.as_bytes(), &gate, WELL)?;
     has_text(rt, line, out.bytes(), text);
     has_number(rt, line, gate.count(), holds);
     Ok(())

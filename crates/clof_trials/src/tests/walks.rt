@@ -2,9 +2,9 @@
 use super::{Printed, prints_each};
 use std::test::Fail;
 
-const TWO_GETS: &str = "worker * 7\nget a\r\n\nworker * 7\nget a\r\n\n";
+const TWO_GETS: &[u8] = b"worker * 7\nget a\r\n\nworker * 7\nget a\r\n\n";
 
-const THREE_GETS: &str = "worker * 7\nget a\r\n\nworker * 7\nget a\r\n\nworker * 7\nget a\r\n\n";
+const THREE_GETS: &[u8] = b"worker * 7\nget a\r\n\nworker * 7\nget a\r\n\nworker * 7\nget a\r\n\n";
 
 // The second caller waits below the lock that the first one has, and gets it without a climb.
 const HANDED_ON: &str =
@@ -73,7 +73,7 @@ const TWO_LEVELS: &[Printed] = &[
     ),
     (
         "run --walk --levels package,machine --keep 1 'Package:2 Core:2 PU:1'",
-        "worker * 7\nget a\r\n\nworker * 7\nget a\r\n\nworker * 7\nget a\r\n\nworker * 7\nget a\r\n\n",
+        b"worker * 7\nget a\r\n\nworker * 7\nget a\r\n\nworker * 7\nget a\r\n\nworker * 7\nget a\r\n\n",
         TWO_PACKAGES,
     ),
 ];
@@ -84,8 +84,8 @@ fn walks_over_two_levels(rt: HostRuntime) -> Result<(), Fail> {
 }
 
 // Callers on one core, on another core of its cache, on another cache of its die, and on another package.
-const NEAR_AND_FAR: &str =
-    "worker pu:0 7\nget a\r\n\nworker pu:0 7\nget a\r\n\nworker pu:1 7\nget a\r\n\n\
+const NEAR_AND_FAR: &[u8] =
+    b"worker pu:0 7\nget a\r\n\nworker pu:0 7\nget a\r\n\nworker pu:1 7\nget a\r\n\n\
     worker pu:2 7\nget a\r\n\nworker pu:7 7\nget a\r\n\n";
 
 // Each caller finds the lock kept where its way meets that of the one before.
@@ -158,7 +158,7 @@ const MORE_LEVELS: &[Printed] = &[
     (
         "run --walk --levels core,l3,die,package,machine --locks tkt-mcs-clh-hem-mcs --keep 1,2,1,1 \
          'Package:2 Die:1 L3Cache:2 Core:2 PU:1'",
-        "worker pu:0 14\nget a\r\nget a\r\n\nworker pu:0 7\nget a\r\n\n\
+        b"worker pu:0 14\nget a\r\nget a\r\n\nworker pu:0 7\nget a\r\n\n\
          worker pu:1 7\nget a\r\n\nworker pu:2 7\nget a\r\n\nworker pu:7 7\nget a\r\n\n",
         "turn 0 caller 0 pu 0 climb 4 tests 1 left 0 \"get a\\r\\n\" \"END\\r\\n\"\n\
          turn 1 caller 1 pu 0 climb 0 tests 3 left 1 \"get a\\r\\n\" \"END\\r\\n\"\n\

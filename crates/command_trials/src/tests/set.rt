@@ -1,6 +1,7 @@
 //! What `set` prints, and long texts.
 use super::{Tables, answers, ended, expect, refuses};
 use std::alloc::Global;
+use std::process::Abort;
 use std::test::Fail;
 
 // The last word of some rows is empty.
@@ -57,17 +58,30 @@ fn all_numbers(alloc: Global) -> Result<String, Fail> {
     Ok(numbers)
 }
 
+fn expect_set(rt: &impl Abort, alloc: Global, numbers: &str) -> Result<(), Fail> {
+    let set = ended(alloc, &["set", "--list", numbers])?;
+    assert!(rt; set.starts_with(b"0 0xffffffff,0xffffffff,"));
+    Ok(())
+}
+
 // Long texts are no excuse: the longest list of a set, and the longest list of indexes of a description.
 #[test]
 fn takes_lists_of_all_numbers(rt: HostRuntime) -> Result<(), Fail> {
     let alloc = rt.alloc();
     let numbers = all_numbers(alloc)?;
-    let set = ended(alloc, &["set", "--list", &numbers])?;
-    assert!(rt; set.starts_with(b"0 0xffffffff,0xffffffff,"));
+    expect_set(&rt, alloc, &numbers)?;
     let description = format!(in alloc; "PU:4096(indexes={numbers})")?;
+    expect_exported(&rt, alloc, &description)?;
+    expect_tree(&rt, alloc, &description)
+}
+
+fn expect_exported(rt: &impl Abort, alloc: Global, description: &str) -> Result<(), Fail> {
     let exported = format!(in alloc; "0 {description}\n")?;
-    expect(&rt, alloc, &["topo", "--export", &description], &exported)?;
-    let tree = ended(alloc, &["topo", &description])?;
+    expect(rt, alloc, &["topo", "--export", description], &exported)
+}
+
+fn expect_tree(rt: &impl Abort, alloc: Global, description: &str) -> Result<(), Fail> {
+    let tree = ended(alloc, &["topo", description])?;
     assert!(rt; tree.starts_with(b"0 Machine L#0\n  PU L#0 (P#4095)\n  PU L#1 (P#4094)\n"));
     assert!(rt; tree.ends_with(b"  PU L#4095 (P#0)\n"));
     Ok(())

@@ -9,6 +9,7 @@ use kv_history::{Journal, Store};
 use mc_text::Commands;
 use out_of_memory::OutOfMemory;
 use std::alloc::Global;
+use std::process::Abort;
 use std::test::Fail;
 
 // A drill and what its keys hold at the end.
@@ -67,15 +68,17 @@ fn replay(store: &mut Store, replies: &mut Vec<u8>, section: &[u8]) -> Result<u3
     Ok(count)
 }
 
-// The store behind all commands of some sections, one section after the other, and how many commands these are.
-fn replayed(alloc: Global, sections: &[Vec<u8>]) -> Result<(Store, u32), OutOfMemory> {
-    let mut store = Store::new(alloc);
-    let mut replies = Vec::new(alloc);
+// Answers all commands of some sections, one section after the other, and counts them.
+fn replay_all(
+    store: &mut Store,
+    replies: &mut Vec<u8>,
+    sections: &[Vec<u8>],
+) -> Result<u32, OutOfMemory> {
     let mut count: u32 = 0;
     for section in sections {
-        count = count.saturating_add(replay(&mut store, &mut replies, section)?);
+        count = count.saturating_add(replay(store, replies, section)?);
     }
-    Ok((store, count))
+    Ok(count)
 }
 
 // Whether a store has these values under these keys.
@@ -88,15 +91,25 @@ fn has_values(store: &Store, values: &[(&[u8], &[u8])]) -> bool {
     true
 }
 
+fn expect_sums(rt: &impl Abort, alloc: Global, made: &[Vec<u8>], values: &[(&[u8], &[u8])]) {
+    assert!(rt; made.len() == CALLERS as usize);
+    let mut store = Store::new(alloc);
+    let mut replies = Vec::new(alloc);
+    let count = replay_all(&mut store, &mut replies, made).expect(rt, "memory");
+    assert!(rt; count == 20_512 && has_values(&store, values));
+}
+
 #[test]
-fn the_commands_add_up(rt: HostRuntime) -> Result<(), Fail> {
+fn the_commands_add_up(rt: HostRuntime) {
+    let alloc = rt.alloc();
     for (drill, values) in DRILLS {
-        let made = sections(rt.alloc(), *drill)?;
-        assert!(rt; made.len() == CALLERS as usize);
-        let (store, count) = replayed(rt.alloc(), &made)?;
-        assert!(rt; count == 20_512 && has_values(&store, values));
+        expect_sums(
+            &rt,
+            alloc,
+            &sections(alloc, *drill).expect(&rt, "memory"),
+            values,
+        );
     }
-    Ok(())
 }
 
 // Has a caller give all commands of its section.

@@ -199,10 +199,9 @@ fn gives_the_parts_of_commands(rt: HostRuntime) -> Result<(), Fail> {
 }
 
 #[test]
-fn keeps_the_limits_of_keys_and_values(rt: HostRuntime) -> Result<(), Fail> {
+fn keeps_the_limits_of_keys_and_values(rt: HostRuntime) {
     for (parts, want) in LIMITS {
-        let text = joined(rt.alloc(), parts)?;
-        assert_eq!(rt; beginning(&text), (*want, text.len()));
+        let text = joined(rt.alloc(), parts).expect(&rt, "memory");
+        expect_beginnings(&rt, &[(&text, *want, text.len())]);
     }
-    Ok(())
 }

@@ -168,8 +168,8 @@ fn is_chosen(
     depths: &[u32],
     wanted: u64,
 ) -> Result<bool, SelectFault> {
-    let weights = read_weights(alloc, tree, texts.0)?;
     let keep = read_keep(texts.1)?;
+    let weights = read_weights(alloc, tree, texts.0)?;
     let trace = read_trace(alloc, tree, texts.2)?;
     is_cheapest(alloc, tree, &weights, keep, &trace, depths, wanted)
 }
@@ -192,16 +192,23 @@ fn is_cheapest(
         return Err(SelectFault::OutOfMemory);
     };
     let counted = cost(tree, weights, choice.depths.as_slice(), keep, trace);
-    Ok(choice.depths.as_slice() == depths && choice.cost == wanted && counted == wanted)
+    Ok(is_choice(&choice, depths, wanted) && counted == wanted)
 }
 
-fn expect_choices(rt: &impl Abort, alloc: Global, rows: &[Choosing]) -> Result<(), Fail> {
-    for (text, texts, depths, wanted) in rows {
-        let tree = tree_of(rt, alloc, text);
-        let chosen = is_chosen(alloc, &tree, *texts, depths, *wanted)?;
-        assert!(rt; chosen, "at a cost of {wanted}");
+fn is_choice(choice: &Choice, depths: &[u32], wanted: u64) -> bool {
+    choice.depths.as_slice() == depths && choice.cost == wanted
+}
+
+fn expect_choice(rt: &impl Abort, alloc: Global, tree: &Tree, row: &Choosing) {
+    let (_, texts, depths, wanted) = *row;
+    let chosen = is_chosen(alloc, tree, texts, depths, wanted);
+    assert_eq!(rt; chosen, Ok(true), "at a cost of {wanted}");
+}
+
+fn expect_choices(rt: &impl Abort, alloc: Global, rows: &[Choosing]) {
+    for row in rows {
+        expect_choice(rt, alloc, &tree_of(rt, alloc, row.0), row);
     }
-    Ok(())
 }
 
 // Whether a text is read as these weights, or refused for this fault.
@@ -235,39 +242,51 @@ fn count_turns(alloc: Global, tree: &Tree, bytes: &[u8]) -> Result<usize, Select
     Ok(trace.len())
 }
 
-// So many lines of PU 0, with others behind them.
-fn lines(alloc: Global, count: u32, last: &[u8]) -> Result<Vec<u8>, Fail> {
-    let mut bytes = Vec::new(alloc);
+// Adds so many lines of PU 0, and others behind them.
+fn add_lines(bytes: &mut Vec<u8>, count: u32, last: &[u8]) -> Result<(), Fail> {
     for _ in 0..count {
         bytes.extend_from_slice(b"0\n")?;
     }
     bytes.extend_from_slice(last)?;
+    Ok(())
+}
+
+fn lines(alloc: Global, count: u32, last: &[u8]) -> Result<Vec<u8>, Fail> {
+    let mut bytes = Vec::new(alloc);
+    add_lines(&mut bytes, count, last)?;
     Ok(bytes)
 }
 
 #[test]
-fn neighbours_share_a_level(rt: HostRuntime) -> Result<(), Fail> {
-    expect_choices(&rt, rt.alloc(), NEIGHBOURLY)
+fn neighbours_share_a_level(rt: HostRuntime) {
+    expect_choices(&rt, rt.alloc(), NEIGHBOURLY);
 }
 
 #[test]
-fn the_first_among_equals(rt: HostRuntime) -> Result<(), Fail> {
-    expect_choices(&rt, rt.alloc(), EQUALS)
+fn the_first_among_equals(rt: HostRuntime) {
+    expect_choices(&rt, rt.alloc(), EQUALS);
 }
 
 #[test]
-fn short_traces(rt: HostRuntime) -> Result<(), Fail> {
-    expect_choices(&rt, rt.alloc(), SHORT)
+fn short_traces(rt: HostRuntime) {
+    expect_choices(&rt, rt.alloc(), SHORT);
+}
+
+fn expect_weights(
+    rt: &impl Abort,
+    alloc: Global,
+    tree: &Tree,
+    text: Option<&[u8]>,
+    wanted: Result<&[u64], SelectFault>,
+) {
+    assert!(rt; has_weights(alloc, tree, text, wanted), "not {wanted:?}");
 }
 
 #[test]
 fn reads_weights(rt: HostRuntime) {
+    let alloc = rt.alloc();
     for (topology, text, wanted) in WEIGHTS {
-        let tree = tree_of(&rt, rt.alloc(), topology);
-        assert!(rt;
-            has_weights(rt.alloc(), &tree, *text, *wanted),
-            "not {wanted:?}"
-        );
+        expect_weights(&rt, alloc, &tree_of(&rt, alloc, topology), *text, *wanted);
     }
 }
 
@@ -278,33 +297,41 @@ fn keeps(rt: HostRuntime) {
     }
 }
 
-#[test]
-fn reads_lines(rt: HostRuntime) {
-    let tree = tree_of(&rt, rt.alloc(), PACKAGES);
+fn expect_traces(rt: &impl Abort, alloc: Global, tree: &Tree) {
     for (bytes, wanted) in TRACES {
-        assert!(rt;
-            has_trace(rt.alloc(), &tree, bytes, *wanted),
-            "not {wanted:?}"
-        );
+        assert!(rt; has_trace(alloc, tree, bytes, *wanted), "not {wanted:?}");
     }
 }
 
 #[test]
-fn reads_longest_traces(rt: HostRuntime) -> Result<(), Fail> {
-    let tree = tree_of(&rt, rt.alloc(), b"PU:1");
+fn reads_lines(rt: HostRuntime) {
+    expect_traces(&rt, rt.alloc(), &tree_of(&rt, rt.alloc(), PACKAGES));
+}
+
+fn expect_turns(rt: &impl Abort, alloc: Global, tree: &Tree) -> Result<(), Fail> {
     for (count, last, wanted) in LONG_TRACES {
-        let bytes = lines(rt.alloc(), *count, last)?;
-        assert_eq!(rt; count_turns(rt.alloc(), &tree, &bytes), *wanted);
+        let bytes = lines(alloc, *count, last)?;
+        assert_eq!(rt; count_turns(alloc, tree, &bytes), *wanted);
     }
     Ok(())
 }
 
 #[test]
+fn reads_longest_traces(rt: HostRuntime) -> Result<(), Fail> {
+    expect_turns(&rt, rt.alloc(), &tree_of(&rt, rt.alloc(), b"PU:1"))
+}
+
+fn expect_two_levels(rt: &impl Abort, alloc: Global, tree: &Tree, bytes: &[u8]) {
+    let texts = (None, b"65535".as_slice(), bytes);
+    let chosen = is_chosen(alloc, tree, texts, &[1, 0], 16386);
+    assert_eq!(rt; chosen, Ok(true));
+}
+
+#[test]
 fn chooses_for_longest_traces(rt: HostRuntime) -> Result<(), Fail> {
-    let tree = tree_of(&rt, rt.alloc(), b"PU:1");
-    let bytes = lines(rt.alloc(), 16384, b"")?;
-    let chosen = is_chosen(rt.alloc(), &tree, (None, b"65535", &bytes), &[1, 0], 16386)?;
-    assert!(rt; chosen);
+    let alloc = rt.alloc();
+    let bytes = lines(alloc, 16384, b"")?;
+    expect_two_levels(&rt, alloc, &tree_of(&rt, alloc, b"PU:1"), &bytes);
     Ok(())
 }
 
@@ -318,14 +345,14 @@ fn choice_on(alloc: Global, topology: &Topology) -> Result<Choice, SelectFault> 
     }
 }
 
+fn expect_choice_on(rt: &impl Abort, alloc: Global, topology: &Topology) {
+    let choice = choice_on(alloc, topology).expect(rt, "a choice");
+    assert!(rt; is_choice(&choice, &[1, 0], 24));
+}
+
 #[test]
-fn choices_on_a_topology(rt: HostRuntime) -> Result<(), Fail> {
-    let alloc = rt.alloc();
-    let topology = topology_of(&rt, alloc, PACKAGES);
-    let choice = choice_on(alloc, &topology)?;
-    assert_eq!(rt; choice.depths.as_slice(), [1, 0].as_slice());
-    assert_eq!(rt; choice.cost, 24);
-    Ok(())
+fn choices_on_a_topology(rt: HostRuntime) {
+    expect_choice_on(&rt, rt.alloc(), &topology_of(&rt, rt.alloc(), PACKAGES));
 }
 
 #[test]

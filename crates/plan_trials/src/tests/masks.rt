@@ -5,7 +5,7 @@ use distrib_rules::{DistribFault, distrib};
 use std::alloc::Global;
 use std::process::Abort;
 use std::test::Fail;
-use topo_tree::Topology;
+use topo_tree::{Topology, Tree};
 
 // The number of masks and the depths of the start and the end, the masks, and those where lists are taken backwards.
 type Sharing = (u32, u32, u32, &'static str, &'static str);
@@ -183,38 +183,60 @@ fn shared_out(
     distrib(alloc, topology, n, from, to, reverse)
 }
 
-// Masks in taskset's form, with a space between two.
-fn printed(alloc: Global, masks: &[CpuSet]) -> Result<Vec<u8>, Fail> {
-    let mut text = Vec::new(alloc);
+// Adds masks in taskset's form, with a space between two.
+fn print(alloc: Global, text: &mut Vec<u8>, masks: &[CpuSet]) -> Result<(), Fail> {
     for mask in masks {
         if !text.is_empty() {
             text.push(b' ')?;
         }
         text.extend_from_slice(&mask.write_taskset(alloc)?)?;
     }
+    Ok(())
+}
+
+fn printed(alloc: Global, masks: &[CpuSet]) -> Result<Vec<u8>, Fail> {
+    let mut text = Vec::new(alloc);
+    print(alloc, &mut text, masks)?;
     Ok(text)
 }
 
-fn expect_list(
+fn expect_text(rt: &impl Abort, found: &[u8], wanted: &str) {
+    assert_eq!(rt; found, wanted.as_bytes(), "at {wanted}");
+}
+
+fn expect_list(rt: &impl Abort, alloc: Global, masks: &[CpuSet], wanted: &str) -> Result<(), Fail> {
+    expect_text(rt, &printed(alloc, masks)?, wanted);
+    Ok(())
+}
+
+fn expect_sharing(
     rt: &impl Abort,
     alloc: Global,
-    masks: Result<Vec<CpuSet>, DistribFault>,
-    wanted: &str,
+    topology: &Topology,
+    row: &Sharing,
+    reverse: bool,
 ) -> Result<(), Fail> {
-    let found = printed(alloc, &masks?)?;
-    assert_eq!(rt; found.as_slice(), wanted.as_bytes(), "at {wanted}");
+    let (n, from, to, forwards, backwards) = *row;
+    let wanted = if reverse { backwards } else { forwards };
+    let masks = shared_out(rt, alloc, topology, n, (from, to), reverse)?;
+    expect_list(rt, alloc, &masks, wanted)
+}
+
+fn expect_sharings(
+    rt: &impl Abort,
+    alloc: Global,
+    topology: &Topology,
+    rows: &[Sharing],
+) -> Result<(), Fail> {
+    for row in rows {
+        expect_sharing(rt, alloc, topology, row, false)?;
+        expect_sharing(rt, alloc, topology, row, true)?;
+    }
     Ok(())
 }
 
 fn expect_masks(rt: &impl Abort, alloc: Global, text: &[u8], rows: &[Sharing]) -> Result<(), Fail> {
-    let topology = topology_of(rt, alloc, text);
-    for (n, from, to, forwards, backwards) in rows {
-        let masks = shared_out(rt, alloc, &topology, *n, (*from, *to), false);
-        expect_list(rt, alloc, masks, forwards)?;
-        let masks = shared_out(rt, alloc, &topology, *n, (*from, *to), true);
-        expect_list(rt, alloc, masks, backwards)?;
-    }
-    Ok(())
+    expect_sharings(rt, alloc, &topology_of(rt, alloc, text), rows)
 }
 
 fn expect_refusal(rt: &impl Abort, found: Result<Vec<CpuSet>, DistribFault>, wanted: DistribFault) {
@@ -250,38 +272,50 @@ fn are_backwards(masks: &[CpuSet]) -> bool {
     masks.len() == 4096
 }
 
-#[test]
-fn most_masks(rt: HostRuntime) -> Result<(), Fail> {
-    let topology = topology_of(&rt, rt.alloc(), b"PU:2");
-    let masks = shared_out(&rt, rt.alloc(), &topology, 4096, (0, 1), false)?;
-    assert!(rt; are_halves(&masks));
-    Ok(())
+fn expect_halves(rt: &impl Abort, alloc: Global, topology: &Topology) {
+    let masks = shared_out(rt, alloc, topology, 4096, (0, 1), false);
+    assert!(rt; are_halves(&masks.expect(rt, "masks")));
 }
 
 #[test]
-fn masks_of_most_pus(rt: HostRuntime) -> Result<(), Fail> {
-    let topology = topology_of(&rt, rt.alloc(), b"Package:64 Core:64 PU:1");
-    let masks = shared_out(&rt, rt.alloc(), &topology, 4096, (0, 3), true)?;
-    assert!(rt; are_backwards(&masks));
-    Ok(())
+fn most_masks(rt: HostRuntime) {
+    expect_halves(&rt, rt.alloc(), &topology_of(&rt, rt.alloc(), b"PU:2"));
+}
+
+fn expect_backwards(rt: &impl Abort, alloc: Global, topology: &Topology) {
+    let masks = shared_out(rt, alloc, topology, 4096, (0, 3), true);
+    assert!(rt; are_backwards(&masks.expect(rt, "masks")));
+}
+
+#[test]
+fn masks_of_most_pus(rt: HostRuntime) {
+    let text = b"Package:64 Core:64 PU:1";
+    expect_backwards(&rt, rt.alloc(), &topology_of(&rt, rt.alloc(), text));
+}
+
+fn expect_tree_masks(rt: &impl Abort, alloc: Global, tree: &Tree) -> Result<(), Fail> {
+    assert!(rt; tree.depths() == 4);
+    let masks = distrib(alloc, tree, 3, 0, 3, false)?;
+    expect_list(rt, alloc, &masks, "0x3 0xc 0xf0")
 }
 
 #[test]
 fn masks_over_a_tree(rt: HostRuntime) -> Result<(), Fail> {
-    let tree = tree_of(&rt, rt.alloc(), b"Package:2 Core:2 PU:2");
-    assert!(rt; tree.depths() == 4);
-    let masks = distrib(rt.alloc(), &tree, 3, 0, 3, false);
-    expect_list(&rt, rt.alloc(), masks, "0x3 0xc 0xf0")
+    let text = b"Package:2 Core:2 PU:2";
+    expect_tree_masks(&rt, rt.alloc(), &tree_of(&rt, rt.alloc(), text))
+}
+
+fn expect_refusals(rt: &impl Abort, alloc: Global, topology: &Topology) {
+    for (n, from, to, wanted) in REFUSALS {
+        let found = shared_out(rt, alloc, topology, *n, (*from, *to), false);
+        expect_refusal(rt, found, *wanted);
+    }
 }
 
 #[test]
-fn refusals(rt: HostRuntime) -> Result<(), Fail> {
-    let topology = topology_of(&rt, rt.alloc(), b"Core:2 PU:2");
-    for (n, from, to, wanted) in REFUSALS {
-        let found = shared_out(&rt, rt.alloc(), &topology, *n, (*from, *to), false);
-        expect_refusal(&rt, found, *wanted);
-    }
-    Ok(())
+fn refusals(rt: HostRuntime) {
+    let text = b"Core:2 PU:2";
+    expect_refusals(&rt, rt.alloc(), &topology_of(&rt, rt.alloc(), text));
 }
 
 #[test]

@@ -343,33 +343,32 @@ fn read_plan(alloc: Global, tree: &Tree, texts: Texts<'_>) -> Result<Plan, PlanF
     Plan::read(alloc, tree, short(levels)?, locks, short(keeps)?)
 }
 
-fn expect_plans(
-    rt: &impl Abort,
-    alloc: Global,
-    text: &[u8],
-    rows: &[Planning],
-) -> Result<(), Fail> {
-    let tree = tree_of(rt, alloc, text);
-    for (texts, depths, kinds, keeps) in rows {
-        let plan = read_plan(alloc, &tree, *texts)?;
-        assert_eq!(rt; plan.depths.as_slice(), *depths);
-        assert_eq!(rt; plan.kinds.as_slice(), *kinds);
-        assert_eq!(rt; plan.keeps.as_slice(), *keeps);
-    }
-    Ok(())
+fn expect_plan(rt: &impl Abort, plan: &Plan, row: &Planning) {
+    let (_, depths, kinds, keeps) = *row;
+    assert_eq!(rt; plan.depths.as_slice(), depths);
+    assert_eq!(rt; plan.kinds.as_slice(), kinds);
+    assert_eq!(rt; plan.keeps.as_slice(), keeps);
 }
 
-fn expect_refusals(
-    rt: &impl Abort,
-    alloc: Global,
-    text: &[u8],
-    rows: &[Refusal],
-) -> Result<(), Fail> {
-    let tree = tree_of(rt, alloc, text);
-    for (texts, fault) in rows {
-        expect_refusal(rt, read_plan(alloc, &tree, *texts), *fault);
+fn expect_tree_plans(rt: &impl Abort, alloc: Global, tree: &Tree, rows: &[Planning]) {
+    for row in rows {
+        let plan = read_plan(alloc, tree, row.0);
+        expect_plan(rt, &plan.expect(rt, "a plan"), row);
     }
-    Ok(())
+}
+
+fn expect_plans(rt: &impl Abort, alloc: Global, text: &[u8], rows: &[Planning]) {
+    expect_tree_plans(rt, alloc, &tree_of(rt, alloc, text), rows);
+}
+
+fn expect_tree_refusals(rt: &impl Abort, alloc: Global, tree: &Tree, rows: &[Refusal]) {
+    for (texts, fault) in rows {
+        expect_refusal(rt, read_plan(alloc, tree, *texts), *fault);
+    }
+}
+
+fn expect_refusals(rt: &impl Abort, alloc: Global, text: &[u8], rows: &[Refusal]) {
+    expect_tree_refusals(rt, alloc, &tree_of(rt, alloc, text), rows);
 }
 
 fn expect_refusal(rt: &impl Abort, found: Result<Plan, PlanFault>, wanted: PlanFault) {
@@ -418,35 +417,58 @@ fn has_paths(shape: &Shape, wanted: &[&[u32]]) -> bool {
     caller == wanted.len()
 }
 
-fn expect_shape(rt: &impl Abort, alloc: Global, row: &Shaping) -> Result<(), Fail> {
-    let (text, levels, pus, paths) = *row;
-    let tree = tree_of(rt, alloc, text);
-    let plan = read_plan(alloc, &tree, (levels, None, "7"))?;
-    let shape = shape_of(rt, alloc, &tree, &plan, pus)?;
+fn expect_shape(rt: &impl Abort, shape: &Shape, plan: &Plan, row: &Shaping) {
+    let (_, levels, _, paths) = *row;
     assert!(rt;
         shape.keeps.as_slice() == plan.keeps.as_slice(),
         "at {levels}"
     );
-    assert!(rt; has_paths(&shape, paths), "at {levels}");
+    assert!(rt; has_paths(shape, paths), "at {levels}");
+}
+
+fn expect_plan_shape(
+    rt: &impl Abort,
+    alloc: Global,
+    tree: &Tree,
+    plan: &Plan,
+    row: &Shaping,
+) -> Result<(), Fail>
+    requires { IsPlanFor tree.now plan.now }
+{
+    let shape = shape_of(rt, alloc, tree, plan, row.2)?;
+    expect_shape(rt, &shape, plan, row);
     Ok(())
+}
+
+fn expect_tree_shape(
+    rt: &impl Abort,
+    alloc: Global,
+    tree: &Tree,
+    row: &Shaping,
+) -> Result<(), Fail> {
+    let plan = read_plan(alloc, tree, (row.1, None, "7"))?;
+    expect_plan_shape(rt, alloc, tree, &plan, row)
+}
+
+fn expect_text_shape(rt: &impl Abort, alloc: Global, row: &Shaping) -> Result<(), Fail> {
+    expect_tree_shape(rt, alloc, &tree_of(rt, alloc, row.0), row)
 }
 
 fn expect_shapes(rt: &impl Abort, alloc: Global, rows: &[Shaping]) -> Result<(), Fail> {
     for row in rows {
-        expect_shape(rt, alloc, row)?;
+        expect_text_shape(rt, alloc, row)?;
     }
     Ok(())
 }
 
-// So many PUs, from the last of the largest topology downwards, each 16 before the other.
-fn spread(alloc: Global, count: u32) -> Result<Vec<u32>, Fail> {
-    let mut pus = Vec::new(alloc);
+// Adds so many PUs, from the last of the largest topology downwards, each 16 before the other.
+fn spread(pus: &mut Vec<u32>, count: u32) -> Result<(), Fail> {
     let mut pu: u32 = 4094;
     for _ in 0..count {
         pus.push(pu)?;
         pu = pu.saturating_sub(16);
     }
-    Ok(pus)
+    Ok(())
 }
 
 // Whether 256 callers stand under nodes of their own below the top, the last one under the first.
@@ -462,34 +484,34 @@ fn are_apart(shape: &Shape) -> bool {
 }
 
 #[test]
-fn plans_of_texts(rt: HostRuntime) -> Result<(), Fail> {
-    expect_plans(&rt, rt.alloc(), MACHINE, PLANS)
+fn plans_of_texts(rt: HostRuntime) {
+    expect_plans(&rt, rt.alloc(), MACHINE, PLANS);
 }
 
 #[test]
-fn a_numa_node_stands_for_its_carrier(rt: HostRuntime) -> Result<(), Fail> {
-    expect_plans(&rt, rt.alloc(), CARRIER, CARRIER_PLANS)?;
-    expect_refusals(&rt, rt.alloc(), CARRIER, CARRIER_REFUSALS)
+fn a_numa_node_stands_for_its_carrier(rt: HostRuntime) {
+    expect_plans(&rt, rt.alloc(), CARRIER, CARRIER_PLANS);
+    expect_refusals(&rt, rt.alloc(), CARRIER, CARRIER_REFUSALS);
 }
 
 #[test]
-fn names_of_levels_that_are_refused(rt: HostRuntime) -> Result<(), Fail> {
-    expect_refusals(&rt, rt.alloc(), MACHINE, NAMES)
+fn names_of_levels_that_are_refused(rt: HostRuntime) {
+    expect_refusals(&rt, rt.alloc(), MACHINE, NAMES);
 }
 
 #[test]
-fn levels_that_are_refused(rt: HostRuntime) -> Result<(), Fail> {
-    expect_refusals(&rt, rt.alloc(), MACHINE, ORDERS)
+fn levels_that_are_refused(rt: HostRuntime) {
+    expect_refusals(&rt, rt.alloc(), MACHINE, ORDERS);
 }
 
 #[test]
-fn locks_that_are_refused(rt: HostRuntime) -> Result<(), Fail> {
-    expect_refusals(&rt, rt.alloc(), MACHINE, LOCKS)
+fn locks_that_are_refused(rt: HostRuntime) {
+    expect_refusals(&rt, rt.alloc(), MACHINE, LOCKS);
 }
 
 #[test]
-fn keeps_that_are_refused(rt: HostRuntime) -> Result<(), Fail> {
-    expect_refusals(&rt, rt.alloc(), MACHINE, KEEPS)
+fn keeps_that_are_refused(rt: HostRuntime) {
+    expect_refusals(&rt, rt.alloc(), MACHINE, KEEPS);
 }
 
 #[test]
@@ -502,16 +524,40 @@ fn objects_without_a_caller_are_no_nodes(rt: HostRuntime) -> Result<(), Fail> {
     expect_shapes(&rt, rt.alloc(), CALLERS)
 }
 
+fn expect_apart_on(
+    rt: &impl Abort,
+    alloc: Global,
+    topology: &Topology,
+    plan: &Plan,
+    pus: &[u32],
+) -> Result<(), Fail>
+    requires { IsPlanFor topology.now plan.now }
+{
+    let shape = shape_of(rt, alloc, topology, plan, pus)?;
+    assert!(rt; are_apart(&shape));
+    Ok(())
+}
+
+fn expect_apart(
+    rt: &impl Abort,
+    alloc: Global,
+    topology: &Topology,
+    plan: &Plan,
+) -> Result<(), Fail>
+    requires { IsPlanFor topology.now plan.now }
+{
+    let mut pus = Vec::new(alloc);
+    spread(&mut pus, 256)?;
+    expect_apart_on(rt, alloc, topology, plan, &pus)
+}
+
 #[test]
 fn as_many_callers_and_objects_as_there_may_be(rt: HostRuntime) -> Result<(), Fail> {
     let alloc = rt.alloc();
     let tree = tree_of(&rt, alloc, b"Package:3 Group:1365 Group:1 Group:1 PU:1");
     let plan = read_plan(alloc, &tree, ("pu,group2,group1,group0,machine", None, "1"))?;
     let topology = Topology::from_tree(alloc, tree)?;
-    let pus = spread(alloc, 256)?;
-    let shape = shape_of(&rt, alloc, &topology, &plan, &pus)?;
-    assert!(rt; are_apart(&shape));
-    Ok(())
+    expect_apart(&rt, alloc, &topology, &plan)
 }
 
 #[test]

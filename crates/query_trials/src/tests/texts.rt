@@ -24,13 +24,16 @@ fn expect_printed(rt: &impl Abort, alloc: Global, tree: &Tree, set: &CpuSet) {
     expect_equal(rt, "the set", text.as_slice(), b"0x000000d0");
 }
 
+fn expect_read(rt: &impl Abort, alloc: Global, tree: &Tree) {
+    let words: [&[u8]; 2] = [b"package:1.core:0-", b"~pu:5"];
+    let terms = read_terms(alloc, tree, &words).expect(rt, "terms");
+    let set = select(tree, &terms, Numbering::Logical);
+    expect_printed(rt, alloc, tree, &set);
+}
+
 #[test]
 fn reads_and_prints(rt: HostRuntime) {
-    let tree = tree(&rt, rt.alloc(), PLAIN);
-    let words: [&[u8]; 2] = [b"package:1.core:0-", b"~pu:5"];
-    let terms = read_terms(rt.alloc(), &tree, &words).expect(&rt, "terms");
-    let set = select(&tree, &terms, Numbering::Logical);
-    expect_printed(&rt, rt.alloc(), &tree, &set);
+    expect_read(&rt, rt.alloc(), &tree(&rt, rt.alloc(), PLAIN));
 }
 
 // Names with dots between, and their layers.
@@ -42,15 +45,18 @@ const LAYERS: &[(&str, Option<&[Layer]>)] = &[
     ("pu.die", None),
 ];
 
-#[test]
-fn reads_layers(rt: HostRuntime) {
-    let tree = tree(&rt, rt.alloc(), PLAIN);
+fn expect_layers(rt: &impl Abort, alloc: Global, tree: &Tree) {
     for (names, wanted) in LAYERS {
-        match read_layers(rt.alloc(), &tree, names.as_bytes()).expect(&rt, "memory") {
-            Some(layers) => expect_equal(&rt, names, Some(layers.as_slice()), *wanted),
-            None => expect_equal(&rt, names, None, *wanted),
+        match read_layers(alloc, tree, names.as_bytes()).expect(rt, "memory") {
+            Some(layers) => expect_equal(rt, names, Some(layers.as_slice()), *wanted),
+            None => expect_equal(rt, names, None, *wanted),
         }
     }
+}
+
+#[test]
+fn reads_layers(rt: HostRuntime) {
+    expect_layers(&rt, rt.alloc(), &tree(&rt, rt.alloc(), PLAIN));
 }
 
 #[test]

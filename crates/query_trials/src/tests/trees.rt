@@ -18,16 +18,19 @@ fn expect_answers(rt: &impl Abort, alloc: Global, tree: &Tree, set: &CpuSet) {
     expect_equal(rt, "the largest", found.as_slice(), &[PACKAGE]);
 }
 
+fn expect_tree(rt: &impl Abort, alloc: Global, tree: &Tree) {
+    let terms = [read_term(alloc, tree, b"package:1.core:0-", 0).expect(rt, "a term")];
+    let set = select(tree, &terms, Numbering::Logical);
+    expect_set(rt, "the set", &set, "0xf0");
+    expect_equal(rt, "the weight", set.weight(), 4);
+    expect_answers(rt, alloc, tree, &set);
+    let fault = read_location(alloc, tree, b"die:0", 7).err();
+    let wanted = CalcFault::NoSuchType { word: 7 };
+    expect_equal(rt, "a bad location", fault, Some(wanted));
+}
+
 #[test]
 fn answers_on_a_tree(rt: HostRuntime) {
-    let alloc = rt.alloc();
-    let tree = tree(&rt, alloc, "Package:2 Core:2 PU:2");
-    let terms = [read_term(alloc, &tree, b"package:1.core:0-", 0).expect(&rt, "a term")];
-    let set = select(&tree, &terms, Numbering::Logical);
-    expect_set(&rt, "the set", &set, "0xf0");
-    expect_equal(&rt, "the weight", set.weight(), 4);
-    expect_answers(&rt, alloc, &tree, &set);
-    let fault = read_location(alloc, &tree, b"die:0", 7).err();
-    let wanted = CalcFault::NoSuchType { word: 7 };
-    expect_equal(&rt, "a bad location", fault, Some(wanted));
+    let text = "Package:2 Core:2 PU:2";
+    expect_tree(&rt, rt.alloc(), &tree(&rt, rt.alloc(), text));
 }

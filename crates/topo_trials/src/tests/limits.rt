@@ -30,28 +30,44 @@ const MOST_OBJECTS_END: &str = "
           PU L#4094 (P#4094)
 ";
 
-#[test]
-fn most_objects(rt: HostRuntime) {
-    let most = built(&rt, rt.alloc(), "Package:3 Group:1365 Group:1 Group:1 PU:1");
-    expect_equal(&rt, "PUs", count(&rt, &most, Layer::Depth(5)), 4095);
-    let middle = set(&rt, &most, Layer::Depth(1), 1);
-    expect_equal(&rt, "package 1", middle.weight(), 1365);
-    let last = set(&rt, &most, Layer::Depth(1), 2);
-    expect_equal(&rt, "package 2", last.first(), Some(2730));
-    let exported = most.export(rt.alloc()).expect(&rt, "memory");
-    expect_text(
-        &rt,
-        &exported,
+// A text that is shown: its lines and bytes, how it begins, and how it ends.
+type Long<'a> = ((usize, usize), &'a str, &'a str);
+
+fn expect_shown(rt: &impl Abort, alloc: Global, topology: &Topology, wanted: &Long) {
+    let (size, begin, end) = *wanted;
+    let shown = topology.show(alloc).expect(rt, "memory");
+    expect_long(rt, &shown, size, begin, end);
+}
+
+fn expect_exported(rt: &impl Abort, alloc: Global, topology: &Topology, wanted: &str) {
+    expect_text(rt, &topology.export(alloc).expect(rt, "memory"), wanted);
+}
+
+fn expect_thirds(rt: &impl Abort, most: &Topology) {
+    expect_equal(rt, "PUs", count(rt, most, Layer::Depth(5)), 4095);
+    let middle = set(rt, most, Layer::Depth(1), 1);
+    expect_equal(rt, "package 1", middle.weight(), 1365);
+    let last = set(rt, most, Layer::Depth(1), 2);
+    expect_equal(rt, "package 2", last.first(), Some(2730));
+}
+
+const MOST_OBJECTS: Long = ((16384, 358959), MOST_OBJECTS_BEGIN, MOST_OBJECTS_END);
+
+fn expect_most_objects(rt: &impl Abort, alloc: Global, most: &Topology) {
+    expect_thirds(rt, most);
+    expect_exported(
+        rt,
+        alloc,
+        most,
         "Package:3 Group:1365 Group:1 Group:1 PU:1\n",
     );
-    let shown = most.show(rt.alloc()).expect(&rt, "memory");
-    expect_long(
-        &rt,
-        &shown,
-        (16384, 358959),
-        MOST_OBJECTS_BEGIN,
-        MOST_OBJECTS_END,
-    );
+    expect_shown(rt, alloc, most, &MOST_OBJECTS);
+}
+
+#[test]
+fn most_objects(rt: HostRuntime) {
+    let text = "Package:3 Group:1365 Group:1 Group:1 PU:1";
+    expect_most_objects(&rt, rt.alloc(), &built(&rt, rt.alloc(), text));
 }
 
 const MOST_PUS_BEGIN: &str = "Machine L#0\n  NUMANode L#0 (P#0)\n  PU L#0 (P#0)\n";
@@ -65,12 +81,17 @@ fn expect_all(rt: &impl Abort, most: &Topology) {
     expect_equal(rt, "the last PU", most.leaf_of(4095), Some(4095));
 }
 
+const MOST_PUS: Long = ((4098, 83829), MOST_PUS_BEGIN, MOST_PUS_END);
+
+fn expect_most_pus(rt: &impl Abort, alloc: Global, most: &Topology) {
+    expect_all(rt, most);
+    expect_shown(rt, alloc, most, &MOST_PUS);
+}
+
 #[test]
 fn most_pus(rt: HostRuntime) {
-    let most = built(&rt, rt.alloc(), "[numa] PU:4096(indexes=1*4096)");
-    expect_all(&rt, &most);
-    let shown = most.show(rt.alloc()).expect(&rt, "memory");
-    expect_long(&rt, &shown, (4098, 83829), MOST_PUS_BEGIN, MOST_PUS_END);
+    let text = "[numa] PU:4096(indexes=1*4096)";
+    expect_most_pus(&rt, rt.alloc(), &built(&rt, rt.alloc(), text));
 }
 
 // A machine with interleaved PUs.

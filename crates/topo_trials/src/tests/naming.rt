@@ -1,10 +1,16 @@
 //! Which layer a word names.
 use super::*;
 
-fn expect_names(rt: &impl Abort, topology: &Topology, rows: &[(&str, Option<Layer>)]) {
+type Names<'a> = &'a [(&'a str, Option<Layer>)];
+
+fn expect_layers(rt: &impl Abort, topology: &Topology, rows: Names) {
     for (word, layer) in rows {
         expect_equal(rt, word, topology.layer_named(word.as_bytes()), *layer);
     }
+}
+
+fn expect_names(rt: &impl Abort, alloc: Global, text: &str, rows: Names) {
+    expect_layers(rt, &built(rt, alloc, text), rows);
 }
 
 // Names of kinds, in several cases.
@@ -67,25 +73,31 @@ const NO_LAYERS: &[(&str, Option<Layer>)] = &[
 #[test]
 fn kinds_in_any_case(rt: HostRuntime) {
     let text = "socket:1 [numa] die:1 l2:1 l1d:1 l1i:1 2 2";
-    expect_names(&rt, &built(&rt, rt.alloc(), text), KINDS);
+    expect_names(&rt, rt.alloc(), text, KINDS);
 }
 
 #[test]
 fn groups_by_number(rt: HostRuntime) {
     let text = "group7:1 package:1 group:1 pu:2";
-    expect_names(&rt, &built(&rt, rt.alloc(), text), TWO_GROUPS);
-    expect_names(&rt, &built(&rt, rt.alloc(), "Group:2 PU:1"), ONE_GROUP);
+    expect_names(&rt, rt.alloc(), text, TWO_GROUPS);
+    expect_names(&rt, rt.alloc(), "Group:2 PU:1", ONE_GROUP);
 }
 
 #[test]
 fn words_without_a_layer(rt: HostRuntime) {
-    expect_names(&rt, &built(&rt, rt.alloc(), "l3:2 pu:1"), NO_LAYERS);
+    expect_names(&rt, rt.alloc(), "l3:2 pu:1", NO_LAYERS);
 }
 
-fn expect_depths(rt: &impl Abort, topology: &Topology, rows: &[(&str, Option<u32>)]) {
+type Depths<'a> = &'a [(&'a str, Option<u32>)];
+
+fn expect_depths(rt: &impl Abort, topology: &Topology, rows: Depths) {
     for (word, depth) in rows {
         expect_equal(rt, word, topology.depth_named(word.as_bytes()), *depth);
     }
+}
+
+fn expect_depth_names(rt: &impl Abort, alloc: Global, text: &str, rows: Depths) {
+    expect_depths(rt, &built(rt, alloc, text), rows);
 }
 
 // Words, and the depths that they name.
@@ -100,14 +112,7 @@ const DEPTHS: &[(&str, Option<u32>)] = &[
 
 #[test]
 fn depths_by_name(rt: HostRuntime) {
-    expect_depths(
-        &rt,
-        &built(&rt, rt.alloc(), "Package:2 [numa] Core:3 PU:2"),
-        DEPTHS,
-    );
-    expect_depths(
-        &rt,
-        &built(&rt, rt.alloc(), "Core:2 PU:2"),
-        &[("numa", None)],
-    );
+    let text = "Package:2 [numa] Core:3 PU:2";
+    expect_depth_names(&rt, rt.alloc(), text, DEPTHS);
+    expect_depth_names(&rt, rt.alloc(), "Core:2 PU:2", &[("numa", None)]);
 }

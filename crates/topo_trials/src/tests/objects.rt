@@ -22,10 +22,12 @@ const DEPTHS: &[(u32, Kind, u32)] = &[
     (3, Kind::Pu, 12),
 ];
 
-fn expect_depth(rt: &impl Abort, topology: &Topology, depth: u32, wanted: (Kind, u32)) {
-    assert!(rt; depth < topology.depths());
-    let found = (topology.kind(depth), topology.count(Layer::Depth(depth)));
-    expect_equal(rt, "a depth", found, wanted);
+fn expect_depths(rt: &impl Abort, topology: &Topology) {
+    for (depth, kind, count) in DEPTHS {
+        assert!(rt; *depth < topology.depths());
+        let found = (topology.kind(*depth), topology.count(Layer::Depth(*depth)));
+        expect_equal(rt, "a depth", found, (*kind, *count));
+    }
 }
 
 // A description, how many depths it has, which of them carries the memory, and how many nodes there are.
@@ -49,10 +51,7 @@ fn layers(rt: HostRuntime) {
     for row in LAYERS {
         expect_layers(&rt, &built(&rt, rt.alloc(), row.0), row);
     }
-    let uneven = built(&rt, rt.alloc(), UNEVEN);
-    for (depth, kind, count) in DEPTHS {
-        expect_depth(&rt, &uneven, *depth, (*kind, *count));
-    }
+    expect_depths(&rt, &built(&rt, rt.alloc(), UNEVEN));
 }
 
 // An object's layer and index, its parent, the first and the number of its children, and its physical number.
@@ -89,12 +88,15 @@ fn expect_object(rt: &impl Abort, topology: &Topology, row: &Row) {
     expect_equal(rt, "a number", topology.physical(object), *number);
 }
 
+fn expect_objects(rt: &impl Abort, topology: &Topology) {
+    for row in OBJECTS {
+        expect_object(rt, topology, row);
+    }
+}
+
 #[test]
 fn parents_children_and_numbers(rt: HostRuntime) {
-    let topology = built(&rt, rt.alloc(), UNEVEN);
-    for row in OBJECTS {
-        expect_object(&rt, &topology, row);
-    }
+    expect_objects(&rt, &built(&rt, rt.alloc(), UNEVEN));
 }
 
 // A physical number, and the PU that has it.
@@ -107,12 +109,15 @@ const LEAVES: &[(u32, Option<u32>)] = &[
     (4294967295, None),
 ];
 
+fn expect_leaves(rt: &impl Abort, topology: &Topology) {
+    for (number, leaf) in LEAVES {
+        expect_equal(rt, "a PU", topology.leaf_of(*number), *leaf);
+    }
+}
+
 #[test]
 fn physical_numbers(rt: HostRuntime) {
-    let topology = built(&rt, rt.alloc(), UNEVEN);
-    for (number, leaf) in LEAVES {
-        expect_equal(&rt, "a PU", topology.leaf_of(*number), *leaf);
-    }
+    expect_leaves(&rt, &built(&rt, rt.alloc(), UNEVEN));
 }
 
 // Each number is that of its PU, in order, and names that PU.
@@ -151,7 +156,9 @@ fn numbers_of_loops(rt: HostRuntime) {
 }
 
 // A description, an object's layer and index, and the list of its set.
-const SETS: &[(&str, Layer, u32, &str)] = &[
+type SetRow<'a> = (&'a str, Layer, u32, &'a str);
+
+const SETS: &[SetRow] = &[
     (UNEVEN, MACHINE, 0, "0-5,10-14,4095"),
     (UNEVEN, PACKAGE, 0, "0-2,10-12"),
     (UNEVEN, PACKAGE, 1, "3-5,13-14,4095"),
@@ -162,13 +169,18 @@ const SETS: &[(&str, Layer, u32, &str)] = &[
     ("[numa] PU:3", Layer::Memory, 0, "0-2"),
 ];
 
+fn expect_list(rt: &impl Abort, alloc: Global, set: &CpuSet, wanted: &str) {
+    texts::expect_text(rt, &set.write_list(alloc).expect(rt, "memory"), wanted);
+}
+
+fn expect_set(rt: &impl Abort, alloc: Global, topology: &Topology, row: &SetRow) {
+    expect_list(rt, alloc, &set(rt, topology, row.1, row.2), row.3);
+}
+
 #[test]
 fn sets_of_objects(rt: HostRuntime) {
-    for (text, layer, index, wanted) in SETS {
-        let topology = built(&rt, rt.alloc(), text);
-        let found = set(&rt, &topology, *layer, *index);
-        let list = found.write_list(rt.alloc()).expect(&rt, "memory");
-        texts::expect_text(&rt, &list, wanted);
+    for row in SETS {
+        expect_set(&rt, rt.alloc(), &built(&rt, rt.alloc(), row.0), row);
     }
 }
 
@@ -195,15 +207,19 @@ fn expect_nested(rt: &impl Abort, topology: &Topology, depth: u32, index: u32)
 }
 
 // Of every two objects, whether the one's set is inside the other's, and whether two of a depth meet.
-#[test]
-fn sets_by_positions(rt: HostRuntime) {
-    let topology = built(&rt, rt.alloc(), "Package:2 Core:2 PU:2(indexes=2*4:1*2)");
+fn expect_positions(rt: &impl Abort, topology: &Topology) {
     for depth in 0..4u32 {
-        for index in 0..count(&rt, &topology, Layer::Depth(depth)) {
-            expect_disjoint(&rt, &topology, Layer::Depth(depth), index);
-            expect_nested(&rt, &topology, depth, index);
+        for index in 0..count(rt, topology, Layer::Depth(depth)) {
+            expect_disjoint(rt, topology, Layer::Depth(depth), index);
+            expect_nested(rt, topology, depth, index);
         }
     }
+}
+
+#[test]
+fn sets_by_positions(rt: HostRuntime) {
+    let text = "Package:2 Core:2 PU:2(indexes=2*4:1*2)";
+    expect_positions(&rt, &built(&rt, rt.alloc(), text));
 }
 
 // The depth and the index of each object, in the order of the tree.
@@ -226,26 +242,35 @@ const GROUPS: &[(u32, u32)] = &[(0, 0), (1, 0), (2, 1), (3, 1), (4, 2)];
 
 const TWO_GROUPS: &str = "[numa] Group:2 Core:1 Group:1 PU:2";
 
-#[test]
-fn order_of_the_tree(rt: HostRuntime) {
-    let topology = built(&rt, rt.alloc(), TWO_GROUPS);
-    let order = topology.tree_order(rt.alloc()).expect(&rt, "memory");
-    expect_equal(&rt, "all objects", order.len(), ORDER.len());
+fn expect_order(rt: &impl Abort, order: &[Object]) {
+    expect_equal(rt, "all objects", order.len(), ORDER.len());
     for place in 0..ORDER.len() {
         let (depth, index) = ORDER[place];
         let layer = Layer::Depth(depth);
         let wanted = Object { layer, index };
-        expect_equal(&rt, "an object", order.get(place), Some(&wanted));
+        expect_equal(rt, "an object", order.get(place), Some(&wanted));
+    }
+}
+
+fn expect_tree_order(rt: &impl Abort, alloc: Global, topology: &Topology) {
+    expect_order(rt, &topology.tree_order(alloc).expect(rt, "memory"));
+}
+
+#[test]
+fn order_of_the_tree(rt: HostRuntime) {
+    expect_tree_order(&rt, rt.alloc(), &built(&rt, rt.alloc(), TWO_GROUPS));
+}
+
+fn expect_groups(rt: &impl Abort, topology: &Topology) {
+    for (depth, number) in GROUPS {
+        assert!(rt; *depth < topology.depths());
+        expect_equal(rt, "a depth", topology.group_number(*depth), *number);
     }
 }
 
 #[test]
 fn numbers_of_groups(rt: HostRuntime) {
-    let topology = built(&rt, rt.alloc(), TWO_GROUPS);
-    for (depth, number) in GROUPS {
-        assert!(rt; *depth < topology.depths());
-        expect_equal(&rt, "a depth", topology.group_number(*depth), *number);
-    }
+    expect_groups(&rt, &built(&rt, rt.alloc(), TWO_GROUPS));
 }
 
 // How many depths the tree of something has.
@@ -261,13 +286,12 @@ fn expect_tree(rt: &impl Abort, tree: &Tree) {
     expect_equal(rt, "a depth", tree.depth_named(b"numa"), Some(1));
 }
 
+fn expect_four_depths(rt: &impl Abort, topology: &Topology) {
+    expect_equal(rt, "depths", depths(topology), 4);
+}
+
 #[test]
 fn topologies_and_trees_have_a_tree(rt: HostRuntime) {
-    let topology = built(&rt, rt.alloc(), UNEVEN);
-    expect_equal(&rt, "depths", depths(&topology), 4);
-    let description = read(rt.alloc(), UNEVEN.as_bytes()).expect(&rt, UNEVEN);
-    expect_tree(
-        &rt,
-        &Tree::build(rt.alloc(), description).expect(&rt, UNEVEN),
-    );
+    expect_four_depths(&rt, &built(&rt, rt.alloc(), UNEVEN));
+    expect_tree(&rt, &built_tree(&rt, rt.alloc(), UNEVEN));
 }

@@ -2,8 +2,7 @@
 use super::*;
 
 fn expect_texts(rt: &impl Abort, alloc: Global, text: &str, canonical: &str, shown: &str) {
-    let description = read(alloc, text.as_bytes()).expect(rt, text);
-    let tree = Tree::build(alloc, description).expect(rt, text);
+    let tree = built_tree(rt, alloc, text);
     expect_tree(rt, alloc, &tree, (canonical, shown));
     let topology = Topology::from_tree(alloc, tree).expect(rt, "memory");
     expect_topology(rt, alloc, &topology, (canonical, shown));

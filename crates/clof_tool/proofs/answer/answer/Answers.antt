@@ -1,10 +1,10 @@
 use Rattle.std.proofs.Common.{subst, sym}
 use Rattle.command_words.specs.Plain.{plain, plain_calculation, plain_distribution}
 use Rattle.command_words.specs.declared.asked.Asked.{Asked}
-use Rattle.clof_tool.specs.Answered.{AnswersUnrefused}
-use Rattle.clof_tool.specs.Outcome.{WordsRefused}
+use Rattle.clof_answers.specs.Answered.{AnswersUnrefused}
+use Rattle.clof_answers.specs.Outcome.{WordsRefused}
 use Rattle.command_texts.specs.declared.status.Status.{Status}
-use Rattle.clof_tool.proofs.Words.{calc_complete, distrib_complete, drill_complete, set_complete, topo_complete}
+use Rattle.clof_answers.proofs.Unrefused.{calc_complete, distrib_complete, drill_complete, set_complete, topo_complete}
 use Rattle.clof_tool.proofs.answer.answer.Goals as goal
 
 pub returns-in-Set-clause-complete : goal.returns-in-Set-clause-complete

@@ -3,8 +3,8 @@ use Rattle.std.specs.Prelude.{All}
 use Rattle.synth_text.specs.Rules.{pu_count}
 use Rattle.placed_runner.specs.declared.sections.Section.{Section}
 use Rattle.placed_runner.specs.Views.{section_view}
-use Rattle.clof_tool.proofs.Places.{input_pus}
-use Rattle.clof_tool.proofs.SectionRuns.{status_only, sections_not, only_memory}
+use Rattle.clof_answers.proofs.Places.{input_pus}
+use Rattle.clof_answers.proofs.SectionRuns.{status_only, sections_not, only_memory}
 use Rattle.clof_tool.proofs.running.run_text.Goals as goal
 
 pub returns-in-Ok-run_under-clause-refused : goal.returns-in-Ok-run_under-clause-refused

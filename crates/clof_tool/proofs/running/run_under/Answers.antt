@@ -1,10 +1,8 @@
 use Rattle.std.proofs.Common.{◌≡◌, length, map, rules, subst, sym}
 use Rattle.std.proofs.lemmas.Result.{IfOk-weaker}
-use Rattle.placed_runner.specs.Printed.{IsRun}
 use Rattle.placed_runner.specs.Views.{section_view}
-use Rattle.fresh_runner.specs.Receipts.{IsMarkedRun}
-use Rattle.clof_tool.specs.Run.{PrintsRun}
-use Rattle.clof_tool.proofs.Runs.{marks_under, none_printed, runs_under}
+use Rattle.clof_answers.specs.Run.{PrintsRun}
+use Rattle.clof_answers.proofs.Runs.{marks_under, none_printed, runs_under}
 use Rattle.clof_tool.proofs.running.run_under.Goals as goal
 
 pub returns-then-is_empty : goal.returns-then-is_empty
@@ -16,17 +14,15 @@ returns-then-is_empty g c =
 pub returns-then-asked : goal.returns-then-asked
 returns-then-asked g c =
     let sections = c.args.sections.now in
-    IfOk-weaker c.printed_with_receipts.result _ _ (λ text is.
+    IfOk-weaker c.marked_text.result _ _ (λ text is.
     subst (λ r. PrintsRun r c.args.tree.now c.args.plan.now (map section_view sections) text.items) (sym c.if-asked.true)
-    (marks_under c.args.tree.now c.args.plan.now sections c.in_ok-shape.shape text.items c.in_ok-shape.ensures.shape
-    (subst (λ s. IsMarkedRun (map section_view sections) s text.items) c.in_ok-made.ensures.shape is)))
-    c.printed_with_receipts.ensures.run
+    (marks_under c.args.tree.now c.args.plan.now sections c.in_ok-shape.shape text.items c.in_ok-shape.ensures.shape is))
+    c.marked_text.ensures
 
 pub returns : goal.returns
 returns g c =
     let sections = c.args.sections.now in
-    IfOk-weaker c.printed.result _ _ (λ text is.
+    IfOk-weaker c.plain_text.result _ _ (λ text is.
     subst (λ r. PrintsRun r c.args.tree.now c.args.plan.now (map section_view sections) text.items) (sym c.if-asked.false)
-    (runs_under c.args.tree.now c.args.plan.now sections c.in_ok-shape.shape text.items c.in_ok-shape.ensures.shape
-    (subst (λ s. IsRun (map section_view sections) s text.items) c.in_ok-left.ensures.shape is)))
-    c.printed.ensures.run
+    (runs_under c.args.tree.now c.args.plan.now sections c.in_ok-shape.shape text.items c.in_ok-shape.ensures.shape is))
+    c.plain_text.ensures

@@ -2,7 +2,7 @@ use Rattle.std.proofs.Common.{Err, inl, inr, ap, subst}
 use Rattle.std.proofs.lemmas.Result.{IfOk-weaker, IfErr-weaker}
 use Rattle.command_texts.specs.Ends.{IsRefusal}
 use Rattle.command_texts.proofs.OnTopologies.{err_again, not_refused}
-use Rattle.clof_tool.proofs.Stops.{memory_again}
+use Rattle.clof_answers.proofs.Stops.{memory_again}
 use Rattle.clof_tool.proofs.serving.run_in.Goals as goal
 
 pub returns-in-Ok-clause-answer : goal.returns-in-Ok-clause-answer

@@ -9,9 +9,9 @@ use Rattle.command_texts.specs.Ends.{IsRefusal, EndsEarly}
 use Rattle.plan_texts.specs.RunPlan.{RefusesPlan}
 use Rattle.command_texts.specs.TopoText.{DescribesBuilt}
 use Rattle.command_texts.proofs.OnTopologies.{early_silent, err_again, not_refused}
-use Rattle.clof_tool.specs.Run.{RefusesPlanned}
-use Rattle.clof_tool.specs.Outcome.{FoundPlanned, HasCause}
-use Rattle.clof_tool.proofs.Stops.{memory_again}
+use Rattle.clof_answers.specs.Run.{RefusesPlanned}
+use Rattle.clof_answers.specs.Outcome.{FoundPlanned, HasCause}
+use Rattle.clof_answers.proofs.Stops.{memory_again}
 use Rattle.clof_tool.proofs.serving.run_on.Goals as goal
 
 -- the cause of a refusal on what is described

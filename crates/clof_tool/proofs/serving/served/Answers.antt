@@ -3,7 +3,7 @@ use Rattle.std.specs.Prelude.{IfSome}
 use Rattle.command_texts.specs.declared.status.Fault.TheVariants.{Input}
 use Rattle.command_texts.specs.declared.status.Status.TheVariants as statuses
 use Rattle.run_check.specs.Pairs.{input_limit}
-use Rattle.clof_tool.specs.Run.{RefusesSections}
+use Rattle.clof_answers.specs.Run.{RefusesSections}
 use Rattle.clof_tool.proofs.serving.served.Goals as goal
 
 pub returns-in-Ok-clause-input_refused : goal.returns-in-Ok-clause-input_refused

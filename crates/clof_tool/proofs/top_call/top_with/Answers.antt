@@ -2,8 +2,8 @@ use Rattle.std.proofs.Common.{◌≡◌, ℕ, List, subst, sym, inl, inr}
 use Rattle.std.specs.Prelude.{IfErr}
 use Rattle.command_words.specs.Asked.{Asked}
 use Rattle.command_words.specs.Plain.{plain}
-use Rattle.clof_tool.specs.Outcome.{WordsRefused, HasRead, IsAccepted, IsAnswer, ReadsInput}
-use Rattle.clof_tool.proofs.Stops.{stopped_text, from_text}
+use Rattle.clof_answers.specs.Outcome.{WordsRefused, HasRead, IsAccepted, IsAnswer, ReadsInput}
+use Rattle.clof_answers.proofs.Stops.{stopped_text, from_text}
 use Rattle.clof_tool.proofs.top_call.top_with.Goals as goal
 
 pub returns-clause-words_refused : goal.returns-clause-words_refused

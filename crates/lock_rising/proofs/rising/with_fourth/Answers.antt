@@ -1,4 +1,4 @@
-use Rattle.std.proofs.Common.{◌≡◌, ◌+◌, ◌-◌, arith, subst}
+use Rattle.std.proofs.Common.{◌≡◌, ◌+◌, arith, subst}
 use Rattle.lock_levels.proofs.Raised.{risen}
 use Rattle.lock_levels.proofs.MadeKinds.{kinds_from}
 use Rattle.lock_rising.proofs.rising.with_fourth.Goals as goal

@@ -17,7 +17,7 @@ use Rattle.cohort_desks.proofs.Crossing.{desk_sent}
 use Rattle.cohort_runner.proofs.Crossing.{caller_sent}
 use Rattle.cohort_runner.specs.contracts.caller.CallerNumbered.TheImpl as numbered
 use Rattle.threaded_runner.specs.Books.{book_tag}
-use Rattle.planned_runner.proofs.Crossing.{room_shared}
+use Rattle.run_work.proofs.Crossing.{room_shared}
 use Rattle.planned_runner.proofs.shared_runs.run_shared.Goals as goal
 
 pub rise_flat-requires-clause-may : goal.rise_flat-requires-clause-may
@@ -30,7 +30,7 @@ rise_flat-requires-clause-may g c κs within =
       few = omega (arith, c.requires.few, c.requires.callers);
       shape_is = shape_named book_tag c.in_ok-root.root c.args.shape.now same;
       kinds_each = c.requires.plan;
-      dealt_is = (c.in_ok-root.ensures.dealt, at_home);
+      dealt_is = (c.in_ok-root.ensures.dealt, at_home, c.args.sharing.some_threads);
     }
 
 pub rise-requires-clause-may : goal.rise-requires-clause-may
@@ -43,7 +43,7 @@ rise-requires-clause-may g c κs within =
       few = omega (arith, c.requires.few, c.requires.callers);
       shape_is = shape_named book_tag c.in_ok-root.root c.args.shape.now same;
       kinds_each = c.requires.plan;
-      dealt_is = (c.in_ok-root.ensures.dealt, at_home);
+      dealt_is = (c.in_ok-root.ensures.dealt, at_home, c.args.sharing.some_threads);
     }
 
 -- what the tag of an idle pass means, of a top lock and of one of more levels

@@ -1,0 +1,12 @@
+pub mod Checks
+pub mod Drills
+pub mod Judgements
+pub mod DrilledMachine
+pub mod Marks
+pub mod Pairs
+pub mod Places
+pub mod Plans
+pub mod Runs
+pub mod SectionRuns
+pub mod Stops
+pub mod Unrefused
