@@ -3,6 +3,7 @@ use std::alloc::Global;
 use std::fmt::{Debug, Display};
 use std::process::Abort;
 
+mod descriptions;
 mod sets;
 mod streams;
 mod texts;

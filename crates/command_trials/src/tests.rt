@@ -5,6 +5,7 @@ mod options;
 mod plan;
 mod set;
 mod topo;
+mod words;
 
 use calc_query::CalcFault;
 use command_texts::{

@@ -1,4 +1,5 @@
-//! Tests of the four basic locks. They stand in a crate of their own, so that each lock is proved once and carries no harness.
+//! Tests of the four basic locks, and of the records that stand beside a lock: the trail of its turns, and the counted history of its
+//! payload. They stand in a crate of their own, so that each of these is proved once and no lock carries a harness.
 #![tactic(auto)]
 
 #[cfg(test)]

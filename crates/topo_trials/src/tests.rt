@@ -13,6 +13,7 @@ mod faults;
 mod limits;
 mod naming;
 mod objects;
+mod queries;
 mod texts;
 
 // What was found at a row of a table is what the row wants.

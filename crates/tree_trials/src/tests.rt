@@ -3,7 +3,9 @@ ghost use Rattle.std.specs.Prelude.{◌^◌, ◌<◌, sum};
 ghost use Rattle.std.specs.Bool.{OnTrue};
 
 mod any_lock;
+mod cohorts;
 mod made;
+mod own;
 mod steps;
 mod threads;
 mod walks;

@@ -1,6 +1,0 @@
-use Rattle.std.proofs.Common.{◌≡◌}
-use Rattle.cohort_queue.specs.States.{IsSeatOf}
-use Rattle.cohort_trials.proofs.tests.callers_come_round.Given as goal
-
-abbrev pub invariant-loop-want : goal.invariant-loop-want
-invariant-loop-want g l = record { of : IsSeatOf l.cohort l.first; number : l.first.seat ≡ 1 }

@@ -1,3 +1,0 @@
-//! The tests, by what tells of a lock's holds.
-mod tokens;
-mod trails;
