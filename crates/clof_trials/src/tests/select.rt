@@ -91,5 +91,5 @@ fn ends_otherwise(rt: HostRuntime) -> Result<(), Fail> {
     ends(&rt, alloc, ("select PU:1", lines.as_bytes()), ending, "")?;
     let long = vec![in alloc; b'x'; 16_777_217]?;
     let ending = (Some(Limit(Input)), 4, "clof: input\n");
-    ends(&rt, alloc, ("select PU:1", &long), ending, "")
+    ends(&rt, alloc, ("select PU:1", long.as_slice()), ending, "")
 }
