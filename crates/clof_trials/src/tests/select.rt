@@ -1,9 +1,14 @@
 //! `select`: texts, refusals, and which of two comes.
 use super::{Printed, Refused, ends, prints_each, refuses_each};
 use clof_tool::Fault::{Input, Select};
+use clof_tool::Status;
 use clof_tool::Status::{Limit, Malformed, Usage};
 use lock_select::SelectFault::{Keep, Line, Place, TooManyTurns, Weights};
+use std::alloc::Global;
+use std::process::Abort;
+use std::sync::Wait;
 use std::test::Fail;
+use std::thread::Threads;
 
 const TURNS: &[u8] = b"0\n1\n0\n1\n2\n3\n2\n3\n";
 
@@ -79,6 +84,18 @@ fn refuses_weights_keeps_and_lines(rt: HostRuntime) -> Result<(), Fail> {
     refuses_each(&rt, rt.alloc(), 3, BROKEN)
 }
 
+// More lines, or more bytes, than there may be.
+fn is_too_long<R: Threads + Wait + Sync + Abort>(
+    rt: &R,
+    alloc: Global,
+    input: &[u8],
+    status: Status,
+    told: &str,
+) -> Result<(), Fail> {
+    let ending = (Some(status), 4, told);
+    ends(rt, alloc, ("select PU:1", input), ending, "")
+}
+
 // Too few words, too many lines, and too many bytes, which come before what is wrong with the lines.
 #[test]
 fn ends_otherwise(rt: HostRuntime) -> Result<(), Fail> {
@@ -86,10 +103,14 @@ fn ends_otherwise(rt: HostRuntime) -> Result<(), Fail> {
     let ending = (Some(Usage), 2, "clof: usage\n");
     ends(&rt, alloc, ("select", b""), ending, "")?;
     let lines = "0\n".repeat(alloc, 16_385)?;
-    let status = Some(Limit(Select(TooManyTurns)));
-    let ending = (status, 4, "clof: select TooManyTurns\n");
-    ends(&rt, alloc, ("select PU:1", lines.as_bytes()), ending, "")?;
+    let status = Limit(Select(TooManyTurns));
+    is_too_long(
+        &rt,
+        alloc,
+        lines.as_bytes(),
+        status,
+        "clof: select TooManyTurns\n",
+    )?;
     let long = vec![in alloc; b'x'; 16_777_217]?;
-    let ending = (Some(Limit(Input)), 4, "clof: input\n");
-    ends(&rt, alloc, ("select PU:1", long.as_slice()), ending, "")
+    is_too_long(&rt, alloc, &long, Limit(Input), "clof: input\n")
 }
