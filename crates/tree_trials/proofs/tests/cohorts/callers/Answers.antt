@@ -2,7 +2,7 @@ use Rattle.std.proofs.Common.{◌≡◌, ◌+◌, ◌∷◌, [], List, length, m
 use Rattle.std.proofs.lemmas.List.{length-append, map-append}
 use Rattle.cohort_queue.specs.Numbers.{times}
 use Rattle.tree_trials.proofs.Numbers.{one_more}
-use Rattle.tree_trials.specs.declared.tests.Caller.{Caller}
+use Rattle.tree_trials.specs.declared.tests.cohorts.Caller.{Caller}
 use Rattle.tree_trials.proofs.tests.cohorts.callers.Goals as goal
 
 pub loop-number-preserved : goal.loop-number-preserved
