@@ -5,7 +5,7 @@ use Rattle.keep_local.specs.declared.shape.Shape.{Shape}
 use Rattle.lock_plan.specs.declared.plan.Plan.{Plan}
 use Rattle.lock_plan.specs.Plans.{IsPlanFor}
 use Rattle.lock_plan.proofs.Plans.{plan_is_for}
-use Rattle.placed_runner.specs.Sections.{Placed}
+use Rattle.run_texts.specs.Callers.{Placed}
 use Rattle.run_check.specs.declared.verdict.Verdict.{Verdict}
 use Rattle.run_check.specs.declared.verdict.Verdict.TheVariants.{Yes, No}
 use Rattle.run_check.specs.Broken.{IsFirstBroken}

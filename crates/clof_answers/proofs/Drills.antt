@@ -11,9 +11,9 @@ use Rattle.kv_history.specs.Log.{Log}
 use Rattle.synth_text.specs.declared.description.Description.{Description}
 use Rattle.synth_text.specs.Rules.{pu_count}
 use Rattle.synth_text.specs.Sound.{IsSound}
-use Rattle.placed_runner.specs.declared.sections.Section.{Section}
+use Rattle.run_texts.specs.declared.section.Section.{Section}
 use Rattle.placed_runner.specs.Sections.{anywhere, placed}
-use Rattle.placed_runner.specs.Views.{section_view}
+use Rattle.run_texts.specs.Views.{section_view}
 use Rattle.threaded_runner.specs.Finished.{IsFinished}
 use Rattle.threaded_runner.proofs.Sums.{sum_sections}
 use Rattle.drill_text.specs.Drill.{HaveGivenAll}

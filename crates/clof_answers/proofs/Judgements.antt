@@ -4,9 +4,10 @@ use Rattle.synth_text.specs.declared.description.Description.{Description}
 use Rattle.keep_local.specs.declared.shape.Shape.{Shape}
 use Rattle.lock_plan.specs.declared.plan.Plan.{Plan}
 use Rattle.lock_plan.specs.Shapes.{IsShapeOf}
-use Rattle.placed_runner.specs.declared.sections.Section.{Section}
-use Rattle.placed_runner.specs.Sections.{Placed, Sections}
-use Rattle.placed_runner.specs.Views.{section_view}
+use Rattle.run_texts.specs.declared.section.Section.{Section}
+use Rattle.run_texts.specs.Callers.{Placed}
+use Rattle.placed_runner.specs.Sections.{Sections}
+use Rattle.run_texts.specs.Views.{section_view}
 use Rattle.placed_runner.proofs.Uniqueness.{refusal_once}
 use Rattle.run_faults.specs.declared.fault.CheckFault.{CheckFault}
 use Rattle.run_check.specs.declared.verdict.Verdict.{Verdict}

@@ -6,9 +6,9 @@ use Rattle.std.proofs.Math.Seq.{take-append_seam}
 use Rattle.keep_local.specs.declared.shape.Shape.{Shape}
 use Rattle.keep_local.specs.Shapes.{top_of}
 use Rattle.kv_history.specs.Answer.{store_of}
-use Rattle.placed_runner.specs.Sections.{Placed}
-use Rattle.placed_runner.specs.Text.{Hold, caller_line, caller_lines, run_text}
-use Rattle.placed_runner.proofs.Printed.{can_be_held}
+use Rattle.run_texts.specs.Callers.{Placed}
+use Rattle.run_texts.specs.Text.{Hold, caller_line, caller_lines, run_text}
+use Rattle.run_texts.proofs.Printed.{can_be_held}
 use Rattle.run_check.specs.Lines.{lines, turn_count}
 use Rattle.run_check.specs.Made.{MakeLines}
 use Rattle.run_check.proofs.Comings.{all_told, made_many}

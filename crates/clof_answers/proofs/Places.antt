@@ -21,10 +21,11 @@ use Rattle.calc_query.specs.Readings.{location_of}
 use Rattle.calc_query.specs.Selection.{selected}
 use Rattle.placed_runner.specs.declared.place.Place.{Place}
 use Rattle.placed_runner.specs.declared.place.Place.TheVariants.{Anywhere, On}
-use Rattle.placed_runner.specs.declared.sections.Section.{Section}
+use Rattle.run_texts.specs.declared.section.Section.{Section}
 use Rattle.placed_runner.specs.Places.{first_pu, located_pu, lone_pu, mask_pu, masks_of, place_of, pu_on}
-use Rattle.placed_runner.specs.Sections.{Placed, ReadsTo, Sections, Written, anywhere, placed, placed_at}
-use Rattle.placed_runner.specs.Views.{section_view}
+use Rattle.run_texts.specs.Callers.{Placed}
+use Rattle.placed_runner.specs.Sections.{ReadsTo, Sections, Written, anywhere, placed, placed_at}
+use Rattle.run_texts.specs.Views.{section_view}
 
 module _ (described : Description) (sound : IsSound described) where
   -- a PU of the topology

@@ -17,9 +17,10 @@ use Rattle.lock_plan.specs.Plans.{IsPlanFor}
 use Rattle.lock_plan.proofs.Plans.{plan_is_for}
 use Rattle.run_faults.specs.declared.fault.SectionFault.{SectionFault}
 use Rattle.run_faults.specs.declared.fault.SectionFault.TheVariants as section
-use Rattle.placed_runner.specs.Sections.{caller_limit, IsRefused, Placed, Sections, placed, placed_at}
-use Rattle.placed_runner.specs.Printed.{IsRun}
-use Rattle.placed_runner.proofs.Printed.{one_history_lem}
+use Rattle.run_texts.specs.Callers.{caller_limit, Placed}
+use Rattle.placed_runner.specs.Sections.{IsRefused, Sections, placed, placed_at}
+use Rattle.run_texts.specs.Printed.{IsRun}
+use Rattle.run_texts.proofs.Printed.{one_history_lem}
 use Rattle.placed_runner.proofs.Readings.{one_applies}
 use Rattle.placed_runner.proofs.Uniqueness.{refusal_once, sections_once, not_both}
 use Rattle.command_words.specs.Asked.{Running}

@@ -4,7 +4,8 @@ use Rattle.synth_text.specs.declared.description.Description.{Description}
 use Rattle.keep_local.specs.declared.shape.Shape.{Shape}
 use Rattle.lock_plan.specs.declared.plan.Plan.{Plan}
 use Rattle.lock_plan.specs.Shapes.{IsShapeOf}
-use Rattle.placed_runner.specs.Sections.{Placed, Sections}
+use Rattle.run_texts.specs.Callers.{Placed}
+use Rattle.placed_runner.specs.Sections.{Sections}
 use Rattle.run_faults.specs.declared.fault.CheckFault.{CheckFault}
 use Rattle.run_check.specs.declared.verdict.Verdict.{Verdict}
 use Rattle.run_check.specs.declared.verdict.Verdict.TheVariants.{Yes, No}

@@ -1,7 +1,8 @@
 -- What holds of every run, and of every check of one.
 use Rattle.std.specs.Prelude.{◌≡◌, ◌≤◌, ◌⊎◌, ◌↔◌, ℕ, List, length}
 use Rattle.synth_text.specs.declared.description.Description.{Description}
-use Rattle.placed_runner.specs.Sections.{Placed, Sections}
+use Rattle.run_texts.specs.Callers.{Placed}
+use Rattle.placed_runner.specs.Sections.{Sections}
 use Rattle.command_texts.specs.declared.status.Status.{Status}
 use Rattle.run_check.specs.declared.verdict.Verdict.TheVariants.{Yes}
 use Rattle.run_check.specs.Pairs.{ArePair}

@@ -6,9 +6,10 @@ use Rattle.lock_plan.specs.declared.plan.Plan.{Plan}
 use Rattle.lock_plan.specs.Shapes.{IsShapeOf}
 use Rattle.run_faults.specs.declared.fault.SectionFault.{SectionFault}
 use Rattle.run_faults.specs.declared.fault.SectionFault.TheVariants as section
-use Rattle.placed_runner.specs.Sections.{Placed, Sections, IsRefused}
-use Rattle.placed_runner.specs.Printed.{IsRun}
-use Rattle.placed_runner.specs.Text.{Hold}
+use Rattle.run_texts.specs.Callers.{Placed}
+use Rattle.placed_runner.specs.Sections.{Sections, IsRefused}
+use Rattle.run_texts.specs.Printed.{IsRun}
+use Rattle.run_texts.specs.Text.{Hold}
 use Rattle.run_check.specs.Pairs.{input_limit}
 use Rattle.fresh_runner.specs.Receipts.{IsMarkedRun}
 use Rattle.command_texts.specs.declared.status.Fault.TheVariants.{Section, Input}

@@ -3,8 +3,8 @@ ghost use Rattle.std.specs.Prelude.{◌≡◌, ◌<◌, ◌≤◌, ◌^◌, All,
 ghost use Rattle.out_of_memory.specs.Memory.{UnlessMemory};
 ghost use Rattle.synth_text.specs.Rules.{pu_count};
 ghost use Rattle.lock_plan.specs.Plans.{IsPlanFor};
-ghost use Rattle.placed_runner.specs.Sections.{caller_limit};
-ghost use Rattle.placed_runner.specs.Views.{section_view};
+ghost use Rattle.run_texts.specs.Callers.{caller_limit};
+ghost use Rattle.run_texts.specs.Views.{section_view};
 ghost use Rattle.command_texts.specs.declared.status.Status.{Status as AnyStatus};
 ghost use Rattle.command_texts.specs.Ends.{EndsEarly};
 ghost use Rattle.clof_answers.specs.Run.{RefusesSections};

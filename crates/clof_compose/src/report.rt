@@ -3,7 +3,7 @@ ghost use Rattle.std.specs.Prelude.{◌≡◌};
 ghost use Rattle.keep_local.specs.States.{no_receipt};
 ghost use Rattle.clof_compose.specs.Reports.{no_report};
 
-use keep_local::Receipt;
+use keep_local::ClosedReceipt;
 use std::mem;
 
 /// The tests of the turn that a release closed, and the trail's receipt of those of all turns up to it. A pass that has released nothing
@@ -11,7 +11,7 @@ use std::mem;
 #[derive(Drop)]
 pub struct Report {
     pub tests: u32,
-    pub receipt: Receipt,
+    pub receipt: ClosedReceipt,
 }
 
 impl Report {
@@ -20,7 +20,7 @@ impl Report {
     {
         Report {
             tests: 0,
-            receipt: Receipt::blank(),
+            receipt: ClosedReceipt::blank(),
         }
     }
 
@@ -31,7 +31,7 @@ impl Report {
     {
         Report {
             tests: self.tests,
-            receipt: mem::replace(&mut self.receipt, Receipt::blank()),
+            receipt: mem::replace(&mut self.receipt, ClosedReceipt::blank()),
         }
     }
 }

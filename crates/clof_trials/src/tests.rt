@@ -1,20 +1,14 @@
 //! The top call over sources and sinks in memory. A row of a table is one call: what it is asked, and how it ends.
 mod checks;
-mod cohorts;
 mod examples;
 mod faults;
-mod gates;
-mod kinds;
 mod limits;
 mod plans;
 mod process;
 mod receipts;
 mod refusals;
-mod sections;
 mod select;
 mod sizes;
-mod threads;
-mod walks;
 mod words;
 
 use clof_tool::{Status, top_with};
@@ -105,14 +99,6 @@ fn has_text(rt: &impl Abort, line: &str, text: &[u8], wanted: &str) {
 
 fn has_number(rt: &impl Abort, line: &str, number: usize, wanted: usize) {
     assert_eq!(rt; number, wanted, "at {line}");
-}
-
-// Checks how often parts stand in a text.
-fn has_parts(rt: &impl Abort, text: &str, parts: &[(&str, usize)]) {
-    for row in parts {
-        let (part, times) = *row;
-        has_number(rt, part, text.matches(part).count(), times);
-    }
 }
 
 // Checks how a call ends, and what it prints.

@@ -12,7 +12,7 @@ use crate::run::{Lists, Run};
 use crate::serving::job_of;
 use clof_compose::{Resting, Waits};
 use cohort_desks::close_all;
-use placed_runner::Gate;
+use run_texts::Gate;
 use std::sync::Wait;
 use threaded_runner::{Book, Crew, Job, crew_of, serve};
 

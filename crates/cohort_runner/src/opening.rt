@@ -17,7 +17,7 @@ use crate::run::{Lists, Run};
 use clof_compose::{Composed, Resting};
 use cohort_desks::{Hall, deal, empty_hall, seat};
 use keep_local::Share;
-use placed_runner::Section;
+use run_texts::Section;
 use std::alloc::Global;
 use std::sync::Wait;
 use threaded_runner::{Book, Crew, Job, Prepared, not_started, prepare};

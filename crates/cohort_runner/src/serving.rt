@@ -11,7 +11,7 @@ use crate::roll::Roll;
 use clof_compose::{Composed, Resting, Waits};
 use cohort_desks::{Desk, settle_at, take_from};
 use cohort_queue::Cohort;
-use placed_runner::Gate;
+use run_texts::Gate;
 use std::sync::Wait;
 use threaded_runner::{Book, Job, give_next};
 

@@ -4,7 +4,7 @@ ghost use Rattle.fresh_root.specs.Prefixes.{IsPrefixOf};
 ghost use Rattle.fresh_root.specs.States.{AreAll};
 ghost use Rattle.fresh_root.specs.Views.{first_view};
 
-use crate::plays::{Append, Called, Copy, FreshRule, Keep, Look};
+use crate::plays::{Append, Called, CopyList, FreshRule, Keep, Look};
 use crate::seen::Seen;
 use crate::view::View;
 use atomic_table::{Badge, Seat, Shared, Table};
@@ -77,10 +77,10 @@ impl History {
         let mut seat = badge.into_seat();
         let table = &self.table;
         let words = &table.shared;
-        let copy = words.split_seat::<Copy>(&mut seat);
+        let copy = words.split_seat::<CopyList>(&mut seat);
         words.join_seat::<Keep>(&mut self.home, copy);
         let count = words.load::<Look>(&mut self.home, COUNT);
-        let copy = words.split_seat::<Copy>(&mut self.home);
+        let copy = words.split_seat::<CopyList>(&mut self.home);
         words.join_seat::<Keep>(&mut seat, copy);
         seen.badge = seat.into_badge();
         seen.length = count as u32;
@@ -110,7 +110,7 @@ fn split_seens(words: &Words, home: &mut Seat<(), View>, tokens: u32, room: Vec<
 {
     let mut seens = room;
     for caller in 0..tokens {
-        let badge = words.split_seat::<Copy>(home).into_badge();
+        let badge = words.split_seat::<CopyList>(home).into_badge();
         let seen = Seen {
             badge,
             caller,

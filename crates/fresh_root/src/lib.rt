@@ -19,6 +19,6 @@ pub use laws::{
     freshes_may_be_sent, histories_may_be_sent, histories_may_be_shared, marks_stand,
     no_release_while_out, tags_tell, what_was_seen_is_ordered,
 };
-pub use plays::{Append, Called, Copy, FreshRule, Keep, Look};
+pub use plays::{Append, Called, CopyList, FreshRule, Keep, Look};
 pub use seen::Seen;
 pub use view::View;

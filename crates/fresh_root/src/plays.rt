@@ -41,9 +41,9 @@ impl Play<(), View> for Look {
 }
 
 /// A list is copied into a new view, which isn't home.
-pub struct Copy;
+pub struct CopyList;
 
-impl Split<View> for Copy {
+impl Split<View> for CopyList {
     ghost left = { itself };
 
     ghost right = { copy_of };

@@ -11,12 +11,12 @@ use Rattle.keep_local.specs.Shapes.{top_of}
 use Rattle.keep_local.specs.States.{TrailState, callers_in}
 use Rattle.keep_local.specs.Turns.{IsLawful, last_turn}
 use Rattle.kv_history.specs.Log.{Log, EachHasSection}
-use Rattle.placed_runner.specs.Sections.{Placed}
-use Rattle.placed_runner.specs.Text.{Hold, commands_behind, run_text, text_of, turns_text}
-use Rattle.placed_runner.specs.Views.{section_view}
-use Rattle.placed_runner.specs.declared.sections.Section.{Section}
-use Rattle.placed_runner.proofs.Printed.{count-held, hold_of, turns_are}
-use Rattle.placed_runner.proofs.Texts.{bytes_of}
+use Rattle.run_texts.specs.Callers.{Placed}
+use Rattle.run_texts.specs.Text.{Hold, commands_behind, run_text, text_of, turns_text}
+use Rattle.run_texts.specs.Views.{section_view}
+use Rattle.run_texts.specs.declared.section.Section.{Section}
+use Rattle.run_texts.proofs.Printed.{count-held, hold_of, turns_are}
+use Rattle.run_texts.proofs.Texts.{bytes_of}
 use Rattle.threaded_runner.specs.Finished.{IsFinished}
 use Rattle.fresh_runner.specs.Marked.{AreMarked}
 use Rattle.fresh_runner.specs.Places.{places_of}

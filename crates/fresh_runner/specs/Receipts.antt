@@ -2,8 +2,8 @@
 use Rattle.std.specs.Prelude.{◌≡◌, ℕ, List, ◌++◌, map, codes, decimal}
 use Rattle.std.specs.List.{enumerate_from, flat_map}
 use Rattle.keep_local.specs.declared.shape.Shape.{Shape}
-use Rattle.placed_runner.specs.Printed.{IsRun}
-use Rattle.placed_runner.specs.Sections.{Placed}
+use Rattle.run_texts.specs.Printed.{IsRun}
+use Rattle.run_texts.specs.Callers.{Placed}
 use Rattle.fresh_runner.specs.Places.{places_of}
 use Rattle.fresh_runner.specs.declared.account.Marks.{Marks}
 

@@ -15,7 +15,7 @@ use crate::lists::Lists;
 use clof_compose::{Composed, Resting};
 use keep_local::Share;
 use mc_text::Commands;
-use placed_runner::Section;
+use run_texts::Section;
 use std::alloc::{AllocError, Global};
 
 /// Of each share empty marks with room for all turns of its caller.

@@ -20,7 +20,7 @@ use crate::waiting::acquire;
 use clof_compose::{Composed, Resting, Root, Standing, Waits};
 use fresh_root::Fresh;
 use mc_text::{Command, Commands};
-use placed_runner::Gate;
+use run_texts::Gate;
 use std::sync::Wait;
 use threaded_runner::Book;
 

@@ -1,7 +1,7 @@
 //! The printed text of a run with its receipts.
 ghost use Rattle.std.specs.Prelude.{◌≡◌, ◌++◌, length, map, IfOk, OnOk};
 ghost use Rattle.keep_local.specs.States.{callers_in};
-ghost use Rattle.placed_runner.specs.Views.{section_view};
+ghost use Rattle.run_texts.specs.Views.{section_view};
 ghost use Rattle.threaded_runner.specs.Finished.{IsFinished};
 ghost use Rattle.fresh_runner.specs.Marked.{AreMarked};
 ghost use Rattle.fresh_runner.specs.Receipts.{IsMarkedRun, marks_lines, receipts_line, spaced};
@@ -10,7 +10,7 @@ use crate::account::Marks;
 use crate::finishing::Marked;
 use byte_text::push_decimal;
 use out_of_memory::OutOfMemory;
-use placed_runner::{Section, text};
+use run_texts::{Section, text};
 use std::alloc::{AllocError, Global};
 
 // The bytes of a caller's line beside the digits of its number and its turns.

@@ -11,7 +11,7 @@ use clof_compose::Root;
 use fresh_root::{Fresh, Seen};
 use keep_local::{Shape, Share};
 use out_of_memory::OutOfMemory;
-use placed_runner::Section;
+use run_texts::Section;
 use std::alloc::Global;
 use threaded_runner::root_of;
 

@@ -19,7 +19,7 @@ use crate::lists::Lists;
 use clof_compose::{Composed, Resting};
 use fresh_root::Seen;
 use keep_local::Share;
-use placed_runner::Section;
+use run_texts::Section;
 use std::alloc::Global;
 
 /// What a run has before its callers work: their jobs, and empty lists with room for what comes back.

@@ -2,7 +2,7 @@
 use Rattle.std.specs.Prelude.{◌≡◌, ◌≤◌, true, false, List, [], ◌∷◌, length, All}
 use Rattle.atomic_table.specs.Seated.{TableId}
 use Rattle.keep_local.specs.States.{ReceiptState, NotesState, all_tests, no_receipt}
-use Rattle.keep_local.specs.declared.receipt.Receipt.TheInside.{Inside}
+use Rattle.keep_local.specs.declared.receipt.ClosedReceipt.TheInside.{Inside}
 use Rattle.keep_local.specs.declared.receipt_view.ReceiptView.{ReceiptView}
 use Rattle.keep_local.specs.declared.receipts.Receipts.TheInside as table
 

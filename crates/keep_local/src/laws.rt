@@ -1,7 +1,7 @@
 //! Laws of lawful turns and of receipts. Each is a function that does nothing, whose contract is the law.
 ghost use Rattle.std.specs.Thread.{IsSync};
 ghost use Rattle.keep_local.specs.Laws.{KeepsAtMost, TurnIsFixed};
-ghost use Rattle.keep_local.specs.contracts.receipt.Receipt.{the_row};
+ghost use Rattle.keep_local.specs.contracts.receipt.ClosedReceipt.{the_row};
 
 /// Between two turns that left higher than a level, and before the first such turn, at most as many turns left at this level as it keeps.
 pub fn keeps_at_most()

@@ -1,5 +1,5 @@
-//! The record of all holds of a lock of several levels: a `Trail` of turns, the `Share`s by which callers make them, and the `Receipt`s
-//! that tell of closed turns when the trail is in other hands.
+//! The record of all holds of a lock of several levels: a `Trail` of turns, the `Share`s by which callers make them, and the
+//! `ClosedReceipt`s that tell of closed turns when the trail is in other hands.
 //!
 //! A turn is lawful where it keeps the keep-local rule of CLoF (Chehab and others, "CLoF: A Compositional Lock Framework for Multi-level
 //! NUMA Systems", SOSP 2021): a level hands the lock over to its own callers while somebody is queued there, at most as often as its keep.
@@ -24,8 +24,8 @@ mod view;
 pub use checker::{begins, is_lawful, level_to_leave, run_of};
 pub use laws::{keeps_at_most, receipts_are_shared, turn_is_fixed};
 pub use plays::{Append, Cut, Glue, Look, TieRule};
-pub use receipt::Receipt;
-pub use receipt_plays::{Check, ClosedTurns, Copy, ReceiptRule, Record, Show};
+pub use receipt::ClosedReceipt;
+pub use receipt_plays::{Check, ClosedTurns, CopyTurns, ReceiptRule, Record, Show};
 pub use receipt_view::ReceiptView;
 pub use shape::Shape;
 pub use share::Share;

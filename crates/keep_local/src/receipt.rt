@@ -9,11 +9,11 @@ use std::marker::Model;
 /// A receipt of the turns that a trail had closed when it was given. It has no bytes: clauses alone see the tests of these turns, which are
 /// the first of the trail's as long as the trail is there (`Trail::agree_on`).
 #[derive(Drop)]
-pub struct Receipt {
+pub struct ClosedReceipt {
     pub(crate) badge: Badge<ReceiptView>,
 }
 
-impl Model for Receipt {
+impl Model for ClosedReceipt {
     ghost use Rattle.keep_local.specs.States.{ReceiptState};
 
     ghost Value = { ReceiptState };
@@ -25,12 +25,12 @@ impl Model for Receipt {
     ghost invariant = { IsReceipt };
 }
 
-impl Receipt {
+impl ClosedReceipt {
     /// A receipt of no turn and no trail.
-    pub fn blank() -> Receipt
+    pub fn blank() -> ClosedReceipt
         ensures { result ≡ no_receipt }
     {
-        Receipt {
+        ClosedReceipt {
             badge: Badge::blank(),
         }
     }

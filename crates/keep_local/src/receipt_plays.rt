@@ -46,9 +46,9 @@ impl Play<(), ReceiptView> for Check {
 }
 
 /// A new seat knows the same closed turns.
-pub struct Copy;
+pub struct CopyTurns;
 
-impl Split<ReceiptView> for Copy {
+impl Split<ReceiptView> for CopyTurns {
     ghost left = { itself };
 
     ghost right = { copy_of };

@@ -3,8 +3,8 @@ ghost use Rattle.std.specs.Prelude.{◌≡◌, [], ◌++◌, ◌≢◌, IfOk, re
 ghost use Rattle.keep_local.specs.ReceiptRule.{AreFirst};
 ghost use Rattle.keep_local.specs.States.{all_tests, new_notes};
 
-use crate::receipt::Receipt;
-use crate::receipt_plays::{Check, ClosedTurns, Copy, ReceiptRule, Record, Show};
+use crate::receipt::ClosedReceipt;
+use crate::receipt_plays::{Check, ClosedTurns, CopyTurns, ReceiptRule, Record, Show};
 use crate::receipt_view::ReceiptView;
 use crate::turn::Turn;
 use atomic_table::{Badge, Seat, Table};
@@ -63,20 +63,20 @@ impl Receipts {
     }
 
     /// A receipt of the turns that are closed now.
-    pub(crate) fn give(&mut self) -> Receipt
+    pub(crate) fn give(&mut self) -> ClosedReceipt
         ensures own { result.name ≡ self.old.name }
         ensures tests { result.tests ≡ all_tests self.old.turns }
         ensures same { self.new ≡ self.old }
     {
         let table = &self.table;
-        let seat = table.shared.split_seat::<Copy>(&mut self.home);
-        Receipt {
+        let seat = table.shared.split_seat::<CopyTurns>(&mut self.home);
+        ClosedReceipt {
             badge: seat.into_badge(),
         }
     }
 
     /// Shows that the tests of a receipt are the first of those of the turns that are closed now.
-    pub(crate) fn check(&mut self, receipt: &mut Receipt)
+    pub(crate) fn check(&mut self, receipt: &mut ClosedReceipt)
         requires own { receipt.old.name ≡ self.old.name }
         requires some { receipt.old.tests ≢ [] }
         ensures first { AreFirst receipt.old.tests (all_tests self.old.turns) }
@@ -86,7 +86,7 @@ impl Receipts {
         let badge = mem::replace(&mut receipt.badge, Badge::blank());
         let table = &self.table;
         let mut seat = badge.into_seat();
-        let copy = table.shared.split_seat::<Copy>(&mut seat);
+        let copy = table.shared.split_seat::<CopyTurns>(&mut seat);
         table.shared.join_seat::<Show>(&mut self.home, copy);
         table.shared.load::<Check>(&mut self.home, WORD);
         receipt.badge = seat.into_badge();

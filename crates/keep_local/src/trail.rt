@@ -10,7 +10,7 @@ ghost use Rattle.keep_local.specs.States.{lone_turn, new_shares, new_trail, open
 ghost use Rattle.keep_local.specs.States.{tests_of, trail_behind, unrecorded_trail};
 ghost use Rattle.keep_local.specs.States.{with_test as set_where_queued};
 
-use crate::receipt::Receipt;
+use crate::receipt::ClosedReceipt;
 use crate::receipts::Receipts;
 use crate::shape::Shape;
 use crate::share::{Share, clamped};
@@ -250,7 +250,7 @@ impl Trail {
     }
 
     /// A receipt of the closed turns, which whoever has it may keep while the trail is in other hands.
-    pub fn receipt(&mut self) -> Receipt
+    pub fn receipt(&mut self) -> ClosedReceipt
         ensures own { result.name ≡ self.old.receipts }
         ensures tests { result.tests ≡ all_tests self.old.closed }
         ensures same { self.new ≡ self.old }
@@ -261,7 +261,7 @@ impl Trail {
 
     /// Shows that the tests that a receipt of this trail knows are those of its first turns. It is asked of a receipt of one turn or more:
     /// one of none has nothing to show.
-    pub fn agree_on(&mut self, receipt: &mut Receipt)
+    pub fn agree_on(&mut self, receipt: &mut ClosedReceipt)
         requires own { receipt.old.name ≡ self.old.receipts }
         requires some { receipt.old.tests ≢ [] }
         ensures first { AreFirst receipt.old.tests (all_tests self.old.closed) }

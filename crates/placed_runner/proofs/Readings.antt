@@ -12,8 +12,10 @@ use Rattle.run_faults.specs.declared.fault.SectionFault.{SectionFault}
 use Rattle.run_faults.specs.declared.fault.SectionFault.TheVariants.{BadHead, BadPlace, Short, TooManyCallers}
 use Rattle.placed_runner.specs.Heads.{Head, head_of}
 use Rattle.placed_runner.specs.Places.{place_of}
-use Rattle.placed_runner.specs.Sections.{AreSections, BeginsWith, FrontBreaks, IsRefused, ReadsTo, Sections, Written, Placed}
-use Rattle.placed_runner.specs.Sections.{caller_limit, placed}
+use Rattle.run_texts.specs.Callers.{Placed}
+use Rattle.placed_runner.specs.Sections.{AreSections, BeginsWith, FrontBreaks, IsRefused, ReadsTo, Sections, Written}
+use Rattle.run_texts.specs.Callers.{caller_limit}
+use Rattle.placed_runner.specs.Sections.{placed}
 use Rattle.placed_runner.proofs.Walks.{begins_longer, no_head, no_line, reads_more, section_behind}
 
 -- a text begins with a section, or breaks a rule of its front

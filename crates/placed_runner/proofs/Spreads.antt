@@ -4,10 +4,11 @@ use Rattle.std.specs.declared.alloc.Global.{Global}
 use Rattle.std.specs.List.{enumerate_from}
 use Rattle.std.specs.Prelude.{length, Result, IfOk}
 use Rattle.synth_text.specs.declared.description.Description.{Description}
-use Rattle.placed_runner.specs.declared.sections.Section.{Section}
-use Rattle.placed_runner.specs.Sections.{Placed, Written, anywhere, placed, placed_at}
-use Rattle.placed_runner.specs.Views.{section_view}
-use Rattle.placed_runner.proofs.Texts.{bytes_of}
+use Rattle.run_texts.specs.declared.section.Section.{Section}
+use Rattle.run_texts.specs.Callers.{Placed}
+use Rattle.placed_runner.specs.Sections.{Written, anywhere, placed, placed_at}
+use Rattle.run_texts.specs.Views.{section_view}
+use Rattle.run_texts.proofs.Texts.{bytes_of}
 
 placed_bytes : (described : Description) (n from : ℕ) (written : List Written)
     → map (λ (one : Placed). one.bytes) (map (placed_at described n) (enumerate_from from written))

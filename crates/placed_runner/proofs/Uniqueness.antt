@@ -8,8 +8,9 @@ use Rattle.run_faults.specs.declared.fault.SectionFault.{SectionFault}
 use Rattle.run_faults.specs.declared.fault.SectionFault.TheVariants.{BadHead, BadPlace, Short, TooManyCallers, OutOfMemory}
 use Rattle.placed_runner.specs.Heads.{Head, head_of}
 use Rattle.placed_runner.specs.Places.{place_of}
-use Rattle.placed_runner.specs.Sections.{Written, HasHead, BeginsWith, ReadsTo, FrontBreaks, Breaks, IsRefused, AreSections, caller_limit}
-use Rattle.placed_runner.proofs.Cuts.{one_cut}
+use Rattle.run_texts.specs.Callers.{caller_limit}
+use Rattle.placed_runner.specs.Sections.{Written, HasHead, BeginsWith, ReadsTo, FrontBreaks, Breaks, IsRefused, AreSections}
+use Rattle.run_texts.proofs.Cuts.{one_cut}
 use Rattle.placed_runner.proofs.Walks.{begins_longer}
 
 -- a text has one first head

@@ -8,7 +8,7 @@ use Rattle.byte_text.specs.Cuts.{IsCutAt}
 use Rattle.synth_text.specs.declared.description.Description.{Description}
 use Rattle.placed_runner.specs.Heads.{Head, head_of}
 use Rattle.placed_runner.specs.Sections.{Written, HasHead, BeginsWith, ReadsTo}
-use Rattle.placed_runner.proofs.Cuts.{one_cut}
+use Rattle.run_texts.proofs.Cuts.{one_cut}
 
 -- a text that is cut at a line end has one
 cut_has : (text line behind : List ℕ) → IsCutAt 10 text line behind → Contains text 10

@@ -1,11 +1,9 @@
--- What holds of every input, and of every printed text.
-use Rattle.std.specs.Prelude.{◌≡◌, ◌⊎◌, ◌≤◌, ◌^◌, ℕ, List, length}
+-- What holds of every input.
+use Rattle.std.specs.Prelude.{◌≡◌, ◌⊎◌, ℕ, List}
 use Rattle.synth_text.specs.declared.description.Description.{Description}
 use Rattle.run_faults.specs.declared.fault.SectionFault.{SectionFault}
-use Rattle.keep_local.specs.declared.shape.Shape.{Shape}
-use Rattle.keep_local.specs.Shapes.{top_of}
-use Rattle.placed_runner.specs.Sections.{Placed, Sections, IsRefused}
-use Rattle.placed_runner.specs.Printed.{IsRun}
+use Rattle.run_texts.specs.Callers.{Placed}
+use Rattle.placed_runner.specs.Sections.{Sections, IsRefused}
 
 -- at most one list of sections fits an input
 abbrev pub OneReading : Type 0
@@ -30,10 +28,3 @@ abbrev pub OneApplies : Type 0
 OneApplies =
     (described : Description) (input : List ℕ)
     → ((sections : List Placed) × Sections described input sections) ⊎ ((fault : SectionFault) × IsRefused described input fault)
-
--- A printed text is that of one list of holds: it tells who held the lock, in order, and at which levels others waited. Callers and tests
--- have 32 bits
-abbrev pub OneHistory : Type 0
-OneHistory =
-    (sections : List Placed) (shape : Shape) (printed : List ℕ) → length sections ≤ 2 ^ 32 → top_of shape ≤ 32
-    → (one other : IsRun sections shape printed) → one.holds ≡ other.holds

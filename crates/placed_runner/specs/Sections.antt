@@ -7,12 +7,9 @@ use Rattle.placed_runner.specs.declared.place.Place.{Place}
 use Rattle.placed_runner.specs.declared.place.Place.TheVariants.{Anywhere}
 use Rattle.run_faults.specs.declared.fault.SectionFault.{SectionFault}
 use Rattle.run_faults.specs.declared.fault.SectionFault.TheVariants.{BadHead, BadPlace, Short, TooManyCallers, OutOfMemory}
+use Rattle.run_texts.specs.Callers.{Placed, caller_limit}
 use Rattle.placed_runner.specs.Heads.{Head, head_of}
 use Rattle.placed_runner.specs.Places.{place_of, pu_on}
-
--- how many callers a run may have
-abbrev pub caller_limit : ℕ
-caller_limit = 256
 
 -- a section as it is written, once its place is read
 pub record Written : Type 0 where
@@ -22,11 +19,6 @@ pub record Written : Type 0 where
 -- a section whose caller may stand on any PU
 abbrev pub anywhere : List ℕ → Written
 anywhere bytes = record { place = Anywhere; bytes = bytes }
-
--- a section with its caller's PU
-pub record Placed : Type 0 where
-  pub pu : ℕ
-  pub bytes : List ℕ
 
 -- the first line of a text is a head
 pub record HasHead (text : List ℕ) (head : Head) : Type 0 where

@@ -1,9 +1,6 @@
 -- What the crate's own types say, without where it lies in memory.
 use Rattle.placed_runner.specs.declared.heads.Head.{Head}
-use Rattle.placed_runner.specs.declared.sections.Section.{Section}
 use Rattle.placed_runner.specs.declared.sections.Written.{Written}
-use Rattle.placed_runner.specs.declared.lines.Line.{Line}
-use Rattle.placed_runner.specs.Text.{Told}
 use Rattle.placed_runner.specs.Heads as heads
 use Rattle.placed_runner.specs.Sections as sections
 
@@ -12,10 +9,3 @@ head_view head = record { place = head.place.now; size = head.size }
 
 abbrev pub written_view : Written → sections.Written
 written_view section = record { place = section.place; bytes = section.bytes.now }
-
-abbrev pub section_view : Section → sections.Placed
-section_view section = record { pu = section.pu; bytes = section.bytes.now }
-
--- a turn with its command and its reply
-abbrev pub line_view : Line → Told
-line_view line = record { turn = line.turn; command = line.command.now; reply = line.reply.now }

@@ -1,5 +1,5 @@
 //! Laws of the definitions: each function has an empty body, and its contract is the law.
-ghost use Rattle.placed_runner.specs.Laws.{OneApplies, OneHistory, OneReading, OneRefusal, NotBoth};
+ghost use Rattle.placed_runner.specs.Laws.{OneApplies, OneReading, OneRefusal, NotBoth};
 
 /// To each input applies exactly one of the two: it is some sections, of which one list fits, or it is refused, in one way.
 pub fn one_answer()
@@ -7,9 +7,4 @@ pub fn one_answer()
     ensures refusal { OneRefusal }
     ensures either { NotBoth }
     ensures some { OneApplies }
-{}
-
-/// The printed text of a run tells who held the lock, in order, and at which levels others waited.
-pub fn one_history()
-    ensures { OneHistory }
 {}

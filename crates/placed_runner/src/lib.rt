@@ -1,21 +1,15 @@
-//! Sections of the input, each with the commands of one caller, what a run of them is, and the printed text of a run.
+//! Sections of the input, each with the commands of one caller, and where their callers stand on a topology. What a run of them is, and
+//! the printed text of a run, is `run_texts`', whose parts are handed on.
 #![tactic(auto)]
 
-mod escape;
-mod gate;
 mod heads;
 mod laws;
-mod lines;
 mod place;
-mod printing;
 mod sections;
-mod size;
 mod spreading;
 
-pub use gate::{Gate, OpenGate};
-pub use laws::{one_answer, one_history};
-pub use lines::{Line, push_caller, push_turn};
-pub use printing::text;
+pub use laws::one_answer;
 pub use run_faults::SectionFault;
-pub use sections::{Section, read_sections};
+pub use run_texts::{Gate, Line, OpenGate, Section, one_history, push_caller, push_turn, text};
+pub use sections::read_sections;
 pub use spreading::spread;

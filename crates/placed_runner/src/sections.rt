@@ -3,8 +3,9 @@ ghost use Rattle.std.specs.Prelude.{◌≡◌, ◌≤◌, ◌<◌, ◌++◌, ◌
 ghost use Rattle.std.specs.List.{enumerate_from};
 ghost use Rattle.out_of_memory.specs.Memory.{UnlessMemory};
 ghost use Rattle.run_faults.specs.declared.fault.SectionFault.TheVariants as faults;
+ghost use Rattle.run_texts.specs.Callers.{caller_limit};
+ghost use Rattle.run_texts.specs.Views.{section_view};
 ghost use Rattle.placed_runner.specs.Sections.{
-  caller_limit,
   BeginsWith,
   ReadsTo,
   FrontBreaks,
@@ -13,27 +14,19 @@ ghost use Rattle.placed_runner.specs.Sections.{
   Sections,
   placed,
 };
-ghost use Rattle.placed_runner.specs.Views.{written_view, section_view};
+ghost use Rattle.placed_runner.specs.Views.{written_view};
 
 use crate::heads::read_head;
 use crate::place::{Place, masks, pu_on, read_place};
 use byte_text::cut_at;
 use out_of_memory::OutOfMemory;
 use run_faults::SectionFault;
+use run_texts::Section;
 use std::alloc::Global;
 use topo_tree::{AsTree, Tree};
 
 // How many callers a run may have.
 const CALLER_LIMIT: usize = 256;
-
-/// A section of the input.
-#[derive(Clone, Copy, Debug)]
-pub struct Section<'a> {
-    /// The logical number of the PU on which its caller stands.
-    pub pu: u32,
-    /// Its commands, and what stands behind them.
-    pub bytes: &'a [u8],
-}
 
 // A section as it is written, once its place is read.
 #[derive(Clone, Copy, Debug)]

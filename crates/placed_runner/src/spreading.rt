@@ -1,11 +1,14 @@
 //! Sections that are made, and not read: their callers are spread over the topology.
 ghost use Rattle.std.specs.Prelude.{◌≡◌, ◌≤◌, length, map, IfOk};
-ghost use Rattle.placed_runner.specs.Sections.{anywhere, caller_limit, placed};
-ghost use Rattle.placed_runner.specs.Views.{section_view, written_view};
+ghost use Rattle.run_texts.specs.Callers.{caller_limit};
+ghost use Rattle.placed_runner.specs.Sections.{anywhere, placed};
+ghost use Rattle.run_texts.specs.Views.{section_view};
+ghost use Rattle.placed_runner.specs.Views.{written_view};
 
 use crate::place::Place;
-use crate::sections::{Section, Written, place_all};
+use crate::sections::{Written, place_all};
 use out_of_memory::OutOfMemory;
+use run_texts::Section;
 use std::alloc::{AllocError, Global};
 use topo_tree::AsTree;
 

@@ -2,7 +2,7 @@
 ghost use Rattle.std.specs.Prelude.{◌≡◌, ◌+◌, ◌<◌, ◌≤◌, ◌^◌, length, map, sum_by, IfOk};
 ghost use Rattle.keep_local.specs.Shapes.{IsWellFormed, callers_of, top_of};
 ghost use Rattle.keep_local.specs.States.{callers_in};
-ghost use Rattle.placed_runner.specs.Sections.{caller_limit};
+ghost use Rattle.run_texts.specs.Callers.{caller_limit};
 ghost use Rattle.threaded_runner.specs.Finished.{IsFinished};
 ghost use Rattle.fresh_runner.specs.Marked.{AreMarked};
 
@@ -16,7 +16,7 @@ use lock_levels::{LowPass, Plan};
 use lock_rising::{Given, rise, rise_flat};
 use lock_rules::Pass;
 use out_of_memory::OutOfMemory;
-use placed_runner::{Gate, Section};
+use run_texts::{Gate, Section};
 use run_work::{FreshBrought, Receipted};
 use std::alloc::Global;
 use std::sync::Wait;

@@ -1,7 +1,7 @@
 //! A run under a plan.
 ghost use Rattle.std.specs.Prelude.{◌≡◌, ◌+◌, ◌<◌, ◌≤◌, ◌^◌, length, map, sum_by, IfOk};
 ghost use Rattle.keep_local.specs.Shapes.{IsWellFormed, callers_of, top_of};
-ghost use Rattle.placed_runner.specs.Sections.{caller_limit};
+ghost use Rattle.run_texts.specs.Callers.{caller_limit};
 ghost use Rattle.threaded_runner.specs.Finished.{IsFinished};
 
 use crate::manner::Manner;
@@ -13,7 +13,7 @@ use lock_levels::{LowPass, Plan};
 use lock_rising::{Given, rise, rise_flat};
 use lock_rules::Pass;
 use out_of_memory::OutOfMemory;
-use placed_runner::{Gate, Section};
+use run_texts::{Gate, Section};
 use run_work::{Brought, Plain};
 use std::alloc::Global;
 use std::sync::Wait;

@@ -1,7 +1,7 @@
 //! Runs whose callers share threads.
 ghost use Rattle.std.specs.Prelude.{◌≡◌, ◌+◌, ◌<◌, ◌≤◌, ◌^◌, length, map, sum_by, IfOk};
 ghost use Rattle.keep_local.specs.Shapes.{IsWellFormed, callers_of, top_of};
-ghost use Rattle.placed_runner.specs.Sections.{caller_limit};
+ghost use Rattle.run_texts.specs.Callers.{caller_limit};
 ghost use Rattle.threaded_runner.specs.Finished.{IsFinished};
 
 use crate::manner::Sharing;
@@ -14,7 +14,7 @@ use lock_levels::{LowPass, Plan, low_passes_may_be_sent, top_passes_may_be_sent}
 use lock_rising::{Given, rise, rise_flat};
 use lock_rules::Pass;
 use out_of_memory::OutOfMemory;
-use placed_runner::{Gate, Section};
+use run_texts::{Gate, Section};
 use run_work::{Room, Seated, Waiting};
 use std::alloc::Global;
 use std::sync::Wait;

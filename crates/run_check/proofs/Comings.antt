@@ -9,13 +9,13 @@ use Rattle.keep_local.specs.declared.shape.Shape.{Shape}
 use Rattle.keep_local.specs.declared.turn.Turn.{Turn}
 use Rattle.keep_local.specs.Turns.{turns_of as count_turns}
 use Rattle.kv_history.specs.Log.{Logged, EachHasSection, EachOwnFirst, IsOneThread}
-use Rattle.placed_runner.specs.Entries.{told_entry}
-use Rattle.placed_runner.specs.Sections.{Placed}
-use Rattle.placed_runner.specs.Text.{Hold, caller_lines, turn_line, turn_lines, turns_text}
-use Rattle.placed_runner.specs.Printed.{IsRun}
-use Rattle.placed_runner.proofs.Numbered.{enumerate_push}
-use Rattle.placed_runner.proofs.Printed.{count-held, hold_of, is_run}
-use Rattle.placed_runner.proofs.Texts.{text_is, told_pair}
+use Rattle.run_texts.specs.Entries.{told_entry}
+use Rattle.run_texts.specs.Callers.{Placed}
+use Rattle.run_texts.specs.Text.{Hold, caller_lines, turn_line, turn_lines, turns_text}
+use Rattle.run_texts.specs.Printed.{IsRun}
+use Rattle.run_texts.proofs.Numbered.{enumerate_push}
+use Rattle.run_texts.proofs.Printed.{count-held, hold_of, is_run}
+use Rattle.run_texts.proofs.Texts.{text_is, told_pair}
 use Rattle.run_check.specs.Broken.{HaveEnded, IsFirstBroken}
 use Rattle.run_check.specs.Lines.{begins_turn, lines, turn_count}
 use Rattle.run_check.specs.Made.{MakeLines, MakesLine}

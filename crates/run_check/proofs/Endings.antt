@@ -11,7 +11,7 @@ use Rattle.mc_text.specs.Commands.{commands_left}
 use Rattle.mc_text.specs.declared.commands.Commands.{Commands}
 use Rattle.kv_history.specs.Log.{Log, EachOwnFirst, calls, own}
 use Rattle.kv_history.proofs.Next.{count-own}
-use Rattle.placed_runner.specs.declared.sections.Section.{Section}
+use Rattle.run_texts.specs.declared.section.Section.{Section}
 use Rattle.run_check.specs.Replays.{AllGiven, EachHasLeft, HasLeft}
 
 -- the bytes of lent sections

@@ -3,7 +3,7 @@ use Rattle.std.proofs.Common.{◌≡◌, ℕ, List, ◌∷◌, ◌++◌, length,
 use Rattle.std.proofs.lemmas.List.Elements.{Contains-append_right}
 use Rattle.std.specs.List.{Contains}
 use Rattle.byte_text.specs.Cuts.{IsCutAt}
-use Rattle.placed_runner.proofs.Cuts.{one_cut}
+use Rattle.run_texts.proofs.Cuts.{one_cut}
 use Rattle.run_check.specs.Pairs.{ArePair, HasHead, size_of}
 
 -- bytes without a line end have no head

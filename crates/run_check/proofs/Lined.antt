@@ -4,8 +4,8 @@ use Rattle.std.specs.Prelude.{codes, decimal, nat_lt, ◌&&◌, ◌==◌, ◌/�
 use Rattle.std.specs.List.{flat_map}
 use Rattle.std.proofs.lemmas.Bool.{cases_Bool}
 use Rattle.byte_text.specs.Numerals.{lower_hex_digit}
-use Rattle.placed_runner.specs.Sections.{Placed}
-use Rattle.placed_runner.specs.Text.{
+use Rattle.run_texts.specs.Callers.{Placed}
+use Rattle.run_texts.specs.Text.{
   Told,
   caller_line,
   caller_numbers,

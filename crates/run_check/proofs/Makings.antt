@@ -18,11 +18,11 @@ use Rattle.mc_text.specs.Request.{WholeCommand}
 use Rattle.mc_text.specs.Reading.{commands_of}
 use Rattle.kv_history.specs.Answer.{reply_of, store_of}
 use Rattle.kv_history.specs.Log.{Logged, EachHasSection, EachOwnFirst, IsNext, NoneVoid, applied, applied_entry, calls, commands, store_now}
-use Rattle.placed_runner.specs.Entries.{told_entry}
-use Rattle.placed_runner.specs.Sections.{Placed}
-use Rattle.placed_runner.specs.Text.{Hold, Told, commands_behind, next_command, turn_line}
-use Rattle.placed_runner.proofs.Printed.{below_own_power, below_power, hold_of, turns_are}
-use Rattle.placed_runner.proofs.Texts.{IsPrinted, commands_from}
+use Rattle.run_texts.specs.Entries.{told_entry}
+use Rattle.run_texts.specs.Callers.{Placed}
+use Rattle.run_texts.specs.Text.{Hold, Told, commands_behind, next_command, turn_line}
+use Rattle.run_texts.proofs.Printed.{below_own_power, below_power, hold_of, turns_are}
+use Rattle.run_texts.proofs.Texts.{IsPrinted, commands_from}
 use Rattle.run_check.specs.Made.{MakesLine, callers_of, next_turn, turns_of}
 use Rattle.run_check.specs.Readings.{told_hold}
 use Rattle.run_check.specs.Replays.{HasGiven}

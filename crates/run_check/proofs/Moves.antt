@@ -13,11 +13,11 @@ use Rattle.keep_local.specs.Turns.{last_turn}
 use Rattle.mc_text.specs.Request.{WholeCommand}
 use Rattle.mc_text.specs.Reading.{commands_of}
 use Rattle.kv_history.specs.Log.{Log, EachHasSection, EachOwnFirst, IsNext, applied_entry, calls}
-use Rattle.placed_runner.specs.Entries.{told_entry}
-use Rattle.placed_runner.specs.Sections.{Placed}
-use Rattle.placed_runner.specs.Text.{Hold, turn_line}
-use Rattle.placed_runner.specs.Printed.{EachHoldsAll}
-use Rattle.placed_runner.proofs.Printed.{count-callers, hold_of}
+use Rattle.run_texts.specs.Entries.{told_entry}
+use Rattle.run_texts.specs.Callers.{Placed}
+use Rattle.run_texts.specs.Text.{Hold, turn_line}
+use Rattle.run_texts.specs.Printed.{EachHoldsAll}
+use Rattle.run_texts.proofs.Printed.{count-callers, hold_of}
 use Rattle.run_check.specs.Broken.{HaveEnded}
 use Rattle.run_check.specs.Made.{MakesLine, next_turn}
 use Rattle.run_check.specs.Readings.{told_hold}

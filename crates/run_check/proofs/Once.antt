@@ -6,8 +6,8 @@ use Rattle.std.proofs.lemmas.Bool.{cases_order}
 use Rattle.std.proofs.lemmas.List.{append-nil}
 use Rattle.keep_local.specs.declared.shape.Shape.{Shape}
 use Rattle.keep_local.specs.Shapes.{top_of}
-use Rattle.placed_runner.specs.Sections.{Placed}
-use Rattle.placed_runner.specs.Text.{Hold}
+use Rattle.run_texts.specs.Callers.{Placed}
+use Rattle.run_texts.specs.Text.{Hold}
 use Rattle.run_check.specs.Broken.{CallerBreaks, EndBreaks, IsFirstBroken, TurnBreaks, callers_lines}
 use Rattle.run_check.specs.Lines.{lines, turn_count}
 use Rattle.run_check.specs.Made.{MakeLines, MakesLine}

@@ -5,9 +5,9 @@ use Rattle.std.specs.Prelude.{slice_get}
 use Rattle.std.specs.List.{enumerate_from, flat_map}
 use Rattle.std.proofs.lemmas.Grind.{flat_map-append}
 use Rattle.std.proofs.lemmas.List.{append-nil, length-append}
-use Rattle.placed_runner.specs.Sections.{Placed}
-use Rattle.placed_runner.specs.Text.{caller_line, caller_lines}
-use Rattle.placed_runner.proofs.Numbered.{take_all}
+use Rattle.run_texts.specs.Callers.{Placed}
+use Rattle.run_texts.specs.Text.{caller_line, caller_lines}
+use Rattle.run_texts.proofs.Numbered.{take_all}
 use Rattle.run_check.specs.Broken.{callers_lines}
 use Rattle.run_check.specs.Lines.{lines}
 use Rattle.run_check.specs.Runs.{OtherLine}

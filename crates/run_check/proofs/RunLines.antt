@@ -12,12 +12,12 @@ use Rattle.keep_local.specs.Turns.{FollowEachOther}
 use Rattle.mc_text.specs.Request.{WholeCommand}
 use Rattle.kv_history.specs.Contents.{Contents}
 use Rattle.kv_history.specs.Answer.{replies_from, reply_of, store_after, store_from, store_of}
-use Rattle.placed_runner.specs.Sections.{Placed}
-use Rattle.placed_runner.specs.Text.{Hold, Told, caller_line, caller_lines, commands_behind, next_command, run_text, told, turn_line}
-use Rattle.placed_runner.specs.Text.{turns_behind}
-use Rattle.placed_runner.specs.Printed.{IsRun}
-use Rattle.placed_runner.proofs.Histories.{gives}
-use Rattle.placed_runner.proofs.Printed.{can_be_held}
+use Rattle.run_texts.specs.Callers.{Placed}
+use Rattle.run_texts.specs.Text.{Hold, Told, caller_line, caller_lines, commands_behind, next_command, run_text, told, turn_line}
+use Rattle.run_texts.specs.Text.{turns_behind}
+use Rattle.run_texts.specs.Printed.{IsRun}
+use Rattle.run_texts.proofs.Histories.{gives}
+use Rattle.run_texts.proofs.Printed.{can_be_held}
 use Rattle.run_check.specs.Broken.{HaveEnded, IsFirstBroken, TurnBreaks, callers_lines}
 use Rattle.run_check.specs.Lines.{begins_turn, lines, turn_count}
 use Rattle.run_check.specs.Made.{MakeLines, MakesLine, callers_of, next_turn, turns_of}

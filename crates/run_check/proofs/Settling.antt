@@ -19,9 +19,9 @@ use Rattle.keep_local.specs.Turns.{AreUnderOneNode, Follows, IsDue, IsLeft, last
 use Rattle.keep_local.proofs.Lawful.{left_is}
 use Rattle.mc_text.specs.Request.{WholeCommand}
 use Rattle.kv_history.specs.Answer.{reply_of, store_of}
-use Rattle.placed_runner.specs.Sections.{Placed}
-use Rattle.placed_runner.specs.Text.{Hold, Told, commands_behind, next_command, turn_line}
-use Rattle.placed_runner.proofs.Printed.{below_own_power}
+use Rattle.run_texts.specs.Callers.{Placed}
+use Rattle.run_texts.specs.Text.{Hold, Told, commands_behind, next_command, turn_line}
+use Rattle.run_texts.proofs.Printed.{below_own_power}
 use Rattle.run_check.specs.Made.{MakesLine, callers_of, next_turn, turns_of}
 use Rattle.run_check.specs.Readings.{told_hold}
 use Rattle.run_check.proofs.Makings.{made_told}

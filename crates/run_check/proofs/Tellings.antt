@@ -3,9 +3,9 @@ use Rattle.std.proofs.Common.{◌≡◌, ℕ, suc, ◌^◌, ◌<◌, true, List,
 use Rattle.std.specs.Prelude.{codes, decimal, option_and_then}
 use Rattle.std.proofs.lemmas.Fmt.{decimal_is_IsNumeral}
 use Rattle.byte_text.proofs.NumeralLaws.{below_limit}
-use Rattle.placed_runner.specs.Sections.{Placed}
-use Rattle.placed_runner.specs.Text.{Told, pu_of, quoted, turn_line}
-use Rattle.placed_runner.proofs.Histories.{behind_climb, behind_pu, behind_tests, line_parts}
+use Rattle.run_texts.specs.Callers.{Placed}
+use Rattle.run_texts.specs.Text.{Told, pu_of, quoted, turn_line}
+use Rattle.run_texts.proofs.Histories.{behind_climb, behind_pu, behind_tests, line_parts}
 use Rattle.run_check.specs.Readings.{behind_spaces, number_at, told_hold}
 use Rattle.run_check.proofs.Bytes.{cut_there, lacks, number_lacks}
 

@@ -3,7 +3,7 @@ use Rattle.std.proofs.Common.{◌≡◌, ℕ, false, List, Ok, Err, Result, sym,
 use Rattle.std.specs.Prelude.{IfOk}
 use Rattle.keep_local.specs.declared.shape.Shape.{Shape}
 use Rattle.kv_history.specs.Log.{EachHasSection, EachOwnFirst, IsOneThread}
-use Rattle.placed_runner.specs.Sections.{Placed}
+use Rattle.run_texts.specs.Callers.{Placed}
 use Rattle.run_check.specs.Broken.{HaveEnded, IsFirstBroken, IsVerdict}
 use Rattle.run_check.specs.Lines.{begins_turn}
 use Rattle.run_check.specs.Runs.{Course, IsCallersVerdict, holds_of}

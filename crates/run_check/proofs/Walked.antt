@@ -13,9 +13,9 @@ use Rattle.keep_local.specs.Turns.{FollowEachOther, last_turn}
 use Rattle.mc_text.specs.Request.{WholeCommand}
 use Rattle.mc_text.specs.Reading.{commands_of}
 use Rattle.kv_history.specs.Answer.{store_of}
-use Rattle.placed_runner.specs.Sections.{Placed}
-use Rattle.placed_runner.specs.Text.{Hold, caller_lines, commands_behind, run_text, turns_behind}
-use Rattle.placed_runner.specs.Printed.{IsRun}
+use Rattle.run_texts.specs.Callers.{Placed}
+use Rattle.run_texts.specs.Text.{Hold, caller_lines, commands_behind, run_text, turns_behind}
+use Rattle.run_texts.specs.Printed.{IsRun}
 use Rattle.run_check.specs.Broken.{HaveEnded, IsFirstBroken, callers_lines}
 use Rattle.run_check.specs.Lines.{begins_turn, lines, turn_count}
 use Rattle.run_check.specs.Made.{MakeLines, callers_of, turns_of}

@@ -4,9 +4,9 @@ use Rattle.std.specs.List.{enumerate_from}
 use Rattle.keep_local.specs.declared.shape.Shape.{Shape}
 use Rattle.keep_local.specs.Shapes.{top_of}
 use Rattle.keep_local.specs.Turns.{last_turn}
-use Rattle.placed_runner.specs.Sections.{Placed}
-use Rattle.placed_runner.specs.Text.{Hold, caller_line}
-use Rattle.placed_runner.specs.Printed.{EachHoldsAll, IsRun}
+use Rattle.run_texts.specs.Callers.{Placed}
+use Rattle.run_texts.specs.Text.{Hold, caller_line}
+use Rattle.run_texts.specs.Printed.{EachHoldsAll, IsRun}
 use Rattle.run_check.specs.Lines.{lines, turn_count}
 use Rattle.run_check.specs.Made.{MakesLine, MakeLines, turns_of}
 use Rattle.run_check.specs.declared.verdict.Verdict.{Verdict}

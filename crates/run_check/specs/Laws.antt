@@ -2,8 +2,8 @@
 use Rattle.std.specs.Prelude.{◌≡◌, ◌⊎◌, ◌^◌, ◌<◌, ◌≤◌, ℕ, List, length}
 use Rattle.keep_local.specs.declared.shape.Shape.{Shape}
 use Rattle.keep_local.specs.Shapes.{top_of}
-use Rattle.placed_runner.specs.Sections.{Placed}
-use Rattle.placed_runner.specs.Printed.{IsRun}
+use Rattle.run_texts.specs.Callers.{Placed}
+use Rattle.run_texts.specs.Printed.{IsRun}
 use Rattle.run_check.specs.Broken.{IsFirstBroken}
 
 -- the text of a run has no broken line

@@ -6,8 +6,8 @@ use Rattle.keep_local.specs.Laws.{turn_after}
 use Rattle.keep_local.specs.Turns.{Follows}
 use Rattle.mc_text.specs.Request.{WholeCommand}
 use Rattle.kv_history.specs.Answer.{reply_of, store_of}
-use Rattle.placed_runner.specs.Sections.{Placed}
-use Rattle.placed_runner.specs.Text.{Hold, commands_behind, next_command, turn_line, turns_behind}
+use Rattle.run_texts.specs.Callers.{Placed}
+use Rattle.run_texts.specs.Text.{Hold, commands_behind, next_command, turn_line, turns_behind}
 
 -- the callers of holds
 abbrev pub callers_of : List Hold → List ℕ

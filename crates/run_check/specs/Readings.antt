@@ -2,7 +2,7 @@
 use Rattle.std.specs.Prelude.{ℕ, zero, suc, ◌^◌, ◌==◌, List, Option, Some, option_map, option_and_then}
 use Rattle.byte_text.specs.Cuts.{cut}
 use Rattle.byte_text.specs.Numerals.{number_below}
-use Rattle.placed_runner.specs.Text.{Hold}
+use Rattle.run_texts.specs.Text.{Hold}
 use Rattle.run_check.specs.declared.reading.Hold as read
 
 -- what stands before the first space of a text, and what stands behind it

@@ -6,9 +6,9 @@ use Rattle.keep_local.specs.declared.turn.Turn.{Turn}
 use Rattle.keep_local.specs.States.{callers_in}
 use Rattle.keep_local.specs.Turns.{IsLawful}
 use Rattle.kv_history.specs.Log.{Log, Logged, NoneVoid, calls}
-use Rattle.placed_runner.specs.Entries.{told_entry}
-use Rattle.placed_runner.specs.Sections.{Placed}
-use Rattle.placed_runner.specs.Text.{Hold, caller_lines, turn_line}
+use Rattle.run_texts.specs.Entries.{told_entry}
+use Rattle.run_texts.specs.Callers.{Placed}
+use Rattle.run_texts.specs.Text.{Hold, caller_lines, turn_line}
 use Rattle.run_check.specs.Broken.{callers_lines}
 use Rattle.run_check.specs.Lines.{lines}
 use Rattle.run_check.specs.Made.{MakesLine}

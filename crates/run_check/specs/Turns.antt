@@ -3,7 +3,7 @@ use Rattle.std.specs.Prelude.{◌≡◌, ℕ, ◌<◌, List, length, slice_index
 use Rattle.keep_local.specs.declared.shape.Shape.{Shape}
 use Rattle.keep_local.specs.declared.turn.Turn.{Turn}
 use Rattle.keep_local.specs.Turns.{run, Follows}
-use Rattle.placed_runner.specs.Text.{Hold}
+use Rattle.run_texts.specs.Text.{Hold}
 use Rattle.run_check.specs.declared.turns.Turns.TheInside.{Inside}
 
 -- the turn is that of a hold, and follows these turns

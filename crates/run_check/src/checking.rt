@@ -2,7 +2,7 @@
 
 ghost use Rattle.std.specs.Prelude.{◌≡◌, ◌+◌, ◌<◌, ◌≤◌, ◌^◌, length, map, sum_by, IfOk};
 ghost use Rattle.keep_local.specs.Shapes.{top_of};
-ghost use Rattle.placed_runner.specs.Views.{section_view};
+ghost use Rattle.run_texts.specs.Views.{section_view};
 ghost use Rattle.run_check.specs.Broken.{IsVerdict};
 ghost use Rattle.run_check.specs.Runs.{IsCallersVerdict};
 
@@ -10,7 +10,7 @@ use crate::run::Run;
 use crate::verdict::Verdict;
 use keep_local::Shape;
 use out_of_memory::OutOfMemory;
-use placed_runner::Section;
+use run_texts::Section;
 use std::alloc::Global;
 
 /// Whether a text is the printed text of a run of these sections under a lock of this shape, or its first broken line.

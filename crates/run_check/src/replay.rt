@@ -9,7 +9,7 @@ ghost use Rattle.run_check.specs.Replays.{AllGiven, Gives};
 use kv_history::Journal;
 use mc_text::Commands;
 use out_of_memory::OutOfMemory;
-use placed_runner::Section;
+use run_texts::Section;
 use std::alloc::Global;
 use std::marker::Model;
 

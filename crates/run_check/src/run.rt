@@ -5,10 +5,10 @@ ghost use Rattle.std.specs.Prelude.{IfOk, IsTrue, MatchOption, OnOk, Some};
 ghost use Rattle.keep_local.specs.declared.shape.Shape as tree;
 ghost use Rattle.keep_local.specs.Shapes.{top_of};
 ghost use Rattle.kv_history.specs.Log.{EachHasSection, EachOwnFirst, IsOneThread, Logged, NoneVoid};
-ghost use Rattle.placed_runner.specs.Entries.{told_entry};
-ghost use Rattle.placed_runner.specs.Sections.{Placed};
-ghost use Rattle.placed_runner.specs.Text.{caller_line, turn_line};
-ghost use Rattle.placed_runner.specs.Views.{section_view};
+ghost use Rattle.run_texts.specs.Entries.{told_entry};
+ghost use Rattle.run_texts.specs.Callers.{Placed};
+ghost use Rattle.run_texts.specs.Text.{caller_line, turn_line};
+ghost use Rattle.run_texts.specs.Views.{section_view};
 ghost use Rattle.run_check.specs.Broken.{HaveEnded};
 ghost use Rattle.run_check.specs.Runs.{holds_of, HasNextTurn, IsUnderWay, Makes, TellsNoTurn};
 
@@ -17,7 +17,7 @@ use crate::replay::Replay;
 use crate::turns::Turns;
 use keep_local::{Shape, Turn};
 use out_of_memory::OutOfMemory;
-use placed_runner::{Line, Section, push_caller, push_turn};
+use run_texts::{Line, Section, push_caller, push_turn};
 use std::alloc::Global;
 use std::marker::Model;
 

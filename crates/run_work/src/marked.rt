@@ -20,7 +20,7 @@ use fresh_runner::{
 use keep_local::Share;
 use lock_work::{Dealt, OnThread, UnderLock};
 use out_of_memory::OutOfMemory;
-use placed_runner::{Gate, Section};
+use run_texts::{Gate, Section};
 use std::alloc::Global;
 use std::sync::Wait;
 

@@ -15,7 +15,7 @@ use clof_compose::{Composed, Resting, Root, Waits};
 use keep_local::Share;
 use lock_work::{Dealt, OnThread, UnderLock};
 use out_of_memory::OutOfMemory;
-use placed_runner::{Gate, Section};
+use run_texts::{Gate, Section};
 use std::alloc::Global;
 use std::sync::Wait;
 use threaded_runner::{Book, Crew, Finished, Job, Prepared, close_run, crew_of, prepare, serve};

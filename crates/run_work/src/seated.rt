@@ -19,7 +19,7 @@ use cohort_runner::{Aside, Caller, Floor, end_run, open_run, serve_desk};
 use keep_local::Share;
 use lock_work::{Dealt, OnThread, UnderLock};
 use out_of_memory::OutOfMemory;
-use placed_runner::{Gate, Section};
+use run_texts::{Gate, Section};
 use std::alloc::Global;
 use std::sync::Wait;
 use threaded_runner::{Book, Crew, Finished, close_run};

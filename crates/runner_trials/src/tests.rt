@@ -17,6 +17,7 @@ use synth_text::read;
 use topo_tree::{Topology, Tree};
 
 mod checks;
+mod top;
 
 // The PUs and the sections of two callers, their turns (who has it, and the levels at which that one found and left the lock), and the
 // text of the run.

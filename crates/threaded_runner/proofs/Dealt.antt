@@ -10,7 +10,7 @@ use Rattle.clof_compose.specs.Courses.{Course}
 use Rattle.clof_compose.specs.Shares.{IsShareIn}
 use Rattle.mc_text.specs.Request.{WholeCommand}
 use Rattle.mc_text.specs.Reading.{commands_of}
-use Rattle.placed_runner.specs.declared.sections.Section.{Section}
+use Rattle.run_texts.specs.declared.section.Section.{Section}
 use Rattle.threaded_runner.specs.Jobs.{HasLeft}
 use Rattle.threaded_runner.specs.Ready.{IsDealt}
 

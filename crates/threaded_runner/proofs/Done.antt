@@ -20,13 +20,13 @@ use Rattle.clof_compose.specs.declared.root.Root.{Root}
 use Rattle.mc_text.specs.Reading.{commands_of}
 use Rattle.kv_history.specs.Log.{Log, EachHasSection, EachOwnFirst, NoneVoid, calls, own}
 use Rattle.kv_history.proofs.Next.{count-own}
-use Rattle.placed_runner.specs.Printed.{IsRun}
-use Rattle.placed_runner.specs.Sections.{Placed}
-use Rattle.placed_runner.specs.Text.{turns_text}
-use Rattle.placed_runner.specs.Views.{section_view}
-use Rattle.placed_runner.specs.declared.sections.Section.{Section}
-use Rattle.placed_runner.proofs.Printed.{is_run}
-use Rattle.placed_runner.proofs.Texts.{bytes_of}
+use Rattle.run_texts.specs.Printed.{IsRun}
+use Rattle.run_texts.specs.Callers.{Placed}
+use Rattle.run_texts.specs.Text.{turns_text}
+use Rattle.run_texts.specs.Views.{section_view}
+use Rattle.run_texts.specs.declared.section.Section.{Section}
+use Rattle.run_texts.proofs.Printed.{is_run}
+use Rattle.run_texts.proofs.Texts.{bytes_of}
 use Rattle.threaded_runner.specs.Books.{book_calls}
 use Rattle.threaded_runner.specs.declared.book.Book.{Book}
 use Rattle.threaded_runner.specs.Crews.{IsCrew}

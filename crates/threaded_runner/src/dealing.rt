@@ -13,7 +13,7 @@ use crate::job::Job;
 use clof_compose::{Composed, Resting};
 use keep_local::Share;
 use mc_text::Commands;
-use placed_runner::Section;
+use run_texts::Section;
 
 /// A job for each pass, each share and each section, in order, and the emptied lists of the passes and of the shares.
 pub(crate) fn deal<'a, C: Composed<Book<'a>>>(

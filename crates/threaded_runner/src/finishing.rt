@@ -6,8 +6,8 @@ ghost use Rattle.clof_compose.specs.Courses.{course_of};
 ghost use Rattle.clof_compose.specs.Roots.{IsFit};
 ghost use Rattle.mc_text.specs.Reading.{commands_of};
 ghost use Rattle.kv_history.specs.Log.{NoneVoid};
-ghost use Rattle.placed_runner.specs.Printed.{IsRun};
-ghost use Rattle.placed_runner.specs.Views.{section_view};
+ghost use Rattle.run_texts.specs.Printed.{IsRun};
+ghost use Rattle.run_texts.specs.Views.{section_view};
 ghost use Rattle.threaded_runner.specs.Books.{book_calls};
 ghost use Rattle.threaded_runner.specs.Crews.{IsCrew};
 ghost use Rattle.threaded_runner.specs.Done.{AreDone};
@@ -19,7 +19,7 @@ use clof_compose::{Composed, Resting, Root};
 use keep_local::{Share, Trail};
 use kv_history::Journal;
 use out_of_memory::OutOfMemory;
-use placed_runner::{Section, text};
+use run_texts::{Section, text};
 use std::alloc::Global;
 
 /// What a run leaves whose callers have given all their commands: the trail of their turns, and the journal.

@@ -13,7 +13,7 @@ use crate::waiting::acquire;
 use clof_compose::{Composed, Resting, Root, Standing, Waits};
 use keep_local::Share;
 use mc_text::{Command, Commands};
-use placed_runner::Gate;
+use run_texts::Gate;
 use std::sync::Wait;
 
 /// Holds the lock once for each command that a caller has left, and applies the command to the journal at the root. The caller stops

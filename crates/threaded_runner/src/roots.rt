@@ -13,7 +13,7 @@ use clof_compose::Root;
 use keep_local::{Shape, Share, Trail};
 use kv_history::Journal;
 use out_of_memory::OutOfMemory;
-use placed_runner::Section;
+use run_texts::Section;
 use std::alloc::{AllocError, Global};
 
 /// A root for callers with these sections, before any turn: a trail of this shape, in which each caller may hold as often as its section

@@ -16,7 +16,7 @@ use crate::dealing::{deal, stops, take_apart};
 use crate::job::Job;
 use clof_compose::{Composed, Resting};
 use keep_local::Share;
-use placed_runner::Section;
+use run_texts::Section;
 use std::alloc::Global;
 
 /// What a run has before its callers work: their jobs, and empty lists with room for what comes back.

@@ -8,7 +8,7 @@ use crate::book::Book;
 use clof_compose::{Composed, Resting, Standing};
 use keep_local::Share;
 use lock_rules::Step;
-use placed_runner::Gate;
+use run_texts::Gate;
 use std::sync::Wait;
 
 /// Enters the queue, tells the gate that the caller is queued, and waits until it holds.

@@ -11,7 +11,7 @@ use crate::seating::{rise, seat};
 use clof_compose::{Composed, Resting};
 use keep_local::Share;
 use out_of_memory::OutOfMemory;
-use placed_runner::Section;
+use run_texts::Section;
 use std::alloc::Global;
 use std::sync::Wait;
 use threaded_runner::{Book, Crew, Finished, Prepared, close_run, crew_of, not_started, prepare};

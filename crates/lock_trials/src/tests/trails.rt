@@ -3,7 +3,7 @@ ghost use Rattle.std.specs.Prelude.{◌≡◌, ◌≢◌, ◌^◌, ◌<◌, [], 
 ghost use Rattle.std.specs.Bool.{OnTrue};
 ghost use Rattle.keep_local.specs.Turns.{Begins};
 
-use keep_local::{Receipt, Shape, Share, Trail, Turn, begins, is_lawful, run_of};
+use keep_local::{ClosedReceipt, Shape, Share, Trail, Turn, begins, is_lawful, run_of};
 use out_of_memory::OutOfMemory;
 use sequence::Sequence;
 use std::alloc::Global;
@@ -444,7 +444,7 @@ fn other_paths_are_not_well_formed(rt: HostRuntime) {
 }
 
 // A receipt of the closed turns, where there are some and none is open.
-fn receipt_of(trail: &mut Trail) -> Option<Receipt>
+fn receipt_of(trail: &mut Trail) -> Option<ClosedReceipt>
     requires recorded { trail.old.recorded ≡ true }
     ensures own { IfSome result (λ receipt. receipt.name ≡ trail.old.receipts) }
     ensures some { IfSome result (λ receipt. receipt.tests ≢ []) }

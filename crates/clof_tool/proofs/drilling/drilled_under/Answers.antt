@@ -3,7 +3,7 @@ use Rattle.std.specs.Prelude.{All}
 use Rattle.std.specs.List.{sum_by}
 use Rattle.std.specs.declared.alloc.Global.{Global}
 use Rattle.synth_text.specs.Rules.{pu_count}
-use Rattle.placed_runner.specs.declared.sections.Section.{Section}
+use Rattle.run_texts.specs.declared.section.Section.{Section}
 use Rattle.clof_answers.proofs.Drills.{drilled_pus, many_sections, small_sections}
 use Rattle.clof_tool.proofs.drilling.drilled_under.Goals as goal
 

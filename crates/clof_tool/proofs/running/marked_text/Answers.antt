@@ -1,6 +1,6 @@
 use Rattle.std.proofs.Common.{map, subst}
 use Rattle.std.proofs.lemmas.Result.{IfOk-weaker}
-use Rattle.placed_runner.specs.Views.{section_view}
+use Rattle.run_texts.specs.Views.{section_view}
 use Rattle.fresh_runner.specs.Receipts.{IsMarkedRun}
 use Rattle.clof_tool.proofs.running.marked_text.Goals as goal
 

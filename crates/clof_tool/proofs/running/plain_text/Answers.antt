@@ -1,7 +1,7 @@
 use Rattle.std.proofs.Common.{map, subst}
 use Rattle.std.proofs.lemmas.Result.{IfOk-weaker}
-use Rattle.placed_runner.specs.Printed.{IsRun}
-use Rattle.placed_runner.specs.Views.{section_view}
+use Rattle.run_texts.specs.Printed.{IsRun}
+use Rattle.run_texts.specs.Views.{section_view}
 use Rattle.clof_tool.proofs.running.plain_text.Goals as goal
 
 pub returns : goal.returns

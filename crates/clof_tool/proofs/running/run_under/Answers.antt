@@ -1,6 +1,6 @@
 use Rattle.std.proofs.Common.{◌≡◌, length, map, rules, subst, sym}
 use Rattle.std.proofs.lemmas.Result.{IfOk-weaker}
-use Rattle.placed_runner.specs.Views.{section_view}
+use Rattle.run_texts.specs.Views.{section_view}
 use Rattle.clof_answers.specs.Run.{PrintsRun}
 use Rattle.clof_answers.proofs.Runs.{marks_under, none_printed, runs_under}
 use Rattle.clof_tool.proofs.running.run_under.Goals as goal

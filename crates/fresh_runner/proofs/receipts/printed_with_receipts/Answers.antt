@@ -1,6 +1,6 @@
 use Rattle.std.proofs.Common.{◌++◌, map, ap, ◌∙◌}
-use Rattle.placed_runner.specs.Text.{turns_text}
-use Rattle.placed_runner.specs.Views.{section_view}
+use Rattle.run_texts.specs.Text.{turns_text}
+use Rattle.run_texts.specs.Views.{section_view}
 use Rattle.threaded_runner.proofs.Done.{all_closed}
 use Rattle.fresh_runner.specs.Receipts.{marks_lines}
 use Rattle.fresh_runner.proofs.Printing.{marked_run}

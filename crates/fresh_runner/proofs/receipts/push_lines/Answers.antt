@@ -1,5 +1,5 @@
 use Rattle.std.proofs.Common.{◌++◌, take, ap, sym, ◌∙◌, append_assoc}
-use Rattle.placed_runner.proofs.Numbered.{joined_more}
+use Rattle.run_texts.proofs.Numbered.{joined_more}
 use Rattle.fresh_runner.specs.Receipts.{marks_lines, receipts_line}
 use Rattle.fresh_runner.specs.declared.account.Marks.{Marks}
 use Rattle.fresh_runner.proofs.receipts.push_lines.Goals as goal

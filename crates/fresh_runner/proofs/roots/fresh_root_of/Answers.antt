@@ -1,7 +1,7 @@
 use Rattle.std.proofs.Common.{length, map, ap, sym, ◌∙◌, subst}
 use Rattle.std.proofs.lemmas.List.{length-map}
 use Rattle.fresh_root.specs.States.{AreAll, FreshState}
-use Rattle.placed_runner.specs.declared.sections.Section.{Section}
+use Rattle.run_texts.specs.declared.section.Section.{Section}
 use Rattle.threaded_runner.specs.Books.{book_tag}
 use Rattle.threaded_runner.specs.declared.book.Book.{Book}
 use Rattle.fresh_runner.specs.declared.book.FreshBook.{FreshBook}

@@ -3,7 +3,7 @@ use Rattle.std.specs.Prelude.{slice_get}
 use Rattle.keep_local.specs.States.{ShareState}
 use Rattle.clof_compose.specs.Courses.{course_of}
 use Rattle.clof_compose.proofs.Lists.{all_each}
-use Rattle.placed_runner.specs.declared.sections.Section.{Section}
+use Rattle.run_texts.specs.declared.section.Section.{Section}
 use Rattle.std.proofs.lemmas.List.{length-map}
 use Rattle.fresh_root.specs.States.{AreAll}
 use Rattle.fresh_runner.specs.Books.{fresh_in}

@@ -4,7 +4,7 @@ use Rattle.std.proofs.lemmas.List.{length-map}
 use Rattle.std.proofs.lemmas.Option.{IfSome_then}
 use Rattle.keep_local.specs.States.{ShareState}
 use Rattle.clof_compose.specs.Courses.{course_of}
-use Rattle.placed_runner.specs.declared.sections.Section.{Section}
+use Rattle.run_texts.specs.declared.section.Section.{Section}
 use Rattle.threaded_runner.proofs.Dealt.{counts}
 use Rattle.fresh_runner.specs.Crews.{AreLists}
 use Rattle.fresh_runner.specs.declared.lists.Lists.{Lists}

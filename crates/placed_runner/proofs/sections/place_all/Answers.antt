@@ -6,9 +6,11 @@ use Rattle.synth_text.specs.declared.description.Description.{Description}
 use Rattle.placed_runner.specs.declared.place.Place.TheVariants.{Anywhere}
 use Rattle.placed_runner.specs.declared.sections.Written.{Written}
 use Rattle.placed_runner.specs.Places.{masks_of, pu_on}
-use Rattle.placed_runner.specs.Sections.{Placed, placed, placed_at}
-use Rattle.placed_runner.specs.Views.{written_view, section_view}
-use Rattle.placed_runner.proofs.Numbered.{mapped_more, take_all}
+use Rattle.run_texts.specs.Callers.{Placed}
+use Rattle.placed_runner.specs.Sections.{placed, placed_at}
+use Rattle.run_texts.specs.Views.{section_view}
+use Rattle.placed_runner.specs.Views.{written_view}
+use Rattle.run_texts.proofs.Numbered.{mapped_more, take_all}
 use Rattle.placed_runner.proofs.sections.place_all.Goals as goal
 
 -- where nothing is written

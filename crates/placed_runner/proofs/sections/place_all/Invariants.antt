@@ -1,7 +1,8 @@
 use Rattle.std.proofs.Common.{◌≡◌, length, map, take}
 use Rattle.std.specs.List.{enumerate_from}
 use Rattle.placed_runner.specs.Sections.{placed_at}
-use Rattle.placed_runner.specs.Views.{written_view, section_view}
+use Rattle.run_texts.specs.Views.{section_view}
+use Rattle.placed_runner.specs.Views.{written_view}
 use Rattle.placed_runner.proofs.sections.place_all.Given as goal
 
 -- the sections so far have their callers' PUs

@@ -4,9 +4,11 @@ use Rattle.std.proofs.lemmas.List.{length-map}
 use Rattle.std.proofs.lemmas.List.FromFn.{length-enumerate_from}
 use Rattle.std.proofs.lemmas.List.Sums.{sum_by-cons}
 use Rattle.synth_text.specs.declared.description.Description.{Description}
-use Rattle.placed_runner.specs.declared.sections.Section.{Section}
-use Rattle.placed_runner.specs.Sections.{Written, Placed, placed, placed_at}
-use Rattle.placed_runner.specs.Views.{written_view, section_view}
+use Rattle.run_texts.specs.declared.section.Section.{Section}
+use Rattle.run_texts.specs.Callers.{Placed}
+use Rattle.placed_runner.specs.Sections.{Written, placed, placed_at}
+use Rattle.run_texts.specs.Views.{section_view}
+use Rattle.placed_runner.specs.Views.{written_view}
 use Rattle.placed_runner.proofs.Walks.{reads_within}
 use Rattle.placed_runner.proofs.sections.read_sections.Goals as goal
 

@@ -1,5 +1,6 @@
 use Rattle.std.proofs.Common.{◌≤◌, map, length, vec_len}
-use Rattle.placed_runner.specs.Sections.{ReadsTo, caller_limit}
+use Rattle.run_texts.specs.Callers.{caller_limit}
+use Rattle.placed_runner.specs.Sections.{ReadsTo}
 use Rattle.placed_runner.specs.Views.{written_view}
 use Rattle.placed_runner.proofs.sections.read_written.Given as goal
 

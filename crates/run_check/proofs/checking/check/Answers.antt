@@ -1,6 +1,6 @@
 use Rattle.std.proofs.Common.{map, sym, ◌∙◌, subst}
-use Rattle.placed_runner.specs.Views.{section_view}
-use Rattle.placed_runner.proofs.Texts.{bytes_of}
+use Rattle.run_texts.specs.Views.{section_view}
+use Rattle.run_texts.proofs.Texts.{bytes_of}
 use Rattle.run_check.specs.Broken.{IsVerdict}
 use Rattle.run_check.specs.Runs.{IsCallersVerdict, Makes}
 use Rattle.run_check.proofs.Comings.{come_more, come_none, end_broken, made_shorter, turn_broken}

@@ -1,5 +1,5 @@
 use Rattle.std.proofs.Common.{length, map}
-use Rattle.placed_runner.specs.Views.{section_view}
+use Rattle.run_texts.specs.Views.{section_view}
 use Rattle.run_check.proofs.Comings.{Come}
 use Rattle.run_check.proofs.checking.check.Given as goal
 

@@ -4,9 +4,9 @@ use Rattle.std.specs.Borrow.{Bor}
 use Rattle.std.proofs.lemmas.Bool.Decides.{nat_tests}
 use Rattle.std.proofs.lemmas.List.{length-map}
 use Rattle.std.proofs.lemmas.Option.{slice_get-get_or, slice_get-map}
-use Rattle.placed_runner.specs.declared.sections.Section.{Section}
-use Rattle.placed_runner.specs.Text.{caller_line}
-use Rattle.placed_runner.specs.Views.{section_view}
+use Rattle.run_texts.specs.declared.section.Section.{Section}
+use Rattle.run_texts.specs.Text.{caller_line}
+use Rattle.run_texts.specs.Views.{section_view}
 use Rattle.run_check.proofs.Passing.{all_passed, one_too_many, other_line, passed_more}
 use Rattle.run_check.proofs.checking.check_callers.Goals as goal
 

@@ -1,5 +1,5 @@
 use Rattle.std.proofs.Common.{◌≡◌, ◌+◌, map}
-use Rattle.placed_runner.specs.Views.{section_view}
+use Rattle.run_texts.specs.Views.{section_view}
 use Rattle.run_check.proofs.Passing.{Passed}
 use Rattle.run_check.proofs.checking.check_callers.Given as goal
 

@@ -4,7 +4,7 @@ use Rattle.mc_text.specs.declared.commands.Commands.{Commands}
 use Rattle.keep_local.specs.declared.turn.Turn.{Turn}
 use Rattle.keep_local.specs.States.{callers_in}
 use Rattle.kv_history.specs.Log.{Log}
-use Rattle.placed_runner.proofs.Numbered.{views_more}
+use Rattle.run_texts.proofs.Numbered.{views_more}
 use Rattle.runner_trials.proofs.Giving.{HavePlayed, first_plays, second_plays}
 use Rattle.runner_trials.proofs.tests.printed.Goals.{in-0+in_ok-give-in-0, in-1+in_ok-give-in-1}
 use Rattle.runner_trials.proofs.tests.printed.Goals as goal

@@ -1,9 +1,9 @@
 use Rattle.std.proofs.Common.{◌≡◌, map, ap, sym, ◌∙◌, subst}
 use Rattle.std.proofs.lemmas.Result.{IfOk-weaker}
 use Rattle.keep_local.specs.States.{callers_in}
-use Rattle.placed_runner.specs.Printed.{IsRun}
-use Rattle.placed_runner.specs.Text.{turns_text}
-use Rattle.placed_runner.specs.Views.{section_view}
+use Rattle.run_texts.specs.Printed.{IsRun}
+use Rattle.run_texts.specs.Text.{turns_text}
+use Rattle.run_texts.specs.Views.{section_view}
 use Rattle.threaded_runner.proofs.Done.{all_closed, run_of}
 use Rattle.threaded_runner.proofs.finishing.printed.Goals as goal
 

@@ -3,7 +3,7 @@ use Rattle.std.proofs.lemmas.List.{length-map}
 use Rattle.keep_local.specs.States.{new_trail}
 use Rattle.kv_history.specs.Log.{Log}
 use Rattle.mc_text.specs.Reading.{commands_of}
-use Rattle.placed_runner.specs.declared.sections.Section.{Section}
+use Rattle.run_texts.specs.declared.section.Section.{Section}
 use Rattle.threaded_runner.specs.declared.book.Book.{Book}
 use Rattle.threaded_runner.proofs.Dealt.{counts}
 use Rattle.threaded_runner.proofs.Told.{dealt}

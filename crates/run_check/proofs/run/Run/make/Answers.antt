@@ -2,9 +2,9 @@ use Rattle.std.proofs.Common.{◌≡◌, ◌-◌, ◌^◌, ◌<◌, [], ◌∷�
 use Rattle.std.specs.Prelude.{slice_get}
 use Rattle.std.proofs.lemmas.List.{length-append, length-map}
 use Rattle.kv_history.specs.Log.{Log, EachHasSection, EachOwnFirst, applied_entry}
-use Rattle.placed_runner.specs.Entries.{told_entry}
-use Rattle.placed_runner.specs.Text.{turn_line}
-use Rattle.placed_runner.specs.Views.{section_view}
+use Rattle.run_texts.specs.Entries.{told_entry}
+use Rattle.run_texts.specs.Text.{turn_line}
+use Rattle.run_texts.specs.Views.{section_view}
 use Rattle.run_check.specs.Replays.{Gives, HasGiven}
 use Rattle.run_check.specs.Runs.{Course}
 use Rattle.run_check.proofs.Moves.{compared, gives_some, last_one, no_command_left, no_turn_told}

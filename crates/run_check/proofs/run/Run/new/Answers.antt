@@ -4,7 +4,7 @@ use Rattle.std.proofs.lemmas.List.Elements.{All-nil}
 use Rattle.keep_local.specs.States.{callers_in}
 use Rattle.keep_local.specs.Turns.{IsLawful}
 use Rattle.kv_history.specs.Log.{Logged}
-use Rattle.placed_runner.proofs.Texts.{bytes_of}
+use Rattle.run_texts.proofs.Texts.{bytes_of}
 use Rattle.run_check.proofs.run.Run.new.Goals as goal
 
 pub returns-clause-under_way : goal.returns-clause-under_way

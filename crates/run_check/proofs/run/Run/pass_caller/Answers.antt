@@ -2,8 +2,8 @@ use Rattle.std.proofs.Common.{◌≡◌, ℕ, ◌+◌, true, false, List, ◌++�
 use Rattle.std.specs.Prelude.{nat_eq, MatchOption}
 use Rattle.std.specs.Borrow.{Bor}
 use Rattle.std.specs.Cmp.Lexicographic.{pointwise}
-use Rattle.placed_runner.specs.Text.{caller_line}
-use Rattle.placed_runner.specs.Views.{section_view}
+use Rattle.run_texts.specs.Text.{caller_line}
+use Rattle.run_texts.specs.Views.{section_view}
 use Rattle.run_check.proofs.Fronts.{in_front_of, not_in_front}
 use Rattle.run_check.proofs.run.Run.pass_caller.Goals as goal
 
