@@ -4,9 +4,22 @@ use Rattle.lock_rules.specs.Tag.{Tag}
 use Rattle.keep_local.specs.declared.turn.Turn.{Turn}
 use Rattle.keep_local.specs.Shapes.{top_of}
 use Rattle.keep_local.specs.Turns.{last_turn}
-use Rattle.keep_local.specs.States.{IsTrail, callers_in}
+use Rattle.keep_local.specs.States.{TrailState, IsTrail, callers_in}
 use Rattle.clof_compose.specs.Courses.{Course, course_tag}
 use Rattle.clof_compose.specs.declared.root.Root.{Root}
+
+module _ {P : Type 0} where
+  -- the turns of the lock's callers
+  abbrev pub trail_of : Root P → TrailState
+  trail_of r = r.trail
+
+  -- what the callers work on
+  abbrev pub payload_of : Root P → P
+  payload_of r = r.payload
+
+  -- the root with another payload
+  abbrev pub with_payload : Root P → P → Root P
+  with_payload r p = record r { payload = p }
 
 module _ {P : Type 0} (tag : P → Tag) where
   -- what names the trail, whether it keeps its turns in memory, its shape and its quotas, and the payload's tag

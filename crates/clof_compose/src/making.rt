@@ -5,7 +5,7 @@ ghost use Rattle.clof_compose.specs.Contexts.{AreContexts};
 ghost use Rattle.clof_compose.specs.Inside.{top_lock};
 ghost use Rattle.clof_compose.specs.Names.{top_name};
 ghost use Rattle.clof_compose.specs.Passes.{AreAll};
-ghost use Rattle.clof_compose.specs.Roots.{root_tag, IsFit};
+ghost use Rattle.clof_compose.specs.Roots.{root_tag, trail_of, IsFit};
 ghost use Rattle.clof_compose.specs.Tops.{fresh_pass};
 
 use crate::composed::Composed;
@@ -27,9 +27,9 @@ pub fn make_top<P: Payload, B: Basic<Root<P>, Held = Held<Root<P>>> + Drop>(
     root: Root<P>,
 ) -> Result<(Top<B, B::Pass>, Vec<TopPass<B::Pass>>), Refused<Root<P>>>
     requires fit { IsFit P.calls root }
-    requires level { level ≡ top_of root.trail.shape }
+    requires level { level ≡ top_of (trail_of root).shape }
     requires some { 0 < contexts }
-    requires contexts { AreContexts root.trail.shape level contexts }
+    requires contexts { AreContexts (trail_of root).shape level contexts }
     ensures name { IfOk result (λ m. ⟦<Top<B, B::Pass> as Composed<P>>⟧.name m.0 ≡ top_name level (B.name (top_lock m.0))) }
     ensures level { IfOk result (λ m. ⟦<Top<B, B::Pass> as Composed<P>>⟧.level m.0 ≡ level) }
     ensures made { IfOk result (λ m. B.made (top_lock m.0) recipe) }

@@ -2,6 +2,7 @@
 #![tactic(auto)]
 
 ghost use Rattle.std.specs.Prelude.{◌≡◌, ◌<◌, true, IfSome};
+ghost use Rattle.clof_compose.specs.Roots.{trail_of};
 ghost use Rattle.own_payload.specs.Jobs.{EachMadeAll};
 
 use anyhow::Context;
@@ -33,8 +34,8 @@ impl Visits {
 
 /// What a lock leaves that four threads have held a thousand times each, or `None` for want of memory.
 fn count<R: Threads + Wait + Sync>(rt: &R, alloc: Global) -> Option<Root<Noted<Visits>>>
-    ensures recorded { IfSome result (λ r. r.trail.recorded ≡ true) }
-    ensures made { IfSome result (λ r. EachMadeAll r.trail) }
+    ensures recorded { IfSome result (λ r. (trail_of r).recorded ≡ true) }
+    ensures made { IfSome result (λ r. EachMadeAll (trail_of r)) }
 {
     // the machine, and a plan: a Ticket lock in each package below an MCS lock, and up to 9 handovers in a row in one package
     let tree = Tree::build(alloc, read(alloc, b"Package:2 Core:2 PU:1").ok()?).ok()?;

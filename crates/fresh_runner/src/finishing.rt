@@ -3,7 +3,7 @@ ghost use Rattle.std.specs.Prelude.{◌≡◌, ℕ, length, map, slice_get, IfOk
 ghost use Rattle.lock_rules.specs.Trees.{lists_in};
 ghost use Rattle.keep_local.specs.States.{callers_in};
 ghost use Rattle.clof_compose.specs.Courses.{course_of};
-ghost use Rattle.clof_compose.specs.Roots.{IsFit};
+ghost use Rattle.clof_compose.specs.Roots.{IsFit, payload_of, trail_of};
 ghost use Rattle.fresh_root.specs.States.{AreAll};
 ghost use Rattle.mc_text.specs.Reading.{commands_of};
 ghost use Rattle.threaded_runner.specs.Done.{AreDone};
@@ -69,20 +69,20 @@ fn finish_fresh<'a>(
     marks: Vec<Marks>,
 ) -> Result<Marked<'a>, OutOfMemory>
     requires fit { IsFit fresh_book_calls root }
-    requires quotas { root.trail.quotas ≡ map (λ section. length (commands_of section)) (lists_in root.payload.fresh.tag) }
-    requires recorded { root.trail.recorded ≡ true }
-    requires shares { AreDone root.trail.name root.trail.quotas shares.items }
-    requires many { length shares.items ≡ length (lists_in root.payload.fresh.tag) }
-    requires seens { AreAll root.payload.fresh.name root.payload.fresh.tokens seens.items }
-    requires tokens { root.payload.fresh.tokens ≡ length shares.items }
+    requires quotas { (trail_of root).quotas ≡ map (λ section. length (commands_of section)) (lists_in (payload_of root).fresh.tag) }
+    requires recorded { (trail_of root).recorded ≡ true }
+    requires shares { AreDone (trail_of root).name (trail_of root).quotas shares.items }
+    requires many { length shares.items ≡ length (lists_in (payload_of root).fresh.tag) }
+    requires seens { AreAll (payload_of root).fresh.name (payload_of root).fresh.tokens seens.items }
+    requires tokens { (payload_of root).fresh.tokens ≡ length shares.items }
     requires many_marks { length marks.items ≡ length shares.items }
     requires marked { (k : ℕ) (s : _) (m : _) → slice_get seens.items k ≡ Some s → slice_get marks.items k ≡ Some m
         → m.turns.items ≡ places_of k s.list }
     requires as_many { (k : ℕ) (s : _) (m : _) → slice_get shares.items k ≡ Some s → slice_get marks.items k ≡ Some m
         → length m.turns.items ≡ s.made }
     ensures finished { IfOk result (λ made. IsFinished made.left.trail made.left.journal) }
-    ensures trail { IfOk result (λ made. made.left.trail ≡ root.entry.trail) }
-    ensures sections { IfOk result (λ made. made.left.journal.sections ≡ lists_in root.entry.payload.fresh.tag) }
+    ensures trail { IfOk result (λ made. made.left.trail ≡ trail_of root.entry) }
+    ensures sections { IfOk result (λ made. made.left.journal.sections ≡ lists_in (payload_of root.entry).fresh.tag) }
     ensures marks { IfOk result (λ made. AreMarked (callers_in made.left.trail.closed) (length shares.items) made.marks.items) }
 {
     let (trail, FreshBook { fresh, .. }) = root.into_parts();

@@ -4,6 +4,7 @@ ghost use Rattle.lock_rules.specs.Trees.{lists_in};
 ghost use Rattle.clof_compose.specs.Calls.{MayTurn};
 ghost use Rattle.clof_compose.specs.Courses.{course_of};
 ghost use Rattle.clof_compose.specs.Passes.{IsNumber};
+ghost use Rattle.clof_compose.specs.Roots.{payload_of, trail_of};
 ghost use Rattle.fresh_root.specs.Prefixes.{IsPrefixOf};
 ghost use Rattle.fresh_root.specs.States.{fresh_tag};
 ghost use Rattle.kv_history.specs.Log.{IsNext};
@@ -132,19 +133,20 @@ fn hold<'a, C: Waits<FreshBook<'a>>, G: Gate, R: Wait>(
 
 // Applies a caller's next command at a root. The answer is whether it was refused, which is for want of memory.
 fn give<'a>(root: &mut Root<FreshBook<'a>>, account: &mut Account, command: Command<'a>) -> bool
-    requires home { IsSome root.old.payload.fresh.payload }
-    requires own { account.old.seen.fresh ≡ root.old.payload.fresh.name }
+    requires home { IsSome (payload_of root.old).fresh.payload }
+    requires own { account.old.seen.fresh ≡ (payload_of root.old).fresh.name }
     requires caller { account.old.seen.caller ≡ account.old.share.caller }
-    requires next { IsNext (lists_in root.old.payload.fresh.tag) root.old.payload.fresh.list account.old.share.caller (view command) }
-    requires few { length root.old.payload.fresh.list + 1 < 2 ^ 32 }
+    requires next { IsNext (lists_in (payload_of root.old).fresh.tag) (payload_of root.old).fresh.list account.old.share.caller
+        (view command) }
+    requires few { length (payload_of root.old).fresh.list + 1 < 2 ^ 32 }
     requires room { length account.old.marks.turns.items < vec_capacity account.old.marks.turns }
-    ensures prefix { IsPrefixOf account.old.seen.list root.old.payload.fresh.list }
-    ensures trail { root.new.trail ≡ root.old.trail }
-    ensures tag { fresh_book_tag root.new.payload ≡ fresh_book_tag root.old.payload }
-    ensures called { fresh_book_calls root.new.payload ≡ root.old.payload.fresh.list ++ account.old.share.caller ∷ [] }
+    ensures prefix { IsPrefixOf account.old.seen.list (payload_of root.old).fresh.list }
+    ensures trail { trail_of root.new ≡ trail_of root.old }
+    ensures tag { fresh_book_tag (payload_of root.new) ≡ fresh_book_tag (payload_of root.old) }
+    ensures called { fresh_book_calls (payload_of root.new) ≡ (payload_of root.old).fresh.list ++ account.old.share.caller ∷ [] }
     ensures share { account.new.share ≡ account.old.share }
-    ensures seen { account.new.seen ≡ record account.old.seen { list = root.old.payload.fresh.list ++ account.old.share.caller ∷ [] } }
-    ensures marks { account.new.marks.turns.items ≡ account.old.marks.turns.items ++ length root.old.payload.fresh.list ∷ [] }
+    ensures seen { account.new.seen ≡ record account.old.seen { list = (payload_of root.old).fresh.list ++ account.old.share.caller ∷ [] } }
+    ensures marks { account.new.marks.turns.items ≡ account.old.marks.turns.items ++ length (payload_of root.old).fresh.list ∷ [] }
     ensures capacity { vec_capacity account.new.marks.turns ≡ vec_capacity account.old.marks.turns }
 {
     note(&mut root.payload_mut().fresh, account, command)

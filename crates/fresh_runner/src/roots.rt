@@ -2,7 +2,7 @@
 ghost use Rattle.std.specs.Prelude.{◌≡◌, ◌<◌, ◌^◌, length, map, sum_by, IfOk};
 ghost use Rattle.keep_local.specs.Shapes.{IsWellFormed, callers_of};
 ghost use Rattle.clof_compose.specs.Courses.{course_of};
-ghost use Rattle.clof_compose.specs.Roots.{IsFit, root_tag};
+ghost use Rattle.clof_compose.specs.Roots.{IsFit, root_tag, trail_of};
 ghost use Rattle.fresh_runner.specs.Books.{fresh_book_calls, fresh_book_tag};
 ghost use Rattle.fresh_runner.specs.Ready.{IsFreshDealt};
 
@@ -30,7 +30,7 @@ pub fn fresh_root_of<'a>(
     ensures fit { IfOk result (λ made. IsFit fresh_book_calls made.0) }
     ensures dealt { IfOk result (λ made. IsFreshDealt (course_of (root_tag fresh_book_tag made.0))
         (map (λ section. section.bytes.now) sections.now) made.1.items made.2.items) }
-    ensures shape { IfOk result (λ made. made.0.trail.shape ≡ shape) }
+    ensures shape { IfOk result (λ made. (trail_of made.0).shape ≡ shape) }
 {
     let (root, shares) = root_of(alloc, sections, shape)?;
     let (trail, book) = root.into_parts();

@@ -4,6 +4,7 @@ ghost use Rattle.lock_rules.specs.Tag.{leaf};
 ghost use Rattle.clof_compose.specs.Calls.{HasOpened, MayRelease};
 ghost use Rattle.clof_compose.specs.Contexts.{IsContextOf};
 ghost use Rattle.clof_compose.specs.Courses.{course_of};
+ghost use Rattle.clof_compose.specs.Roots.{payload_of, trail_of};
 
 use clof_compose::{Composed, Root, Standing};
 use keep_local::Share;
@@ -11,8 +12,8 @@ use own_payload::Noted;
 
 // Notes the holder's call.
 fn call(root: &mut Root<Noted<()>>, caller: u32)
-    ensures trail { root.new.trail ≡ root.old.trail }
-    ensures noted { root.new.payload.calls.callers ≡ root.old.payload.calls.callers ++ caller ∷ [] }
+    ensures trail { trail_of root.new ≡ trail_of root.old }
+    ensures noted { (payload_of root.new).calls.callers ≡ (payload_of root.old).calls.callers ++ caller ∷ [] }
 {
     root.payload_mut().note(caller);
 }

@@ -2,7 +2,7 @@
 ghost use Rattle.std.specs.Prelude.{◌≡◌, ◌+◌, ◌<◌, ◌^◌, length, IfSome};
 ghost use Rattle.lock_rules.specs.Tag.{Tag, leaf};
 ghost use Rattle.keep_local.specs.Shapes.{IsWellFormed, callers_of, top_of};
-ghost use Rattle.clof_compose.specs.Roots.{IsFit, root_tag};
+ghost use Rattle.clof_compose.specs.Roots.{IsFit, root_tag, trail_of};
 ghost use Rattle.lock_levels.specs.Raised.{IsRaised};
 ghost use Rattle.level_callers.specs.Seen.{AreFresh};
 ghost use Rattle.level_handles.specs.Making.{AreBoxed, IsAdded, IsLockOf, IsNew, MayMake};
@@ -51,7 +51,7 @@ fn one_level(
     requires top { top_of shape.now ≡ 0 }
     requires some { 0 < callers_of shape.now }
     requires fit { IsFit (λ n. n.calls.callers) root }
-    requires shape { root.trail.shape ≡ shape.now }
+    requires shape { (trail_of root).shape ≡ shape.now }
     requires may { MayMake (root_tag (λ _. leaf 0) root) shape.now shares.items }
     ensures count { IfSome result (λ made. length made.items ≡ callers_of shape.now) }
     ensures callers { IfSome result (λ made. (lock : Tag) × IsLockOf shape.now lock × AreBoxed (IsNew lock 1) made.items) }
@@ -77,7 +77,7 @@ fn two_levels(
     requires some { 0 < callers_of shape.now }
     requires few { callers_of shape.now < 2 ^ 32 }
     requires fit { IsFit (λ n. n.calls.callers) root }
-    requires shape { root.trail.shape ≡ shape.now }
+    requires shape { (trail_of root).shape ≡ shape.now }
     requires may { MayMake (root_tag (λ _. leaf 0) root) shape.now shares.items }
     ensures count { IfSome result (λ made. length made.items ≡ callers_of shape.now) }
     ensures callers { IfSome result (λ made. (lock : Tag) × IsLockOf shape.now lock × AreBoxed (IsNew lock 2) made.items) }

@@ -1,6 +1,7 @@
 //! What the callers of the trials do while they hold the lock.
 ghost use Rattle.std.specs.Prelude.{◌≡◌, ◌+◌, ◌<◌, ◌≤◌, ◌++◌, ◌∷◌, [], length, vec_capacity, IfOk};
 ghost use Rattle.lock_rules.specs.Tag.{leaf};
+ghost use Rattle.clof_compose.specs.Roots.{payload_of, trail_of};
 
 use boxed_value::Boxed;
 use clof_compose::{Payload, Root};
@@ -36,10 +37,10 @@ impl Payload for Roll {
 
 /// Notes a call of this caller.
 pub(crate) fn call(root: &mut Root<Roll>, caller: u32)
-    requires room { length root.old.payload.callers.items < vec_capacity root.old.payload.callers }
-    ensures trail { root.new.trail ≡ root.old.trail }
-    ensures noted { root.new.payload.callers.items ≡ root.old.payload.callers.items ++ caller ∷ [] }
-    ensures room { vec_capacity root.new.payload.callers ≡ vec_capacity root.old.payload.callers }
+    requires room { length (payload_of root.old).callers.items < vec_capacity (payload_of root.old).callers }
+    ensures trail { trail_of root.new ≡ trail_of root.old }
+    ensures noted { (payload_of root.new).callers.items ≡ (payload_of root.old).callers.items ++ caller ∷ [] }
+    ensures room { vec_capacity (payload_of root.new).callers ≡ vec_capacity (payload_of root.old).callers }
 {
     root.payload_mut().callers.get_mut().push_reserved(caller);
 }

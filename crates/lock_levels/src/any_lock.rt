@@ -7,7 +7,7 @@ ghost use Rattle.lock_rules.specs.Steps.{IfNot, IfGot, IsNot, IsGot};
 ghost use Rattle.lock_rules.specs.Tokens.{view_of, badge_place, badge_waiting};
 ghost use Rattle.lock_rules.specs.declared.step.Answer.TheVariants.{Open, Yes};
 ghost use Rattle.lock_rules.specs.declared.view.Algorithm.TheVariants.{Mcs as mcs_algorithm};
-ghost use Rattle.lock_levels.specs.AnyKinds.{any_kind};
+ghost use Rattle.lock_levels.specs.AnyKinds.{any_kind, lock_inside};
 ghost use Rattle.lock_levels.specs.Kinds.{algorithm_of, by_kind, kind_of, only_queues};
 
 use crate::kinds::{Kinds, kind_with, parts_of};
@@ -51,15 +51,15 @@ impl<V: Cargo> Basic<V> for AnyLock<V> {
     type Leave = Leave<V>;
 
     ghost name = { λ l. by_kind ⟦<Ticket<V> as Basic<V>>⟧.name ⟦<Mcs<V> as Basic<V>>⟧.name ⟦<Clh<V> as Basic<V>>⟧.name
-        ⟦<Hemlock<V> as Basic<V>>⟧.name l.lock };
+        ⟦<Hemlock<V> as Basic<V>>⟧.name (lock_inside l) };
 
     ghost tag = { λ l. by_kind ⟦<Ticket<V> as Basic<V>>⟧.tag ⟦<Mcs<V> as Basic<V>>⟧.tag ⟦<Clh<V> as Basic<V>>⟧.tag
-        ⟦<Hemlock<V> as Basic<V>>⟧.tag l.lock };
+        ⟦<Hemlock<V> as Basic<V>>⟧.tag (lock_inside l) };
 
     ghost count = { λ l. by_kind ⟦<Ticket<V> as Basic<V>>⟧.count ⟦<Mcs<V> as Basic<V>>⟧.count ⟦<Clh<V> as Basic<V>>⟧.count
-        ⟦<Hemlock<V> as Basic<V>>⟧.count l.lock };
+        ⟦<Hemlock<V> as Basic<V>>⟧.count (lock_inside l) };
 
-    ghost made = { λ l kind. kind_of l.lock ≡ kind };
+    ghost made = { λ l kind. kind_of (lock_inside l) ≡ kind };
 
     /// A lock of the kind that is asked for.
     fn make(
@@ -71,17 +71,17 @@ impl<V: Cargo> Basic<V> for AnyLock<V> {
         requires some { 0 < passes }
         requires fit { V.fit value }
         requires unparked { V.parked value ≡ false }
-        ensures made { IfOk result (λ m. kind_of m.0.lock ≡ recipe) }
+        ensures made { IfOk result (λ m. kind_of (lock_inside m.0) ≡ recipe) }
         ensures tag { IfOk result (λ m. by_kind ⟦<Ticket<V> as Basic<V>>⟧.tag ⟦<Mcs<V> as Basic<V>>⟧.tag ⟦<Clh<V> as Basic<V>>⟧.tag
-            ⟦<Hemlock<V> as Basic<V>>⟧.tag m.0.lock ≡ V.tag value) }
+            ⟦<Hemlock<V> as Basic<V>>⟧.tag (lock_inside m.0) ≡ V.tag value) }
         ensures count { IfOk result (λ m. by_kind ⟦<Ticket<V> as Basic<V>>⟧.count ⟦<Mcs<V> as Basic<V>>⟧.count
-            ⟦<Clh<V> as Basic<V>>⟧.count ⟦<Hemlock<V> as Basic<V>>⟧.count m.0.lock ≡ passes) }
+            ⟦<Clh<V> as Basic<V>>⟧.count ⟦<Hemlock<V> as Basic<V>>⟧.count (lock_inside m.0) ≡ passes) }
         ensures passes { IfOk result (λ m. AreAll (λ p. badge_place p.badge) (by_kind ⟦<Ticket<V> as Basic<V>>⟧.name
-            ⟦<Mcs<V> as Basic<V>>⟧.name ⟦<Clh<V> as Basic<V>>⟧.name ⟦<Hemlock<V> as Basic<V>>⟧.name m.0.lock)
+            ⟦<Mcs<V> as Basic<V>>⟧.name ⟦<Clh<V> as Basic<V>>⟧.name ⟦<Hemlock<V> as Basic<V>>⟧.name (lock_inside m.0))
             (by_kind ⟦<Ticket<V> as Basic<V>>⟧.tag ⟦<Mcs<V> as Basic<V>>⟧.tag ⟦<Clh<V> as Basic<V>>⟧.tag
-            ⟦<Hemlock<V> as Basic<V>>⟧.tag m.0.lock)
+            ⟦<Hemlock<V> as Basic<V>>⟧.tag (lock_inside m.0))
             (by_kind ⟦<Ticket<V> as Basic<V>>⟧.count ⟦<Mcs<V> as Basic<V>>⟧.count ⟦<Clh<V> as Basic<V>>⟧.count
-            ⟦<Hemlock<V> as Basic<V>>⟧.count m.0.lock) m.1.items) }
+            ⟦<Hemlock<V> as Basic<V>>⟧.count (lock_inside m.0)) m.1.items) }
         ensures refused { IfErr result (λ r. r.value ≡ value) }
     {
         let (algorithm, waiters) = parts_of(recipe);
@@ -129,16 +129,17 @@ impl<V: Cargo> Basic<V> for AnyLock<V> {
     #[inline(always)]
     fn begin(&self, pass: Pass) -> Step<Queue, Held<V>>
         requires own { IsOf (by_kind ⟦<Ticket<V> as Basic<V>>⟧.name ⟦<Mcs<V> as Basic<V>>⟧.name ⟦<Clh<V> as Basic<V>>⟧.name
-            ⟦<Hemlock<V> as Basic<V>>⟧.name self.now.lock) (by_kind ⟦<Ticket<V> as Basic<V>>⟧.tag ⟦<Mcs<V> as Basic<V>>⟧.tag
-            ⟦<Clh<V> as Basic<V>>⟧.tag ⟦<Hemlock<V> as Basic<V>>⟧.tag self.now.lock) (badge_place pass.badge) }
-        ensures only_queues { only_queues (algorithm_of self.now.lock) ≡ true → IsNot result }
-        ensures preceded { IfNot result (λ q. only_queues (algorithm_of self.now.lock) ≡ false → (badge_waiting q.badge).preceded ≡ true) }
+            ⟦<Hemlock<V> as Basic<V>>⟧.name (lock_inside self.now)) (by_kind ⟦<Ticket<V> as Basic<V>>⟧.tag ⟦<Mcs<V> as Basic<V>>⟧.tag
+            ⟦<Clh<V> as Basic<V>>⟧.tag ⟦<Hemlock<V> as Basic<V>>⟧.tag (lock_inside self.now)) (badge_place pass.badge) }
+        ensures only_queues { only_queues (algorithm_of (lock_inside self.now)) ≡ true → IsNot result }
+        ensures preceded { IfNot result (λ q. only_queues (algorithm_of (lock_inside self.now)) ≡ false
+            → (badge_waiting q.badge).preceded ≡ true) }
         ensures queue { IfNot result (λ q. (badge_waiting q.badge).place ≡ badge_place pass.badge) }
         ensures entered { IfNot result (λ q. (view_of q.badge).entries ≡ (view_of pass.badge).entries + 1) }
         ensures held { IfGot result (λ h. (holder_of h).place ≡ badge_place pass.badge) }
         ensures fit { IfGot result (λ h. V.fit h.value) }
         ensures tagged { IfGot result (λ h. V.tag h.value ≡ by_kind ⟦<Ticket<V> as Basic<V>>⟧.tag ⟦<Mcs<V> as Basic<V>>⟧.tag
-            ⟦<Clh<V> as Basic<V>>⟧.tag ⟦<Hemlock<V> as Basic<V>>⟧.tag self.now.lock) }
+            ⟦<Clh<V> as Basic<V>>⟧.tag ⟦<Hemlock<V> as Basic<V>>⟧.tag (lock_inside self.now)) }
         ensures untested { IfGot result (λ h. (holder_of h).tested ≡ Open) }
     {
         match &self.lock {
@@ -173,15 +174,15 @@ impl<V: Cargo> Basic<V> for AnyLock<V> {
     #[inline(always)]
     fn begin_release(&self, held: Held<V>) -> Step<Leave<V>, Pass>
         requires own { IsOf (by_kind ⟦<Ticket<V> as Basic<V>>⟧.name ⟦<Mcs<V> as Basic<V>>⟧.name ⟦<Clh<V> as Basic<V>>⟧.name
-            ⟦<Hemlock<V> as Basic<V>>⟧.name self.now.lock) (by_kind ⟦<Ticket<V> as Basic<V>>⟧.tag ⟦<Mcs<V> as Basic<V>>⟧.tag
-            ⟦<Clh<V> as Basic<V>>⟧.tag ⟦<Hemlock<V> as Basic<V>>⟧.tag self.now.lock) (holder_of held).place }
+            ⟦<Hemlock<V> as Basic<V>>⟧.name (lock_inside self.now)) (by_kind ⟦<Ticket<V> as Basic<V>>⟧.tag ⟦<Mcs<V> as Basic<V>>⟧.tag
+            ⟦<Clh<V> as Basic<V>>⟧.tag ⟦<Hemlock<V> as Basic<V>>⟧.tag (lock_inside self.now)) (holder_of held).place }
         requires fit { V.fit held.value }
         requires tagged { V.tag held.value ≡ by_kind ⟦<Ticket<V> as Basic<V>>⟧.tag ⟦<Mcs<V> as Basic<V>>⟧.tag
-            ⟦<Clh<V> as Basic<V>>⟧.tag ⟦<Hemlock<V> as Basic<V>>⟧.tag self.now.lock }
+            ⟦<Clh<V> as Basic<V>>⟧.tag ⟦<Hemlock<V> as Basic<V>>⟧.tag (lock_inside self.now) }
         requires relied_on { V.parked held.value ≡ true → (holder_of held).tested ≡ Yes }
         requires said { V.said held.value ≢ Open → V.said held.value ≡ (holder_of held).tested }
-        ensures leaves_at_once { only_queues (algorithm_of self.now.lock) ≡ true → IsGot result }
-        ensures behind { IfNot result (λ l. algorithm_of self.now.lock ≡ mcs_algorithm → (leave_waiting l).followed ≡ true) }
+        ensures leaves_at_once { only_queues (algorithm_of (lock_inside self.now)) ≡ true → IsGot result }
+        ensures behind { IfNot result (λ l. algorithm_of (lock_inside self.now) ≡ mcs_algorithm → (leave_waiting l).followed ≡ true) }
         ensures leave { IfNot result (λ l. (leave_waiting l).place ≡ (holder_of held).place) }
         ensures loaded { IfNot result (λ l. (leave_waiting l).loads ≡ (holder_of held).loads + 1) }
         ensures unready { IfNot result (λ l. (leave_waiting l).ready ≡ false) }
@@ -207,13 +208,13 @@ impl<V: Cargo> Basic<V> for AnyLock<V> {
 
     fn close(self, passes: Vec<Pass>) -> V
         requires all { AreAll (λ p. badge_place p.badge) (by_kind ⟦<Ticket<V> as Basic<V>>⟧.name ⟦<Mcs<V> as Basic<V>>⟧.name
-            ⟦<Clh<V> as Basic<V>>⟧.name ⟦<Hemlock<V> as Basic<V>>⟧.name self.lock) (by_kind ⟦<Ticket<V> as Basic<V>>⟧.tag
-            ⟦<Mcs<V> as Basic<V>>⟧.tag ⟦<Clh<V> as Basic<V>>⟧.tag ⟦<Hemlock<V> as Basic<V>>⟧.tag self.lock)
+            ⟦<Clh<V> as Basic<V>>⟧.name ⟦<Hemlock<V> as Basic<V>>⟧.name (lock_inside self)) (by_kind ⟦<Ticket<V> as Basic<V>>⟧.tag
+            ⟦<Mcs<V> as Basic<V>>⟧.tag ⟦<Clh<V> as Basic<V>>⟧.tag ⟦<Hemlock<V> as Basic<V>>⟧.tag (lock_inside self))
             (by_kind ⟦<Ticket<V> as Basic<V>>⟧.count ⟦<Mcs<V> as Basic<V>>⟧.count ⟦<Clh<V> as Basic<V>>⟧.count
-            ⟦<Hemlock<V> as Basic<V>>⟧.count self.lock) passes.items }
+            ⟦<Hemlock<V> as Basic<V>>⟧.count (lock_inside self)) passes.items }
         ensures fit { V.fit result }
         ensures tagged { V.tag result ≡ by_kind ⟦<Ticket<V> as Basic<V>>⟧.tag ⟦<Mcs<V> as Basic<V>>⟧.tag ⟦<Clh<V> as Basic<V>>⟧.tag
-            ⟦<Hemlock<V> as Basic<V>>⟧.tag self.lock }
+            ⟦<Hemlock<V> as Basic<V>>⟧.tag (lock_inside self) }
         ensures unparked { V.parked result ≡ false }
     {
         match self.lock {

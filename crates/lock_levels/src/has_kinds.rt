@@ -2,6 +2,7 @@
 ghost use Rattle.std.specs.Prelude.{◌+◌, ℕ, List, All};
 ghost use Rattle.lock_plan.specs.declared.kind.LockKind.{LockKind as Kind};
 ghost use Rattle.clof_compose.specs.Inside.{high_lock, node_locks, top_lock};
+ghost use Rattle.lock_levels.specs.AnyKinds.{lock_inside};
 ghost use Rattle.lock_levels.specs.Kinds.{IsOfKindAt};
 
 use crate::any_lock::AnyLock;
@@ -17,11 +18,11 @@ pub trait HasKinds<P: Payload>: Composed<P> {
 }
 
 impl<P: Payload> HasKinds<P> for Top<AnyLock<Root<P>>, Pass> {
-    ghost has_kinds = { λ l kinds level. IsOfKindAt kinds level (top_lock l).lock };
+    ghost has_kinds = { λ l kinds level. IsOfKindAt kinds level (lock_inside (top_lock l)) };
 }
 
 impl<P: Payload, H: HasKinds<P>> HasKinds<P>
     for Level<AnyLock<Own<P, H::Pass, H::Held>>, H, Pass, H::Pass> {
-    ghost has_kinds = { λ l kinds level. All (λ b. IsOfKindAt kinds level b.lock) (node_locks l)
+    ghost has_kinds = { λ l kinds level. All (λ b. IsOfKindAt kinds level (lock_inside b)) (node_locks l)
         × H.has_kinds (high_lock l) kinds (level + 1) };
 }

@@ -3,7 +3,7 @@ ghost use Rattle.std.specs.Prelude.{◌≡◌, ◌+◌, ◌<◌, ◌^◌, ℕ, l
 ghost use Rattle.keep_local.specs.Shapes.{IsWellFormed, callers_of, top_of};
 ghost use Rattle.clof_compose.specs.Courses.{course_of};
 ghost use Rattle.clof_compose.specs.Inside.{high_lock, node_locks};
-ghost use Rattle.clof_compose.specs.Roots.{IsFit, root_tag};
+ghost use Rattle.clof_compose.specs.Roots.{IsFit, root_tag, trail_of};
 ghost use Rattle.lock_levels.specs.AnyKinds.{any_kind};
 ghost use Rattle.lock_levels.specs.Raised.{IsRaised};
 
@@ -50,7 +50,7 @@ pub fn make_top_of<P: Payload>(
     requires level { level ≡ top_of shape.now }
     requires callers { 0 < callers_of shape.now }
     requires fit { IsFit P.calls root }
-    requires shape { root.trail.shape ≡ shape.now }
+    requires shape { (trail_of root).shape ≡ shape.now }
     ensures raised { IfOk result (λ m. IsRaised ⟦<TopPass<Pass> as Resting>⟧.rest (⟦<TopOf<P> as Composed<P>>⟧.has m.0)
         (⟦<TopOf<P> as Composed<P>>⟧.sound m.0) (⟦<TopOf<P> as Composed<P>>⟧.level m.0) (⟦<TopOf<P> as Composed<P>>⟧.count m.0)
         (⟦<TopOf<P> as Composed<P>>⟧.tag m.0) shape.now level (root_tag P.tag root) m.1.items) }

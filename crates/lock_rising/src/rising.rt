@@ -5,7 +5,7 @@
 //! what it makes of one.
 ghost use Rattle.std.specs.Prelude.{◌≡◌, ◌+◌, ◌<◌, ◌≤◌, length, IfOk};
 ghost use Rattle.keep_local.specs.Shapes.{callers_of, top_of};
-ghost use Rattle.clof_compose.specs.Roots.{IsFit, root_tag};
+ghost use Rattle.clof_compose.specs.Roots.{IsFit, root_tag, trail_of};
 ghost use Rattle.lock_levels.specs.Raised.{IsRaised};
 ghost use Rattle.lock_rising.specs.Ready.{MayRise};
 
@@ -38,7 +38,7 @@ pub fn rise_flat<
     requires top { top_of given.shape.now ≡ 0 }
     requires callers { 0 < callers_of given.shape.now }
     requires fit { IsFit P.calls root }
-    requires shape { root.trail.shape ≡ given.shape.now }
+    requires shape { (trail_of root).shape ≡ given.shape.now }
     requires may { MayRise (root_tag P.tag root) given.shape.now given.plan.now.kinds (W.dealt given.shared.now) given.brought }
     ensures { IfOk result (W.left given.entry.shared.now (root_tag P.tag root)) }
 {
@@ -69,7 +69,7 @@ pub fn rise<
     requires most { top ≤ 4 }
     requires callers { 0 < callers_of given.shape.now }
     requires fit { IsFit P.calls root }
-    requires shape { root.trail.shape ≡ given.shape.now }
+    requires shape { (trail_of root).shape ≡ given.shape.now }
     requires may { MayRise (root_tag P.tag root) given.shape.now given.plan.now.kinds (W.dealt given.shared.now) given.brought }
     ensures { IfOk result (W.left given.entry.shared.now (root_tag P.tag root)) }
 {

@@ -1,7 +1,7 @@
 //! Composed locks of one to five levels. No function here names a type of more than one level: the caller does.
 ghost use Rattle.std.specs.Prelude.{◌≡◌, ◌<◌, length, IfOk, IfErr};
 ghost use Rattle.keep_local.specs.Shapes.{callers_of, top_of};
-ghost use Rattle.clof_compose.specs.Roots.{IsFit, root_tag};
+ghost use Rattle.clof_compose.specs.Roots.{IsFit, root_tag, trail_of};
 ghost use Rattle.lock_tree.specs.Made.{IsMade};
 
 use crate::tiers::Tiers;
@@ -39,7 +39,7 @@ pub fn make_1<P: Payload>(
     requires top { top_of shape.now ≡ 0 }
     requires callers { 0 < callers_of shape.now }
     requires fit { IsFit P.calls root }
-    requires shape { root.trail.shape ≡ shape.now }
+    requires shape { (trail_of root).shape ≡ shape.now }
     ensures made { IfOk result (λ m. IsMade ⟦<TopPass<Pass> as Resting>⟧.rest (⟦<Lock1<P> as Composed<P>>⟧.has m.0)
         (⟦<Lock1<P> as Composed<P>>⟧.sound m.0) (⟦<Lock1<P> as Composed<P>>⟧.level m.0) (⟦<Lock1<P> as Composed<P>>⟧.count m.0)
         (⟦<Lock1<P> as Composed<P>>⟧.tag m.0) shape.now (root_tag P.tag root) m.1.items) }
@@ -62,7 +62,7 @@ pub fn make_2<P: Payload, L: Tiers<P>>(
     requires top { top_of shape.now ≡ 1 }
     requires callers { 0 < callers_of shape.now }
     requires fit { IsFit P.calls root }
-    requires shape { root.trail.shape ≡ shape.now }
+    requires shape { (trail_of root).shape ≡ shape.now }
     ensures made { IfOk result (λ m. IsMade L.Pass.rest (L.has m.0) (L.sound m.0) (L.level m.0) (L.count m.0)
         (L.tag m.0) shape.now (root_tag P.tag root) m.1.items) }
     ensures kinds { IfOk result (λ m. L.has_kinds m.0 plan.now.kinds 0) }
@@ -88,7 +88,7 @@ pub fn make_3<P: Payload, L: Tiers<P>>(
     requires top { top_of shape.now ≡ 2 }
     requires callers { 0 < callers_of shape.now }
     requires fit { IsFit P.calls root }
-    requires shape { root.trail.shape ≡ shape.now }
+    requires shape { (trail_of root).shape ≡ shape.now }
     ensures made { IfOk result (λ m. IsMade L.Pass.rest (L.has m.0) (L.sound m.0) (L.level m.0) (L.count m.0)
         (L.tag m.0) shape.now (root_tag P.tag root) m.1.items) }
     ensures kinds { IfOk result (λ m. L.has_kinds m.0 plan.now.kinds 0) }
@@ -114,7 +114,7 @@ pub fn make_4<P: Payload, L: Tiers<P>>(
     requires top { top_of shape.now ≡ 3 }
     requires callers { 0 < callers_of shape.now }
     requires fit { IsFit P.calls root }
-    requires shape { root.trail.shape ≡ shape.now }
+    requires shape { (trail_of root).shape ≡ shape.now }
     ensures made { IfOk result (λ m. IsMade L.Pass.rest (L.has m.0) (L.sound m.0) (L.level m.0) (L.count m.0)
         (L.tag m.0) shape.now (root_tag P.tag root) m.1.items) }
     ensures kinds { IfOk result (λ m. L.has_kinds m.0 plan.now.kinds 0) }
@@ -140,7 +140,7 @@ pub fn make_5<P: Payload, L: Tiers<P>>(
     requires top { top_of shape.now ≡ 4 }
     requires callers { 0 < callers_of shape.now }
     requires fit { IsFit P.calls root }
-    requires shape { root.trail.shape ≡ shape.now }
+    requires shape { (trail_of root).shape ≡ shape.now }
     ensures made { IfOk result (λ m. IsMade L.Pass.rest (L.has m.0) (L.sound m.0) (L.level m.0) (L.count m.0)
         (L.tag m.0) shape.now (root_tag P.tag root) m.1.items) }
     ensures kinds { IfOk result (λ m. L.has_kinds m.0 plan.now.kinds 0) }

@@ -1,7 +1,7 @@
 //! Locks of any number of levels, each made from the one with a level less.
 ghost use Rattle.std.specs.Prelude.{◌≡◌, ◌+◌, ◌<◌, ℕ, length, IfOk, IfErr};
 ghost use Rattle.keep_local.specs.Shapes.{callers_of, top_of};
-ghost use Rattle.clof_compose.specs.Roots.{IsFit, root_tag};
+ghost use Rattle.clof_compose.specs.Roots.{IsFit, root_tag, trail_of};
 ghost use Rattle.lock_levels.specs.Raised.{IsRaised};
 
 use clof_compose::{Composed, Level, Own, Payload, Resting, Root, Top, TopPass};
@@ -30,7 +30,7 @@ pub trait Tiers<P: Payload>: HasKinds<P> + Drop {
         requires lower { level + lower ≡ top_of shape.now }
         requires callers { 0 < callers_of shape.now }
         requires fit { IsFit P.calls root }
-        requires shape { root.trail.shape ≡ shape.now }
+        requires shape { (trail_of root).shape ≡ shape.now }
         ensures raised { IfOk result (λ m. IsRaised Self.Pass.rest (Self.has m.0) (Self.sound m.0) (Self.level m.0) (Self.count m.0)
             (Self.tag m.0) shape.now level (root_tag P.tag root) m.1.items) }
         ensures kinds { IfOk result (λ m. Self.has_kinds m.0 plan.now.kinds level) }
@@ -52,7 +52,7 @@ impl<P: Payload> Tiers<P> for Top<AnyLock<Root<P>>, Pass> {
         requires lower { level + 0 ≡ top_of shape.now }
         requires callers { 0 < callers_of shape.now }
         requires fit { IsFit P.calls root }
-        requires shape { root.trail.shape ≡ shape.now }
+        requires shape { (trail_of root).shape ≡ shape.now }
         ensures raised { IfOk result (λ m. IsRaised ⟦<TopPass<Pass> as Resting>⟧.rest (⟦<TopOf<P> as Composed<P>>⟧.has m.0)
             (⟦<TopOf<P> as Composed<P>>⟧.sound m.0) (⟦<TopOf<P> as Composed<P>>⟧.level m.0) (⟦<TopOf<P> as Composed<P>>⟧.count m.0)
             (⟦<TopOf<P> as Composed<P>>⟧.tag m.0) shape.now level (root_tag P.tag root) m.1.items) }
@@ -79,7 +79,7 @@ impl<P: Payload, H: Tiers<P>> Tiers<P>
         requires lower { level + (H.lower + 1) ≡ top_of shape.now }
         requires callers { 0 < callers_of shape.now }
         requires fit { IsFit P.calls root }
-        requires shape { root.trail.shape ≡ shape.now }
+        requires shape { (trail_of root).shape ≡ shape.now }
         ensures raised { IfOk result (λ m. IsRaised ⟦<LowPass as Resting>⟧.rest (⟦<LevelOver<P, H> as Composed<P>>⟧.has m.0)
             (⟦<LevelOver<P, H> as Composed<P>>⟧.sound m.0) (⟦<LevelOver<P, H> as Composed<P>>⟧.level m.0)
             (⟦<LevelOver<P, H> as Composed<P>>⟧.count m.0) (⟦<LevelOver<P, H> as Composed<P>>⟧.tag m.0)

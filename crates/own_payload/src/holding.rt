@@ -2,6 +2,7 @@
 ghost use Rattle.std.specs.Prelude.{◌≡◌, ◌+◌, ◌∷◌, [], ◌++◌};
 ghost use Rattle.clof_compose.specs.Calls.{MayTurn};
 ghost use Rattle.clof_compose.specs.Courses.{course_of};
+ghost use Rattle.clof_compose.specs.Roots.{payload_of, trail_of};
 ghost use Rattle.own_payload.specs.Jobs.{MayWork, HasServed};
 
 use crate::jobs::Job;
@@ -18,8 +19,8 @@ fn call<T: Drop, A, F: FnOnce(&mut T, u32) -> A>(
     work: F,
 ) -> A
     requires callable { (value : _) → F.pre work value caller }
-    ensures trail { root.new.trail ≡ root.old.trail }
-    ensures noted { root.new.payload.calls.callers ≡ root.old.payload.calls.callers ++ caller ∷ [] }
+    ensures trail { trail_of root.new ≡ trail_of root.old }
+    ensures noted { (payload_of root.new).calls.callers ≡ (payload_of root.old).calls.callers ++ caller ∷ [] }
 {
     let noted = root.payload_mut();
     noted.note(caller);

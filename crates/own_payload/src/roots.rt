@@ -4,7 +4,7 @@ ghost use Rattle.lock_rules.specs.Tag.{leaf};
 ghost use Rattle.keep_local.specs.Shapes.{IsWellFormed, callers_of};
 ghost use Rattle.keep_local.specs.States.{free_quotas, new_shares};
 ghost use Rattle.clof_compose.specs.Courses.{course_of};
-ghost use Rattle.clof_compose.specs.Roots.{IsFit, root_tag};
+ghost use Rattle.clof_compose.specs.Roots.{IsFit, root_tag, payload_of, trail_of};
 
 use crate::noted::Noted;
 use clof_compose::Root;
@@ -25,10 +25,10 @@ pub fn new_root<T: Drop>(
     requires quotas { length quotas.now ≡ callers_of shape.now }
     requires fits { sum quotas.now < 2 ^ 32 }
     ensures fit { IfSome result (λ m. IsFit (λ n. n.calls.callers) m.0) }
-    ensures value { IfSome result (λ m. m.0.payload.value ≡ value) }
-    ensures recorded { IfSome result (λ m. m.0.trail.recorded ≡ true) }
-    ensures shape { IfSome result (λ m. m.0.trail.shape ≡ shape.now) }
-    ensures quotas { IfSome result (λ m. m.0.trail.quotas ≡ quotas.now) }
+    ensures value { IfSome result (λ m. (payload_of m.0).value ≡ value) }
+    ensures recorded { IfSome result (λ m. (trail_of m.0).recorded ≡ true) }
+    ensures shape { IfSome result (λ m. (trail_of m.0).shape ≡ shape.now) }
+    ensures quotas { IfSome result (λ m. (trail_of m.0).quotas ≡ quotas.now) }
     ensures shares { IfSome result (λ m. m.1.items ≡ new_shares (course_of (root_tag (λ _. leaf 0) m.0)).name quotas.now) }
 {
     let Ok(own) = copied(alloc, shape) else {
@@ -50,10 +50,10 @@ pub fn new_unrecorded_root<T: Drop>(
     requires shaped { IsWellFormed shape.now }
     requires few { callers_of shape.now < 2 ^ 32 }
     ensures fit { IfSome result (λ m. IsFit (λ n. n.calls.callers) m.0) }
-    ensures value { IfSome result (λ m. m.0.payload.value ≡ value) }
-    ensures recorded { IfSome result (λ m. m.0.trail.recorded ≡ false) }
-    ensures shape { IfSome result (λ m. m.0.trail.shape ≡ shape.now) }
-    ensures quotas { IfSome result (λ m. m.0.trail.quotas ≡ free_quotas (callers_of shape.now)) }
+    ensures value { IfSome result (λ m. (payload_of m.0).value ≡ value) }
+    ensures recorded { IfSome result (λ m. (trail_of m.0).recorded ≡ false) }
+    ensures shape { IfSome result (λ m. (trail_of m.0).shape ≡ shape.now) }
+    ensures quotas { IfSome result (λ m. (trail_of m.0).quotas ≡ free_quotas (callers_of shape.now)) }
     ensures shares { IfSome result (λ m. m.1.items ≡ new_shares (course_of (root_tag (λ _. leaf 0) m.0)).name
         (free_quotas (callers_of shape.now))) }
 {

@@ -3,7 +3,7 @@ ghost use Rattle.std.specs.Prelude.{◌≡◌, ℕ, length, slice_get, All, IfSo
 ghost use Rattle.lock_rules.specs.Tag.{leaf};
 ghost use Rattle.keep_local.specs.States.{IsShareOf};
 ghost use Rattle.clof_compose.specs.Courses.{course_of};
-ghost use Rattle.clof_compose.specs.Roots.{IsFit, root_tag};
+ghost use Rattle.clof_compose.specs.Roots.{IsFit, root_tag, payload_of, trail_of};
 ghost use Rattle.own_payload.specs.Jobs.{AreEmpty, EachEnded, HasServed, IsEnded, MayWork};
 ghost use Rattle.own_payload.specs.Ready.{IsReady};
 
@@ -62,7 +62,7 @@ where
     requires asked { (caller : ℕ) → S.may server.now caller }
     ensures fit { IfSome result (IsFit (λ n. n.calls.callers)) }
     ensures tagged { IfSome result (λ r. root_tag (λ _. leaf 0) r ≡ C.tag lock) }
-    ensures ended { IfSome result (λ r. EachEnded (S.stops server.now) r.trail) }
+    ensures ended { IfSome result (λ r. EachEnded (S.stops server.now) (trail_of r)) }
 {
     let Some((jobs, lists)) = deal(alloc, &lock, lists) else {
         return None;
@@ -93,7 +93,7 @@ pub fn close_ended<T: Drop, C: Composed<Noted<T>> + Drop, S: Serves<T>>(
     requires emptied { AreEmpty (C.count lock) lists }
     ensures fit { IsFit (λ n. n.calls.callers) result }
     ensures tagged { root_tag (λ _. leaf 0) result ≡ C.tag lock }
-    ensures ended { EachEnded (S.stops _server.now) result.trail }
+    ensures ended { EachEnded (S.stops _server.now) (trail_of result) }
 {
     let Lists { passes, shares } = gather(jobs, lists);
     let root = lock.close(passes);
@@ -102,10 +102,10 @@ pub fn close_ended<T: Drop, C: Composed<Noted<T>> + Drop, S: Serves<T>>(
 
 // The same root: its trail and the shares show each other how many turns each caller has made.
 fn agreed<T: Drop>(root: Root<Noted<T>>, shares: Vec<Share>) -> Root<Noted<T>>
-    requires own { (k : ℕ) (s : _) → slice_get shares.items k ≡ Some s → s.name ≡ root.trail.name }
-    ensures trail { result.trail ≡ root.trail }
-    ensures payload { result.payload ≡ root.payload }
-    ensures counted { All (IsShareOf root.trail) shares.items }
+    requires own { (k : ℕ) (s : _) → slice_get shares.items k ≡ Some s → s.name ≡ (trail_of root).name }
+    ensures trail { trail_of result ≡ trail_of root }
+    ensures payload { payload_of result ≡ payload_of root }
+    ensures counted { All (IsShareOf (trail_of root)) shares.items }
 {
     let (mut trail, payload) = root.into_parts();
     agree(&mut trail, shares);

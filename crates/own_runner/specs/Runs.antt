@@ -8,7 +8,7 @@ use Rattle.keep_local.specs.States.{ShareState, new_shares}
 use Rattle.clof_compose.specs.Contexts.{Context}
 use Rattle.clof_compose.specs.Courses.{Course, course_of}
 use Rattle.clof_compose.specs.Meanings.{Rest}
-use Rattle.clof_compose.specs.Roots.{IsFit, root_tag}
+use Rattle.clof_compose.specs.Roots.{IsFit, root_tag, trail_of}
 use Rattle.clof_compose.specs.declared.root.Root.{Root}
 use Rattle.own_payload.specs.Jobs.{AreEmpty, EachEnded, IsEnded, IsJob}
 use Rattle.own_payload.specs.declared.jobs.Job.{Job}
@@ -44,4 +44,4 @@ module _ {P : Type 0} (rest : P → Rest) where
 pub record IsLeft {T : Type 0} (stops : ℕ → Type 0) (tag : Tag) (root : Root (Noted T)) : Type 0 where
   pub fit : IsFit (λ n. n.calls.callers) root
   pub tagged : root_tag (λ _. leaf 0) root ≡ tag
-  pub ended : EachEnded stops root.trail
+  pub ended : EachEnded stops (trail_of root)

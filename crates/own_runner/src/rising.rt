@@ -2,7 +2,7 @@
 ghost use Rattle.std.specs.Prelude.{◌≡◌, ◌<◌, ◌≤◌, ℕ, IfSome};
 ghost use Rattle.lock_rules.specs.Tag.{leaf};
 ghost use Rattle.keep_local.specs.Shapes.{callers_of, top_of};
-ghost use Rattle.clof_compose.specs.Roots.{IsFit, root_tag};
+ghost use Rattle.clof_compose.specs.Roots.{IsFit, root_tag, trail_of};
 ghost use Rattle.lock_rising.specs.Ready.{MayRise};
 ghost use Rattle.own_payload.specs.Jobs.{EachEnded};
 ghost use Rattle.own_runner.specs.Runs.{AreBrought};
@@ -28,12 +28,12 @@ where
     requires top { top_of given.shape.now ≡ 0 }
     requires callers { 0 < callers_of given.shape.now }
     requires fit { IsFit (λ n. n.calls.callers) root }
-    requires shape { root.trail.shape ≡ given.shape.now }
+    requires shape { (trail_of root).shape ≡ given.shape.now }
     requires may { MayRise (root_tag (λ _. leaf 0) root) given.shape.now given.plan.now.kinds AreBrought given.brought }
     requires asked { (caller : ℕ) → S.may given.shared.now caller }
     ensures fit { IfSome result (IsFit (λ n. n.calls.callers)) }
     ensures tagged { IfSome result (λ r. root_tag (λ _. leaf 0) r ≡ root_tag (λ _. leaf 0) root) }
-    ensures ended { IfSome result (λ r. EachEnded (S.stops given.entry.shared.now) r.trail) }
+    ensures ended { IfSome result (λ r. EachEnded (S.stops given.entry.shared.now) (trail_of r)) }
 {
     match rise_flat::<Noted<T>, (), Job<TopPass<Pass>>, Vec<Share>, Root<Noted<T>>, S, Tasked, R>(
         given, root,
@@ -57,12 +57,12 @@ where
     requires most { top ≤ 4 }
     requires callers { 0 < callers_of given.shape.now }
     requires fit { IsFit (λ n. n.calls.callers) root }
-    requires shape { root.trail.shape ≡ given.shape.now }
+    requires shape { (trail_of root).shape ≡ given.shape.now }
     requires may { MayRise (root_tag (λ _. leaf 0) root) given.shape.now given.plan.now.kinds AreBrought given.brought }
     requires asked { (caller : ℕ) → S.may given.shared.now caller }
     ensures fit { IfSome result (IsFit (λ n. n.calls.callers)) }
     ensures tagged { IfSome result (λ r. root_tag (λ _. leaf 0) r ≡ root_tag (λ _. leaf 0) root) }
-    ensures ended { IfSome result (λ r. EachEnded (S.stops given.entry.shared.now) r.trail) }
+    ensures ended { IfSome result (λ r. EachEnded (S.stops given.entry.shared.now) (trail_of r)) }
 {
     match rise::<Noted<T>, (), Job<LowPass>, Vec<Share>, Root<Noted<T>>, S, Tasked, R>(
         given, root, top,

@@ -3,7 +3,7 @@ ghost use Rattle.std.specs.Prelude.{◌≡◌, ◌+◌, ◌<◌, ◌^◌, ℕ, t
 ghost use Rattle.lock_rules.specs.Tag.{leaf};
 ghost use Rattle.keep_local.specs.Shapes.{IsWellFormed, callers_of, top_of};
 ghost use Rattle.keep_local.specs.States.{free_quotas};
-ghost use Rattle.clof_compose.specs.Roots.{IsFit, root_tag};
+ghost use Rattle.clof_compose.specs.Roots.{IsFit, root_tag, trail_of};
 ghost use Rattle.lock_rising.specs.Ready.{MayRise};
 ghost use Rattle.own_payload.specs.Jobs.{EachEnded, EachMadeAll};
 ghost use Rattle.own_runner.specs.Runs.{AreBrought};
@@ -39,10 +39,10 @@ pub fn run<T: Send + Sync + Drop, F: Fn(&mut T, u32) + Sync, R: Threads + Wait +
     requires fits { sum quotas.now < 2 ^ 32 }
     requires callable { F.IsAlwaysCallable work.now }
     ensures fit { IfSome result (IsFit (λ n. n.calls.callers)) }
-    ensures recorded { IfSome result (λ r. r.trail.recorded ≡ true) }
-    ensures shape { IfSome result (λ r. r.trail.shape ≡ shape.now) }
-    ensures quotas { IfSome result (λ r. r.trail.quotas ≡ quotas.now) }
-    ensures made { IfSome result (λ r. EachMadeAll r.trail) }
+    ensures recorded { IfSome result (λ r. (trail_of r).recorded ≡ true) }
+    ensures shape { IfSome result (λ r. (trail_of r).shape ≡ shape.now) }
+    ensures quotas { IfSome result (λ r. (trail_of r).quotas ≡ quotas.now) }
+    ensures made { IfSome result (λ r. EachMadeAll (trail_of r)) }
 {
     let Some((root, shares)) = new_root(alloc, shape, quotas, value) else {
         return None;
@@ -80,10 +80,10 @@ where
     requires few { callers_of shape.now < 2 ^ 32 }
     requires asked { (caller : ℕ) → S.may server.now caller }
     ensures fit { IfSome result (IsFit (λ n. n.calls.callers)) }
-    ensures recorded { IfSome result (λ r. r.trail.recorded ≡ false) }
-    ensures shape { IfSome result (λ r. r.trail.shape ≡ shape.now) }
-    ensures quotas { IfSome result (λ r. r.trail.quotas ≡ free_quotas (callers_of shape.now)) }
-    ensures ended { IfSome result (λ r. EachEnded (S.stops server.now) r.trail) }
+    ensures recorded { IfSome result (λ r. (trail_of r).recorded ≡ false) }
+    ensures shape { IfSome result (λ r. (trail_of r).shape ≡ shape.now) }
+    ensures quotas { IfSome result (λ r. (trail_of r).quotas ≡ free_quotas (callers_of shape.now)) }
+    ensures ended { IfSome result (λ r. EachEnded (S.stops server.now) (trail_of r)) }
 {
     let Some((root, shares)) = new_unrecorded_root(alloc, shape, value) else {
         return None;
@@ -111,12 +111,12 @@ where
     requires levels { top_of given.shape.now < 5 }
     requires callers { 0 < callers_of given.shape.now }
     requires fit { IsFit (λ n. n.calls.callers) root }
-    requires shape { root.trail.shape ≡ given.shape.now }
+    requires shape { (trail_of root).shape ≡ given.shape.now }
     requires may { MayRise (root_tag (λ _. leaf 0) root) given.shape.now given.plan.now.kinds AreBrought given.brought }
     requires asked { (caller : ℕ) → S.may given.shared.now caller }
     ensures fit { IfSome result (IsFit (λ n. n.calls.callers)) }
     ensures tagged { IfSome result (λ r. root_tag (λ _. leaf 0) r ≡ root_tag (λ _. leaf 0) root) }
-    ensures ended { IfSome result (λ r. EachEnded (S.stops given.entry.shared.now) r.trail) }
+    ensures ended { IfSome result (λ r. EachEnded (S.stops given.entry.shared.now) (trail_of r)) }
 {
     let top = given.plan.kinds.as_slice().len() - 1;
     if top == 0 {

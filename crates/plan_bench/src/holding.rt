@@ -2,6 +2,7 @@
 ghost use Rattle.std.specs.Prelude.{◌≡◌, ◌+◌, ◌∷◌, [], ◌++◌};
 ghost use Rattle.clof_compose.specs.Calls.{MayTurn};
 ghost use Rattle.clof_compose.specs.Courses.{course_of};
+ghost use Rattle.clof_compose.specs.Roots.{payload_of, trail_of};
 ghost use Rattle.own_payload.specs.Jobs.{HasServed, MayWork};
 
 use clof_compose::{Resting, Root, Standing, Waits};
@@ -55,8 +56,8 @@ fn hold<C: Waits<Noted<u64>>, R: Wait>(
 
 // Notes the holder's call, and counts it.
 fn call(root: &mut Root<Noted<u64>>, caller: u32)
-    ensures trail { root.new.trail ≡ root.old.trail }
-    ensures noted { root.new.payload.calls.callers ≡ root.old.payload.calls.callers ++ caller ∷ [] }
+    ensures trail { trail_of root.new ≡ trail_of root.old }
+    ensures noted { (payload_of root.new).calls.callers ≡ (payload_of root.old).calls.callers ++ caller ∷ [] }
 {
     let noted = root.payload_mut();
     noted.note(caller);

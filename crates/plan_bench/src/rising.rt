@@ -2,7 +2,7 @@
 ghost use Rattle.std.specs.Prelude.{◌≡◌, ◌<◌, ◌≤◌};
 ghost use Rattle.lock_rules.specs.Tag.{leaf};
 ghost use Rattle.keep_local.specs.Shapes.{callers_of, top_of};
-ghost use Rattle.clof_compose.specs.Roots.{IsFit, root_tag};
+ghost use Rattle.clof_compose.specs.Roots.{IsFit, root_tag, trail_of};
 ghost use Rattle.lock_rising.specs.Ready.{MayRise};
 ghost use Rattle.own_runner.specs.Runs.{AreBrought};
 
@@ -24,7 +24,7 @@ pub(crate) fn hold_flat<'r, R: Threads + Wait + Sync>(
     requires top { top_of given.shape.now ≡ 0 }
     requires callers { 0 < callers_of given.shape.now }
     requires fit { IsFit (λ n. n.calls.callers) root }
-    requires shape { root.trail.shape ≡ given.shape.now }
+    requires shape { (trail_of root).shape ≡ given.shape.now }
     requires may { MayRise (root_tag (λ _. leaf 0) root) given.shape.now given.plan.now.kinds AreBrought given.brought }
 {
     match rise_flat::<Noted<u64>, (), Job<TopPass<Pass>>, Vec<Share>, u64, u32, Repeated, R>(
@@ -46,7 +46,7 @@ pub(crate) fn hold_deep<'r, R: Threads + Wait + Sync>(
     requires most { top ≤ 4 }
     requires callers { 0 < callers_of given.shape.now }
     requires fit { IsFit (λ n. n.calls.callers) root }
-    requires shape { root.trail.shape ≡ given.shape.now }
+    requires shape { (trail_of root).shape ≡ given.shape.now }
     requires may { MayRise (root_tag (λ _. leaf 0) root) given.shape.now given.plan.now.kinds AreBrought given.brought }
 {
     match rise::<Noted<u64>, (), Job<LowPass>, Vec<Share>, u64, u32, Repeated, R>(

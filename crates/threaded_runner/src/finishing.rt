@@ -3,7 +3,7 @@ ghost use Rattle.std.specs.Prelude.{◌≡◌, ◌<◌, ℕ, length, map, slice_
 ghost use Rattle.lock_rules.specs.Trees.{lists_in};
 ghost use Rattle.keep_local.specs.States.{IsShareOf};
 ghost use Rattle.clof_compose.specs.Courses.{course_of};
-ghost use Rattle.clof_compose.specs.Roots.{IsFit};
+ghost use Rattle.clof_compose.specs.Roots.{IsFit, payload_of, trail_of};
 ghost use Rattle.mc_text.specs.Reading.{commands_of};
 ghost use Rattle.kv_history.specs.Log.{NoneVoid};
 ghost use Rattle.run_texts.specs.Printed.{IsRun};
@@ -61,14 +61,14 @@ pub fn close_run<'a, C: Composed<Book<'a>> + Drop>(
 /// refused memory, that is the answer.
 pub fn finish<'a>(root: Root<Book<'a>>, shares: Vec<Share>) -> Result<Finished<'a>, OutOfMemory>
     requires fit { IsFit book_calls root }
-    requires quotas { root.trail.quotas ≡ map (λ section. length (commands_of section)) root.payload.journal.sections }
-    requires recorded { root.trail.recorded ≡ true }
-    requires shares { AreDone root.trail.name root.trail.quotas shares.items }
-    requires many { length shares.items ≡ length root.payload.journal.sections }
+    requires quotas { (trail_of root).quotas ≡ map (λ section. length (commands_of section)) (payload_of root).journal.sections }
+    requires recorded { (trail_of root).recorded ≡ true }
+    requires shares { AreDone (trail_of root).name (trail_of root).quotas shares.items }
+    requires many { length shares.items ≡ length (payload_of root).journal.sections }
     ensures finished { IfOk result (λ left. IsFinished left.trail left.journal) }
-    ensures trail { IfOk result (λ left. left.trail ≡ root.entry.trail) }
-    ensures journal { IfOk result (λ left. left.journal ≡ root.entry.payload.journal) }
-    ensures void { OnErr result (¬ NoneVoid root.entry.payload.journal.entries) }
+    ensures trail { IfOk result (λ left. left.trail ≡ trail_of root.entry) }
+    ensures journal { IfOk result (λ left. left.journal ≡ (payload_of root.entry).journal) }
+    ensures void { OnErr result (¬ NoneVoid (payload_of root.entry).journal.entries) }
 {
     let (mut trail, Book { journal, .. }) = root.into_parts();
     agree(&mut trail, shares);

@@ -2,6 +2,7 @@
 ghost use Rattle.std.specs.Prelude.{◌≡◌, ◌+◌, ◌<◌, ◌++◌, ◌∷◌, [], false};
 ghost use Rattle.clof_compose.specs.Calls.{MayTurn};
 ghost use Rattle.clof_compose.specs.Courses.{course_of};
+ghost use Rattle.clof_compose.specs.Roots.{payload_of, trail_of};
 ghost use Rattle.kv_history.specs.Log.{IsNext, calls};
 ghost use Rattle.mc_text.specs.Commands.{commands_left};
 ghost use Rattle.mc_text.specs.Request.{view};
@@ -158,10 +159,10 @@ fn hold<'a, C: Waits<Book<'a>>, G: Gate, R: Wait>(
 
 /// Applies a caller's next command to the journal of a root. The answer is whether it was refused, which is for want of memory.
 pub fn apply<'a>(root: &mut Root<Book<'a>>, caller: u32, command: Command<'a>) -> bool
-    requires next { IsNext root.old.payload.journal.sections (calls root.old.payload.journal) caller (view command) }
-    ensures trail { root.new.trail ≡ root.old.trail }
-    ensures sections { root.new.payload.journal.sections ≡ root.old.payload.journal.sections }
-    ensures called { calls root.new.payload.journal ≡ calls root.old.payload.journal ++ caller ∷ [] }
+    requires next { IsNext (payload_of root.old).journal.sections (calls (payload_of root.old).journal) caller (view command) }
+    ensures trail { trail_of root.new ≡ trail_of root.old }
+    ensures sections { (payload_of root.new).journal.sections ≡ (payload_of root.old).journal.sections }
+    ensures called { calls (payload_of root.new).journal ≡ calls (payload_of root.old).journal ++ caller ∷ [] }
 {
     root.payload_mut().journal.apply(caller, command).is_err()
 }

@@ -3,7 +3,7 @@ ghost use Rattle.std.specs.Prelude.{◌≡◌, ◌<◌, ◌≤◌, ◌^◌, [], 
 ghost use Rattle.keep_local.specs.Shapes.{IsWellFormed, callers_of};
 ghost use Rattle.keep_local.specs.States.{new_trail};
 ghost use Rattle.clof_compose.specs.Courses.{course_of};
-ghost use Rattle.clof_compose.specs.Roots.{IsFit, root_tag};
+ghost use Rattle.clof_compose.specs.Roots.{IsFit, root_tag, payload_of, trail_of};
 ghost use Rattle.mc_text.specs.Reading.{commands_of};
 ghost use Rattle.threaded_runner.specs.Books.{book_calls, book_tag};
 ghost use Rattle.threaded_runner.specs.Ready.{IsDealt};
@@ -30,10 +30,10 @@ pub fn root_of<'a>(
     ensures fit { IfOk result (λ made. IsFit book_calls made.0) }
     ensures dealt { IfOk result (λ made. IsDealt (course_of (root_tag book_tag made.0))
         (map (λ section. section.bytes.now) sections.now) made.1.items) }
-    ensures trail { IfOk result (λ made. made.0.trail ≡ new_trail made.0.trail.name made.0.trail.receipts shape
+    ensures trail { IfOk result (λ made. trail_of made.0 ≡ new_trail (trail_of made.0).name (trail_of made.0).receipts shape
         (map (λ section. length (commands_of section.bytes.now)) sections.now)) }
-    ensures sections { IfOk result (λ made. made.0.payload.journal.sections ≡ map (λ section. section.bytes.now) sections.now) }
-    ensures entries { IfOk result (λ made. made.0.payload.journal.entries ≡ []) }
+    ensures sections { IfOk result (λ made. (payload_of made.0).journal.sections ≡ map (λ section. section.bytes.now) sections.now) }
+    ensures entries { IfOk result (λ made. (payload_of made.0).journal.entries ≡ []) }
 {
     let journal = journal_of(alloc, sections)?;
     journal.facts();

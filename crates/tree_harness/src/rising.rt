@@ -1,7 +1,7 @@
 //! A trial under the lock of a plan, which is made from the top down.
 ghost use Rattle.std.specs.Prelude.{◌≡◌, ◌<◌, ◌≤◌, IfSome};
 ghost use Rattle.keep_local.specs.Shapes.{callers_of, top_of};
-ghost use Rattle.clof_compose.specs.Roots.{IsFit, root_tag};
+ghost use Rattle.clof_compose.specs.Roots.{IsFit, root_tag, trail_of};
 ghost use Rattle.level_harness.specs.Rooms.{roll_tag};
 ghost use Rattle.lock_rising.specs.Ready.{MayRise};
 ghost use Rattle.tree_harness.specs.Ready.{IsBrought};
@@ -25,7 +25,7 @@ pub(crate) fn try_flat<'r, 't, R: Threads + Wait + Sync>(
     requires top { top_of given.shape.now ≡ 0 }
     requires callers { 0 < callers_of given.shape.now }
     requires fit { IsFit (λ r. r.callers.items) root }
-    requires shape { root.trail.shape ≡ given.shape.now }
+    requires shape { (trail_of root).shape ≡ given.shape.now }
     requires may { MayRise (root_tag roll_tag root) given.shape.now given.plan.now.kinds IsBrought given.brought }
     ensures fit { IfSome result (λ o. IsFit (λ r. r.callers.items) o.root) }
     ensures tagged { IfSome result (λ o. root_tag roll_tag o.root ≡ root_tag roll_tag root) }
@@ -49,7 +49,7 @@ pub(crate) fn try_deep<'r, 't, R: Threads + Wait + Sync>(
     requires most { top ≤ 4 }
     requires callers { 0 < callers_of given.shape.now }
     requires fit { IsFit (λ r. r.callers.items) root }
-    requires shape { root.trail.shape ≡ given.shape.now }
+    requires shape { (trail_of root).shape ≡ given.shape.now }
     requires may { MayRise (root_tag roll_tag root) given.shape.now given.plan.now.kinds IsBrought given.brought }
     ensures fit { IfSome result (λ o. IsFit (λ r. r.callers.items) o.root) }
     ensures tagged { IfSome result (λ o. root_tag roll_tag o.root ≡ root_tag roll_tag root) }

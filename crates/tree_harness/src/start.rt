@@ -3,7 +3,7 @@ ghost use Rattle.std.specs.Prelude.{◌≡◌, ◌^◌, ◌<◌, length, sum, If
 ghost use Rattle.keep_local.specs.Shapes.{IsWellFormed, callers_of};
 ghost use Rattle.keep_local.specs.States.{new_shares};
 ghost use Rattle.clof_compose.specs.Courses.{course_of};
-ghost use Rattle.clof_compose.specs.Roots.{IsFit, root_tag};
+ghost use Rattle.clof_compose.specs.Roots.{IsFit, root_tag, trail_of};
 ghost use Rattle.level_harness.specs.Rooms.{HasRoom, roll_tag};
 
 use clof_compose::Root;
@@ -32,8 +32,8 @@ pub fn make_start(alloc: Global, kinds: &[LockKind], shape: Shape, quotas: &[u32
     ensures kinds { IfSome result (λ s. s.plan.kinds ≡ kinds.now) }
     ensures shape { IfSome result (λ s. s.shape ≡ shape) }
     ensures fit { IfSome result (λ s. IsFit (λ r. r.callers.items) s.root) }
-    ensures same { IfSome result (λ s. s.root.trail.shape ≡ shape) }
-    ensures quotas { IfSome result (λ s. s.root.trail.quotas ≡ quotas.now) }
+    ensures same { IfSome result (λ s. (trail_of s.root).shape ≡ shape) }
+    ensures quotas { IfSome result (λ s. (trail_of s.root).quotas ≡ quotas.now) }
     ensures shares { IfSome result (λ s. s.shares.items ≡ new_shares (course_of (root_tag roll_tag s.root)).name
         (course_of (root_tag roll_tag s.root)).quotas) }
     ensures room { IfSome result (λ s. HasRoom (course_of (root_tag roll_tag s.root))) }

@@ -1,7 +1,7 @@
 //! A trial of a lock, from its making to its end.
 ghost use Rattle.std.specs.Prelude.{◌≡◌, ◌+◌, ◌^◌, ◌<◌, length, sum, true, IfSome};
 ghost use Rattle.keep_local.specs.Shapes.{IsWellFormed, callers_of, top_of};
-ghost use Rattle.clof_compose.specs.Roots.{IsFit};
+ghost use Rattle.clof_compose.specs.Roots.{IsFit, trail_of};
 
 use crate::given::{Brought, Trial};
 use crate::outcome::Outcome;
@@ -33,9 +33,9 @@ pub fn try_lock<R: Threads + Wait + Sync>(
     requires quotas { length quotas.now ≡ callers_of shape }
     requires fits { sum quotas.now < 2 ^ 32 }
     ensures fit { IfSome result (λ o. IsFit (λ r. r.callers.items) o.root) }
-    ensures shape { IfSome result (λ o. o.root.trail.shape ≡ shape) }
-    ensures quotas { IfSome result (λ o. o.root.trail.quotas ≡ quotas.now) }
-    ensures recorded { IfSome result (λ o. o.root.trail.recorded ≡ true) }
+    ensures shape { IfSome result (λ o. (trail_of o.root).shape ≡ shape) }
+    ensures quotas { IfSome result (λ o. (trail_of o.root).quotas ≡ quotas.now) }
+    ensures recorded { IfSome result (λ o. (trail_of o.root).recorded ≡ true) }
 {
     if quotas.is_empty() {
         return None;
