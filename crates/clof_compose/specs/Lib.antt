@@ -15,3 +15,5 @@ pub mod Shares
 pub mod Names
 pub mod NameLaws
 pub mod Inside
+pub mod TopTokens
+pub mod LevelTokens

@@ -1,9 +1,11 @@
 //! A level of a composition.
-ghost use Rattle.std.specs.Prelude.{◌≡◌, vec_capacity, length, map};
+ghost use Rattle.std.specs.Prelude.{◌≡◌, length, map};
+ghost use Rattle.clof_compose.specs.Inside.{high_lock, level_keep, level_list, level_nodes, level_number, level_room};
+ghost use Rattle.clof_compose.specs.Inside.{node_locks, parents_of};
+ghost use Rattle.clof_compose.specs.LevelTokens.{level_rest};
 ghost use Rattle.clof_compose.specs.Names.{level_name};
 ghost use Rattle.clof_compose.specs.NameLaws.{level_named};
-ghost use Rattle.clof_compose.specs.Nodes.{IsLevel, IsOfLevel, locks_of};
-ghost use Rattle.clof_compose.specs.Levels.{level_context};
+ghost use Rattle.clof_compose.specs.Nodes.{IsLevel, IsOfLevel};
 ghost use Rattle.clof_compose.specs.Passes.{AreAll};
 ghost use Rattle.clof_compose.specs.Roots.{root_tag, IsFit};
 
@@ -46,20 +48,21 @@ impl<
 
     type Leave = LevelLeave<P, B::Leave, H::Pass, H::Held, H::Leave>;
 
-    ghost name = { λ l. level_name l.level (map B.name (locks_of l.nodes.items)) (H.name l.high) };
+    ghost name = { λ l. level_name (level_number l) (map B.name (node_locks l)) (H.name (high_lock l)) };
 
-    ghost level = { λ l. l.level };
+    ghost level = { λ l. level_number l };
 
-    ghost tag = { λ l. H.tag l.high };
+    ghost tag = { λ l. H.tag (high_lock l) };
 
-    ghost count = { λ l. length l.parents.items };
+    ghost count = { λ l. length (parents_of l) };
 
-    ghost sound = { λ l. IsLevel B.name B.tag B.count B.Pass.place (H.has l.high) (H.sound l.high) (H.level l.high) (H.count l.high)
-        (H.tag l.high) l.level l.keep l.parents.items l.nodes.items l.list.items (vec_capacity l.list) };
+    ghost sound = { λ l. IsLevel B.name B.tag B.count B.Pass.place (H.has (high_lock l)) (H.sound (high_lock l)) (H.level (high_lock l))
+        (H.count (high_lock l)) (H.tag (high_lock l)) (level_number l) (level_keep l) (parents_of l) (level_nodes l) (level_list l)
+        (level_room l) };
 
-    ghost has = { λ l. IsOfLevel B.name B.tag l.level l.parents.items (locks_of l.nodes.items) };
+    ghost has = { λ l. IsOfLevel B.name B.tag (level_number l) (parents_of l) (node_locks l) };
 
-    ghost named = { λ l c sound own. level_named (H.name l.high) c sound own };
+    ghost named = { λ l c sound own. level_named (H.name (high_lock l)) c sound own };
 
     #[inline(always)]
     fn begin(
@@ -159,14 +162,14 @@ impl<
     }
 
     fn close(self, passes: Vec<LevelPass<B::Pass>>) -> Root<P>
-        requires sound { IsLevel B.name B.tag B.count B.Pass.place (H.has self.high) (H.sound self.high) (H.level self.high)
-            (H.count self.high) (H.tag self.high) self.level self.keep self.parents.items self.nodes.items self.list.items
-            (vec_capacity self.list) }
-        requires all { AreAll (λ p. level_context p.id.level p.id.node p.id.number (B.Pass.place p.low))
-            (IsOfLevel B.name B.tag self.level self.parents.items (locks_of self.nodes.items)) self.level (H.tag self.high)
-            (length self.parents.items) passes.items }
+        requires sound { IsLevel B.name B.tag B.count B.Pass.place (H.has (high_lock self)) (H.sound (high_lock self))
+            (H.level (high_lock self)) (H.count (high_lock self)) (H.tag (high_lock self)) (level_number self) (level_keep self)
+            (parents_of self) (level_nodes self) (level_list self) (level_room self) }
+        requires all { AreAll (λ p. (level_rest B.Pass.place B.Pass.entries p).context)
+            (IsOfLevel B.name B.tag (level_number self) (parents_of self) (node_locks self)) (level_number self) (H.tag (high_lock self))
+            (length (parents_of self)) passes.items }
         ensures fit { IsFit P.calls result }
-        ensures tagged { root_tag P.tag result ≡ H.tag self.high }
+        ensures tagged { root_tag P.tag result ≡ H.tag (high_lock self) }
     {
         let Level {
             high,

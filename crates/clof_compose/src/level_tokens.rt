@@ -1,10 +1,6 @@
 //! The tokens of a level: those of its node's basic lock, beside those of the high lock while it is being taken or released.
-ghost use Rattle.std.specs.Prelude.{◌≡◌};
-ghost use Rattle.lock_rules.specs.Holders.{holder_of, with_value};
-ghost use Rattle.lock_rules.specs.Views.{answer_of};
-ghost use Rattle.lock_rules.specs.declared.step.Answer.TheVariants.{Open};
-ghost use Rattle.clof_compose.specs.Levels.{level_context, kept_stand, loads_from, own_with_root, IsHolding, IsStanding};
-ghost use Rattle.clof_compose.specs.Stages.{queue_climb, IsQueued, leave_descent, IsLeaving};
+ghost use Rattle.clof_compose.specs.LevelTokens.{level_rest, level_stand, level_with_root, level_climb, level_descent};
+ghost use Rattle.clof_compose.specs.LevelTokens.{LevelStands, LevelClimbs, LevelDescends};
 
 use crate::context_id::ContextId;
 use crate::own::Own;
@@ -47,11 +43,7 @@ pub struct LevelLeave<P, L, Pass, Held, HL> {
 }
 
 impl<L: Placed> Resting for LevelPass<L> {
-    ghost rest = { λ p. record {
-      context = level_context p.id.level p.id.node p.id.number (L.place p.low);
-      entries = L.entries p.low;
-      report = p.report;
-    } };
+    ghost rest = { level_rest L.place L.entries };
 
     fn tests(&self) -> u32 {
         self.report.tests
@@ -63,17 +55,11 @@ impl<L: Placed> Resting for LevelPass<L> {
 }
 
 impl<P: Payload, Pass: Resting, Held: Standing<P>> Standing<P> for LevelHeld<P, Pass, Held> {
-    ghost stand = { λ h. record {
-      context = level_context h.id.level h.id.node h.id.number (holder_of h.low).place;
-      loads = loads_from h.id.level (holder_of h.low).loads (kept_stand Held.stand h.low.value.high).loads;
-      root =
-          (kept_stand Held.stand h.low.value.high).root;
-    } };
+    ghost stand = { level_stand Held.stand };
 
-    ghost stands = { λ h. IsHolding h.id.level h.low.value.node h.low.value.kept (holder_of h.low).place.tag
-        (IsStanding Held.stands h.low.value.high) (kept_stand Held.stand h.low.value.high) × ((holder_of h.low).tested ≡ Open) };
+    ghost stands = { LevelStands Held.stand Held.stands };
 
-    ghost put_root = { λ h r. record h { low = with_value h.low (own_with_root Held.put_root h.low.value r) } };
+    ghost put_root = { level_with_root Held.put_root };
 
     fn root(&mut self) -> &mut Root<P> {
         let own = self.low.value_mut();
@@ -83,9 +69,9 @@ impl<P: Payload, Pass: Resting, Held: Standing<P>> Standing<P> for LevelHeld<P, 
 
 impl<P: Payload, Q: Queueing, Pass: Resting, Held: Standing<P>, HQ: Climbing> Climbing
     for LevelQueue<P, Q, Pass, Held, HQ> {
-    ghost climb = { λ q. queue_climb Q.waiting HQ.climb q.id.level q.id.node q.id.number q.stage };
+    ghost climb = { level_climb Q.waiting HQ.climb };
 
-    ghost climbs = { λ q. IsQueued HQ.climb HQ.climbs q.id.level q.stage };
+    ghost climbs = { LevelClimbs HQ.climb HQ.climbs };
 
     fn waits_at(&self) -> u32 {
         match &self.stage {
@@ -97,9 +83,9 @@ impl<P: Payload, Q: Queueing, Pass: Resting, Held: Standing<P>, HQ: Climbing> Cl
 
 impl<P: Payload, L: Departing, Pass: Resting, Held: Standing<P>, HL: Descending> Descending
     for LevelLeave<P, L, Pass, Held, HL> {
-    ghost descent = { λ l. leave_descent L.waiting HL.descent l.id.level l.id.node l.id.number l.stage };
+    ghost descent = { level_descent L.waiting HL.descent };
 
-    ghost descends = { λ l. IsLeaving L.rests HL.descent HL.descends l.id.level l.stage };
+    ghost descends = { LevelDescends L.rests HL.descent HL.descends };
 
     fn leaves_at(&self) -> u32 {
         match &self.stage {

@@ -2,11 +2,13 @@
 ghost use Rattle.std.specs.Prelude.{◌≡◌, ◌<◌, ◌≤◌, [], map, false, IfOk, IfErr, vec_capacity, length};
 ghost use Rattle.keep_local.specs.Shapes.{top_of, callers_of};
 ghost use Rattle.clof_compose.specs.Courses.{course_of};
+ghost use Rattle.clof_compose.specs.Inside.{top_list, top_lock, top_number, top_room};
 ghost use Rattle.clof_compose.specs.Names.{top_name};
 ghost use Rattle.clof_compose.specs.NameLaws.{top_named};
 ghost use Rattle.clof_compose.specs.Passes.{AreAll};
 ghost use Rattle.clof_compose.specs.Roots.{root_tag, IsFit};
-ghost use Rattle.clof_compose.specs.Tops.{IsTop, IsOfTop, top_context};
+ghost use Rattle.clof_compose.specs.TopTokens.{top_rest};
+ghost use Rattle.clof_compose.specs.Tops.{IsTop, IsOfTop};
 
 use crate::composed::Composed;
 use crate::root::Root;
@@ -32,19 +34,19 @@ impl<P: Payload, B: Basic<Root<P>, Held = Held<Root<P>>>> Composed<P> for Top<B,
 
     type Leave = TopLeave<B::Leave>;
 
-    ghost name = { λ t. top_name t.level (B.name t.low) };
+    ghost name = { λ t. top_name (top_number t) (B.name (top_lock t)) };
 
-    ghost level = { λ t. t.level };
+    ghost level = { λ t. top_number t };
 
-    ghost tag = { λ t. B.tag t.low };
+    ghost tag = { λ t. B.tag (top_lock t) };
 
-    ghost count = { λ t. B.count t.low };
+    ghost count = { λ t. B.count (top_lock t) };
 
-    ghost sound = { λ t. IsTop t.level (B.count t.low) (B.tag t.low) t.list.items (vec_capacity t.list) };
+    ghost sound = { λ t. IsTop (top_number t) (B.count (top_lock t)) (B.tag (top_lock t)) (top_list t) (top_room t) };
 
-    ghost has = { λ t. IsOfTop t.level (B.name t.low) (B.tag t.low) };
+    ghost has = { λ t. IsOfTop (top_number t) (B.name (top_lock t)) (B.tag (top_lock t)) };
 
-    ghost named = { λ t c _ own. top_named t.level (B.name t.low) (B.tag t.low) c own };
+    ghost named = { λ t c _ own. top_named (top_number t) (B.name (top_lock t)) (B.tag (top_lock t)) c own };
 
     #[inline(always)]
     fn begin(
@@ -109,11 +111,12 @@ impl<P: Payload, B: Basic<Root<P>, Held = Held<Root<P>>>> Composed<P> for Top<B,
     }
 
     fn close(self, passes: Vec<TopPass<B::Pass>>) -> Root<P>
-        requires sound { IsTop self.level (B.count self.low) (B.tag self.low) self.list.items (vec_capacity self.list) }
-        requires all { AreAll (λ p. top_context p.level (B.Pass.place p.low)) (IsOfTop self.level (B.name self.low) (B.tag self.low))
-            self.level (B.tag self.low) (B.count self.low) passes.items }
+        requires sound { IsTop (top_number self) (B.count (top_lock self)) (B.tag (top_lock self)) (top_list self) (top_room self) }
+        requires all { AreAll (λ p. (top_rest B.Pass.place B.Pass.entries p).context)
+            (IsOfTop (top_number self) (B.name (top_lock self)) (B.tag (top_lock self))) (top_number self) (B.tag (top_lock self))
+            (B.count (top_lock self)) passes.items }
         ensures fit { IsFit P.calls result }
-        ensures tagged { root_tag P.tag result ≡ B.tag self.low }
+        ensures tagged { root_tag P.tag result ≡ B.tag (top_lock self) }
     {
         let Top { low, list, .. } = self;
         low.close(basic_passes(passes, list))

@@ -1,9 +1,5 @@
 //! The tokens of the top lock: those of its basic lock, with its level.
-ghost use Rattle.std.specs.Prelude.{◌≡◌, Some};
-ghost use Rattle.lock_rules.specs.Holders.{holder_of, with_value};
-ghost use Rattle.lock_rules.specs.declared.step.Answer.TheVariants.{Open};
-ghost use Rattle.clof_compose.specs.Roots.{IsInHand};
-ghost use Rattle.clof_compose.specs.Tops.{top_context};
+ghost use Rattle.clof_compose.specs.TopTokens.{top_rest, top_climb, top_stand, top_with_root, top_descent, TopStands, TopDescends};
 
 use crate::report::Report;
 use crate::root::Root;
@@ -43,7 +39,7 @@ pub struct TopLeave<L> {
 }
 
 impl<L: Placed> Resting for TopPass<L> {
-    ghost rest = { λ p. record { context = top_context p.level (L.place p.low); entries = L.entries p.low; report = p.report } };
+    ghost rest = { top_rest L.place L.entries };
 
     fn tests(&self) -> u32 {
         self.report.tests
@@ -55,15 +51,7 @@ impl<L: Placed> Resting for TopPass<L> {
 }
 
 impl<L: Queueing> Climbing for TopQueue<L> {
-    ghost climb = { λ q. record {
-      context = top_context q.level (L.waiting q.low).place;
-      level = q.level;
-      entries =
-          (L.waiting q.low).entries;
-      loads =
-          (L.waiting q.low).loads;
-      ready = (L.waiting q.low).ready;
-    } };
+    ghost climb = { top_climb L.waiting };
 
     ghost climbs = { λ _. Unit {0} };
 
@@ -73,15 +61,11 @@ impl<L: Queueing> Climbing for TopQueue<L> {
 }
 
 impl<P: Payload> Standing<P> for TopHeld<P> {
-    ghost stand = { λ h. record {
-      context = top_context h.level (holder_of h.low).place;
-      loads = λ _. (holder_of h.low).loads;
-      root = Some h.low.value;
-    } };
+    ghost stand = { top_stand };
 
-    ghost stands = { λ h. IsInHand P.calls h.low.value × ((holder_of h.low).tested ≡ Open) };
+    ghost stands = { TopStands P.calls };
 
-    ghost put_root = { λ h r. record h { low = with_value h.low r } };
+    ghost put_root = { top_with_root };
 
     fn root(&mut self) -> &mut Root<P> {
         self.low.value_mut()
@@ -89,16 +73,9 @@ impl<P: Payload> Standing<P> for TopHeld<P> {
 }
 
 impl<L: Departing> Descending for TopLeave<L> {
-    ghost descent = { λ l. record {
-      context = top_context l.level (L.waiting l.low).place;
-      level = l.level;
-      loads =
-          (L.waiting l.low).loads;
-      ready = (L.waiting l.low).ready;
-      report = l.report;
-    } };
+    ghost descent = { top_descent L.waiting };
 
-    ghost descends = { λ l. L.rests l.low };
+    ghost descends = { TopDescends L.rests };
 
     fn leaves_at(&self) -> u32 {
         self.level
