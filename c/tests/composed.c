@@ -1,4 +1,4 @@
-/* Composed locks of one and two levels: each call at each standing, where one thread comes to it, refused texts, and threads that exclude
+/* Composed locks of one to three levels: each call at each standing, where one thread comes to it, refused texts, and threads that exclude
  * one another. */
 #include <clof.h>
 #include <inttypes.h>
@@ -13,6 +13,7 @@ static const clof_plan plans[] = {
     {MACHINE, "package,machine", "tkt-mcs", "9"},
     {MACHINE, "core,machine", "hem-clh", "3"},
     {MACHINE, "core,machine", "", "1"},
+    {MACHINE, "core,package,machine", "tkt-hem-mcs", "3"},
 };
 
 static const uint32_t pus[] = {0, 15, 1, 8, 2, 9, 3, 10, 4, 11, 5, 12, 6, 13, 7, 14};
@@ -93,7 +94,7 @@ static const refusal refusals[] = {
     {{MACHINE, "package,machine", "mcs-tas", "9"}, CLOF_LOCK_UNKNOWN, 1, 0},
     {{MACHINE, "package,machine", "mcs", "9"}, CLOF_LENGTHS, 2, 1},
     {{"Package:1 Core:1 PU:1", "machine", "mcs", "9"}, CLOF_NO_PU, 1, 0},
-    {{MACHINE, "core,package,machine", "", "9"}, CLOF_MORE_THAN_TWO, 0, 0},
+    {{MACHINE, "pu,core,package,machine", "", "9"}, CLOF_MORE_THAN_THREE, 0, 0},
 };
 
 static void refused(const refusal *wanted)

@@ -66,11 +66,11 @@ pub enum Kind {
 pub struct Plan<'a> {
     /// The machine, as `lstopo --of synthetic` prints it.
     pub description: &'a str,
-    /// One or two of its layers, the lowest first, the last one machine.
+    /// One to three of its layers, the lowest first, the last one machine.
     pub levels: &'a str,
     /// The kind of each level's locks, as `tkt-mcs`; the empty text is MCS at each level.
     pub locks: &'a str,
-    /// How many times in a row the lower level hands over inside one of its nodes, as `16`.
+    /// How many times in a row each lower level hands over inside one of its nodes, as `16`.
     pub keeps: &'a str,
 }
 

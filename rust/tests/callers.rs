@@ -73,7 +73,7 @@ fn no_callers_are_refused() {
 
 const MACHINE: &str = "Package:2 Core:4 PU:2";
 
-const PLANS: [Plan<'static>; 3] = [
+const PLANS: [Plan<'static>; 4] = [
     Plan {
         description: MACHINE,
         levels: "machine",
@@ -90,6 +90,12 @@ const PLANS: [Plan<'static>; 3] = [
         description: MACHINE,
         levels: "core,machine",
         locks: "",
+        keeps: "3",
+    },
+    Plan {
+        description: MACHINE,
+        levels: "core,package,machine",
+        locks: "tkt-hem-mcs",
         keeps: "3",
     },
 ];

@@ -1,4 +1,4 @@
-//! Every call of a composed lock's caller at every standing, who holds after whom, and what making answers, at locks of one and two
+//! Every call of a composed lock's caller at every standing, who holds after whom, and what making answers, at locks of one to three
 //! levels.
 use crate::composed::{
     clof_composed_begin, clof_composed_begin_release, clof_composed_enter, clof_composed_free,
@@ -29,8 +29,8 @@ struct Words<'a> {
 /// The machine on which callers stand in two packages, and in two cores of each.
 const MACHINE: &[u8] = b"Package:2 Core:2 PU:1";
 
-/// Locks of one and of two levels, of Hemlock locks: their holder leaves by a further call where a caller is behind it.
-const LOCKS: [Words<'static>; 2] = [
+/// Locks of one, two and three levels, of Hemlock locks: their holder leaves by a further call where a caller is behind it.
+const LOCKS: [Words<'static>; 3] = [
     Words {
         description: MACHINE,
         levels: b"machine",
@@ -41,6 +41,12 @@ const LOCKS: [Words<'static>; 2] = [
         description: MACHINE,
         levels: b"package,machine",
         locks: b"hem-hem",
+        keeps: b"9",
+    },
+    Words {
+        description: MACHINE,
+        levels: b"core,package,machine",
+        locks: b"hem-hem-hem",
         keeps: b"9",
     },
 ];
@@ -247,8 +253,8 @@ const REFUSED: [(&[u8], &[u8], &[u8], &[u8], u32, u64, u64); 12] = [
     (MACHINE, b"package,machine", b"mcs-mcs", b"65536", 46, 0, 0),
     (
         MACHINE,
-        b"core,package,machine",
-        b"mcs-mcs-mcs",
+        b"pu,core,package,machine",
+        b"mcs-mcs-mcs-mcs",
         b"9",
         8,
         0,

@@ -58,6 +58,8 @@ use Rattle.level_handles.specs.contracts.depths.OneLevel as One
 use Rattle.level_handles.specs.contracts.depths.OneLevel.TheInside as one_inside
 use Rattle.level_handles.specs.contracts.depths.TwoLevels as Two
 use Rattle.level_handles.specs.contracts.depths.TwoLevels.TheInside as two_inside
+use Rattle.level_handles.specs.contracts.depths.ThreeLevels as Three
+use Rattle.level_handles.specs.contracts.depths.ThreeLevels.TheInside as three_inside
 
 -- a lock and its tokens may go to another thread, and the lock and its idle passes may be shared with one
 record Crosses (L P Q H E : RattleType) : Type 0 where
@@ -134,10 +136,18 @@ two_sent =
     (struct_send (fields_shape two_inside.the_type) (search (caller_sent, noted_top, below, noted_sent) depth 12, (search sendable, tt))) in
     view_send two_inside.the_row _ _ _ _ fields
 
+three_sent : IsSend Three.the_row
+three_sent =
+    let fields : IsSend three_inside.the_row =
+    recorded_send _ _ _ three_inside.the_type.to_one
+    (struct_send (fields_shape three_inside.the_type)
+    (search (caller_sent, noted_top, below, noted_sent) depth 16, (search sendable, tt))) in
+    view_send three_inside.the_row _ _ _ _ fields
+
 abbrev T : Declared
 T = any.the_type
 
 pub sent : IsSend any.the_row
 sent =
-    let all : EachSend (shape T).variants = ((one_sent, tt), ((two_sent, tt), tt)) in
+    let all : EachSend (shape T).variants = ((one_sent, tt), ((two_sent, tt), ((three_sent, tt), tt))) in
     recorded_send (Enum (shape T)) T.D T.to T.to_one (enum_send (shape T) all)

@@ -59,8 +59,8 @@ AreFreshOf shape held = (lock : Tag) × IsLockOf shape lock × AreHeld (IsNew lo
 
 -- each answer with its cause; at any other than done nothing changes
 abbrev pub Makes : Shape → List (Option AnyDepth) → List (Option AnyDepth) → Made → Type 0
-Makes shape old new Done = AreFor shape old × (top_of shape < 2) × AreEmpty old × (length new ≡ length old) × AreFreshOf shape new
-Makes shape old new NoMemory = AreFor shape old × (top_of shape < 2) × AreEmpty old × (new ≡ old)
-Makes shape old new InUse = AreFor shape old × (top_of shape < 2) × (AreEmpty old → ⊥) × (new ≡ old)
-Makes shape old new TooDeep = AreFor shape old × (1 < top_of shape) × (new ≡ old)
+Makes shape old new Done = AreFor shape old × (top_of shape < 3) × AreEmpty old × (length new ≡ length old) × AreFreshOf shape new
+Makes shape old new NoMemory = AreFor shape old × (top_of shape < 3) × AreEmpty old × (new ≡ old)
+Makes shape old new InUse = AreFor shape old × (top_of shape < 3) × (AreEmpty old → ⊥) × (new ≡ old)
+Makes shape old new TooDeep = AreFor shape old × (2 < top_of shape) × (new ≡ old)
 Makes shape old new Refused = (AreFor shape old → ⊥) × (new ≡ old)

@@ -3,14 +3,15 @@ ghost use Rattle.std.specs.Prelude.{◌≡◌};
 ghost use Rattle.level_callers.specs.Goes.{Acts};
 ghost use Rattle.level_handles.specs.Calls.{levels_of, seen_of};
 
-use crate::depths::{OneLevel, TwoLevels};
+use crate::depths::{OneLevel, ThreeLevels, TwoLevels};
 use level_callers::{Call, Reply};
 
-/// A caller of a composed lock of one or two levels.
+/// A caller of a composed lock of one to three levels.
 #[derive(Drop)]
 pub enum AnyDepth {
     One(OneLevel),
     Two(TwoLevels),
+    Three(ThreeLevels),
 }
 
 impl AnyDepth {
@@ -22,6 +23,7 @@ impl AnyDepth {
         match self {
             AnyDepth::One(caller) => caller.act(call),
             AnyDepth::Two(caller) => caller.act(call),
+            AnyDepth::Three(caller) => caller.act(call),
         }
     }
 }

@@ -8,7 +8,7 @@ ghost use Rattle.level_callers.specs.Seen.{AreFresh};
 ghost use Rattle.level_handles.specs.Making.{AreBoxed, IsAdded, IsLockOf, IsNew, MayMake};
 
 use crate::any_depth::AnyDepth;
-use crate::depths::{FirstLock, OneLevel, SecondLock, TwoLevels};
+use crate::depths::{FirstLock, OneLevel, SecondLock, ThirdLock, ThreeLevels, TwoLevels};
 use clof_compose::{Composed, Resting, Root};
 use keep_local::{Shape, Share};
 use level_callers::{Caller, make_callers};
@@ -20,7 +20,7 @@ use std::alloc::Global;
 /// `None` for want of memory.
 pub(crate) fn boxes_for(alloc: Global, plan: &Plan, shape: &Shape) -> Option<Vec<Box<AnyDepth>>>
     requires plan { length plan.now.kinds ≡ top_of shape.now + 1 }
-    requires levels { top_of shape.now < 2 }
+    requires levels { top_of shape.now < 3 }
     requires formed { IsWellFormed shape.now }
     requires some { 0 < callers_of shape.now }
     requires few { callers_of shape.now < 2 ^ 32 }
@@ -34,8 +34,10 @@ pub(crate) fn boxes_for(alloc: Global, plan: &Plan, shape: &Shape) -> Option<Vec
     let levels = plan.kinds.as_slice().len();
     if levels == 1 {
         one_level(alloc, plan, shape, root, shares)
-    } else {
+    } else if levels == 2 {
         two_levels(alloc, plan, shape, root, shares)
+    } else {
+        three_levels(alloc, plan, shape, root, shares)
     }
 }
 
@@ -87,6 +89,59 @@ fn two_levels(
     };
     let callers = with_lowest::<FirstLock>(alloc, plan, shape, lock, passes, shares)?;
     two_boxes(alloc, callers)
+}
+
+// The callers of a lock of three levels around this root.
+fn three_levels(
+    alloc: Global,
+    plan: &Plan,
+    shape: &Shape,
+    root: Root<Noted<()>>,
+    shares: Vec<Share>,
+) -> Option<Vec<Box<AnyDepth>>>
+    requires plan { length plan.now.kinds ≡ 3 }
+    requires top { top_of shape.now ≡ 2 }
+    requires formed { IsWellFormed shape.now }
+    requires some { 0 < callers_of shape.now }
+    requires few { callers_of shape.now < 2 ^ 32 }
+    requires fit { IsFit (λ n. n.calls.callers) root }
+    requires shape { (trail_of root).shape ≡ shape.now }
+    requires may { MayMake (root_tag (λ _. leaf 0) root) shape.now shares.items }
+    ensures count { IfSome result (λ made. length made.items ≡ callers_of shape.now) }
+    ensures callers { IfSome result (λ made. (lock : Tag) × IsLockOf shape.now lock × AreBoxed (IsNew lock 3) made.items) }
+{
+    let Ok((lock, passes)) = make_top_of::<Noted<()>>(alloc, plan, root, shape, 2) else {
+        return None;
+    };
+    let callers = with_second::<FirstLock>(alloc, plan, shape, lock, passes, shares)?;
+    three_boxes(alloc, callers)
+}
+
+// The callers of a lock of which the levels from 2 on are made.
+fn with_second<H: HasKinds<Noted<()>> + Drop>(
+    alloc: Global,
+    plan: &Plan,
+    shape: &Shape,
+    high: H,
+    passes: Vec<H::Pass>,
+    shares: Vec<Share>,
+) -> Option<Vec<Caller<LevelOver<Noted<()>, LevelOver<Noted<()>, H>>>>>
+    requires raised { IsRaised H.Pass.rest (H.has high) (H.sound high) (H.level high) (H.count high) (H.tag high) shape.now 2
+        (H.tag high) passes.items }
+    requires kinds { H.has_kinds high plan.now.kinds 2 }
+    requires plan { length plan.now.kinds ≡ top_of shape.now + 1 }
+    requires level { 1 < top_of shape.now }
+    requires formed { IsWellFormed shape.now }
+    requires few { callers_of shape.now < 2 ^ 32 }
+    requires may { MayMake (H.tag high) shape.now shares.items }
+    ensures count { IfSome result (λ made. length made.items ≡ callers_of shape.now) }
+    ensures callers { IfSome result (λ made. (lock : Tag) × IsLockOf shape.now lock × AreFresh lock made.items) }
+{
+    let kind = kind_at(plan, 1);
+    let Ok((lock, passes)) = add_below::<Noted<()>, H>(alloc, kind, shape, 1, high, passes) else {
+        return None;
+    };
+    with_lowest::<LevelOver<Noted<()>, H>>(alloc, plan, shape, lock, passes, shares)
 }
 
 // The callers of a lock of which the levels from 1 on are made.
@@ -155,6 +210,18 @@ fn two_boxes(alloc: Global, mut callers: Vec<Caller<SecondLock>>) -> Option<Vec<
     let mut boxes = Vec::new(alloc);
     while let Some(caller) = callers.pop() {
         add(alloc, &mut boxes, AnyDepth::Two(TwoLevels::of(caller)))?;
+    }
+    Some(boxes)
+}
+
+// The callers of a lock of three levels, each in a box, the last one first.
+fn three_boxes(alloc: Global, mut callers: Vec<Caller<ThirdLock>>) -> Option<Vec<Box<AnyDepth>>>
+    ensures count { IfSome result (λ made. length made.items ≡ length callers.items) }
+    ensures callers { (lock : Tag) → AreFresh lock callers.items → IfSome result (λ made. AreBoxed (IsNew lock 3) made.items) }
+{
+    let mut boxes = Vec::new(alloc);
+    while let Some(caller) = callers.pop() {
+        add(alloc, &mut boxes, AnyDepth::Three(ThreeLevels::of(caller)))?;
     }
     Some(boxes)
 }

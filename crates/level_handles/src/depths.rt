@@ -13,6 +13,9 @@ pub(crate) type FirstLock = TopOf<Noted<()>>;
 /// A lock of two levels.
 pub(crate) type SecondLock = LevelOver<Noted<()>, FirstLock>;
 
+/// A lock of three levels.
+pub(crate) type ThirdLock = LevelOver<Noted<()>, SecondLock>;
+
 /// A caller of a lock of one level.
 #[derive(Drop)]
 pub struct OneLevel {
@@ -76,6 +79,44 @@ impl TwoLevels {
         ensures same { result ≡ caller }
     {
         TwoLevels {
+            caller,
+            kinds: PhantomData,
+        }
+    }
+
+    /// Does a call.
+    pub(crate) fn act(&mut self, call: Call) -> Reply
+        ensures acts { Acts call self.old self.new result }
+    {
+        self.caller.act(call)
+    }
+}
+
+/// A caller of a lock of three levels.
+#[derive(Drop)]
+pub struct ThreeLevels {
+    caller: Caller<ThirdLock>,
+    kinds: PhantomData<LockKind>,
+}
+
+impl Model for ThreeLevels {
+    ghost use Rattle.level_callers.specs.Seen.{Seen, seen_code};
+
+    ghost Value = { Seen };
+
+    ghost coded = { seen_code };
+
+    ghost view = { λ c. c.caller };
+
+    ghost invariant = { λ _. Unit {0} };
+}
+
+impl ThreeLevels {
+    /// This caller.
+    pub(crate) fn of(caller: Caller<ThirdLock>) -> ThreeLevels
+        ensures same { result ≡ caller }
+    {
+        ThreeLevels {
             caller,
             kinds: PhantomData,
         }

@@ -11,7 +11,7 @@ use keep_local::Shape;
 use lock_levels::Plan;
 use std::alloc::Global;
 
-/// What making answers. `InUse` is a handle that has a caller already, `TooDeep` a plan of more than two levels, `Refused` not as many
+/// What making answers. `InUse` is a handle that has a caller already, `TooDeep` a plan of more than three levels, `Refused` not as many
 /// handles as the shape has callers, or none, or more than 2^32 - 1.
 #[derive(Clone, Copy, PartialEq, Eq, Debug, Drop)]
 pub enum Made {
@@ -34,7 +34,7 @@ pub fn make(alloc: Global, plan: &Plan, shape: &Shape, handles: &mut [ClofCompos
     if count == 0 || handles.len() != shape.paths.as_slice().len() {
         return Made::Refused;
     }
-    if plan.kinds.as_slice().len() > 2 {
+    if plan.kinds.as_slice().len() > 3 {
         return Made::TooDeep;
     }
     if !are_empty(alloc, handles) {

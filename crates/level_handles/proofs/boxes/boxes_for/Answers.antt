@@ -14,14 +14,25 @@ pub two_levels-requires-clause-may : goal.two_levels-requires-clause-may
 two_levels-requires-clause-may c =
     let made = c.in-Some.ensures in may_make c.in-Some.root _ _ made.shape made.recorded made.quotas made.shares
 
+pub three_levels-requires-clause-may : goal.three_levels-requires-clause-may
+three_levels-requires-clause-may c =
+    let made = c.in-Some.ensures in may_make c.in-Some.root _ _ made.shape made.recorded made.quotas made.shares
+
 pub returns-then-levels-eq1-clause-callers : goal.returns-then-levels-eq1-clause-callers
 returns-then-levels-eq1-clause-callers c =
     let many : 1 ≡ top_of c.args.shape.now + 1 = let many_kinds = ap length c.as_slice-levels.ensures in omega (arith, many_kinds) in
     subst (λ n. IfSome c.one_level.result (λ made. (lock : Tag) × IsLockOf c.args.shape.now lock × AreBoxed (IsNew lock n) made.items)) many
     c.one_level.ensures.callers
 
-pub returns-else-levels-eq1-clause-callers : goal.returns-else-levels-eq1-clause-callers
-returns-else-levels-eq1-clause-callers c =
+pub returns-then-levels-eq2-clause-callers : goal.returns-then-levels-eq2-clause-callers
+returns-then-levels-eq2-clause-callers c =
     let many : 2 ≡ top_of c.args.shape.now + 1 = let many_kinds = ap length c.as_slice-levels.ensures in omega (arith, many_kinds) in
     subst (λ n. IfSome c.two_levels.result (λ made. (lock : Tag) × IsLockOf c.args.shape.now lock × AreBoxed (IsNew lock n) made.items))
     many c.two_levels.ensures.callers
+
+pub returns-else-levels-eq2-clause-callers : goal.returns-else-levels-eq2-clause-callers
+returns-else-levels-eq2-clause-callers c =
+    let many : 3 ≡ top_of c.args.shape.now + 1 = let many_kinds = ap length c.as_slice-levels.ensures in
+    omega (arith, many_kinds, c.requires.plan, c.requires.levels, c.if-levels-eq1.false, c.if-levels-eq2.false) in
+    subst (λ n. IfSome c.three_levels.result (λ made. (lock : Tag) × IsLockOf c.args.shape.now lock × AreBoxed (IsNew lock n) made.items))
+    many c.three_levels.ensures.callers
