@@ -5,6 +5,7 @@ pub mod Tops
 pub mod Closes
 pub mod Climbs
 pub mod Owned
+pub mod Raised
 pub mod Released
 pub mod Keeping
 pub mod Nodes

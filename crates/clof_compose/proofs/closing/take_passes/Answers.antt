@@ -1,9 +1,31 @@
-use Rattle.std.proofs.Common.{◌<◌, get_or, ap, sym, ◌∙◌, subst, refl, arith, vec_capacity}
+use Rattle.std.proofs.Common.{◌<◌, get_or, length, reverse, ap, sym, ◌∙◌, subst, refl, arith, vec_capacity}
 use Rattle.std.specs.Prelude.{slice_get}
 use Rattle.std.proofs.lemmas.Option.{slice_get-get_or, slice_get_read}
+use Rattle.std.proofs.lemmas.List.{length-reverse, reverse-reverse}
 use Rattle.clof_compose.specs.Nodes.{AreFilled}
 use Rattle.clof_compose.proofs.Lists.{as_many, filled_more, has_room, lock_here, locks_same, next_left}
 use Rattle.clof_compose.proofs.closing.take_passes.Goals as goal
+
+pub loop-node-init : goal.loop-node-init
+loop-node-init g c =
+    let turned = c.reverse.ensures.items in
+    let all = c.requires.all in
+    let same = ap length turned ∙ length-reverse c.args.passes.items in record {
+      locks = refl;
+      filled = c.requires.filled;
+      left = sym (ap reverse turned ∙ reverse-reverse c.args.passes.items);
+      counted = omega (arith, same, all);
+    }
+
+pub index_mut-requires : goal.index_mut-requires
+index_mut-requires g c =
+    let at = slice_get-get_or c.args.parents.now c.loop-node.node-index 0 c.loop-node-test.true in
+    let within = c.requires.within _ _ at in
+    let many = as_many _ _ c.loop-node.invariant.locks in
+    omega (arith, many, within)
+
+pub returns-clause-locks : goal.returns-clause-locks
+returns-clause-locks g c = c.loop-node.invariant.locks
 
 pub push_reserved-requires : goal.push_reserved-requires
 push_reserved-requires g c =
