@@ -127,8 +127,9 @@ returns-in-Got-clause-waits g c =
       ready = (g.B.Queue.Queueing.waiting c.in-Low.low).ready;
     } in
     subst (λ s. IfNot c.go_up.result (λ q. HasClimbed (queue_climb g.B.Queue.Queueing.waiting g.H.Queue.Climbing.climb
-    c.args.queue.id.level c.args.queue.id.node c.args.queue.id.number s) (level_climb g.B.Queue.Queueing.waiting g.H.Queue.Climbing.climb q)))
-    (sym c.in-Low.is) (climbed_above (level_climb g.B.Queue.Queueing.waiting g.H.Queue.Climbing.climb) c.args.queue.id.level
+    c.args.queue.id.level c.args.queue.id.node c.args.queue.id.number s) (level_climb g.B.Queue.Queueing.waiting
+    g.H.Queue.Climbing.climb q))) (sym c.in-Low.is)
+    (climbed_above (level_climb g.B.Queue.Queueing.waiting g.H.Queue.Climbing.climb) c.args.queue.id.level
     c.args.queue.id.level refl old refl c.go_up.result c.go_up.ensures.above c.go_up.ensures.entered)
 
 pub returns-in-Got-clause-not_made : goal.returns-in-Got-clause-not_made
