@@ -1,4 +1,4 @@
-use Rattle.std.proofs.Common.{◌≡◌, ap, sym, ◌∙◌, refl, subst, arith}
+use Rattle.std.proofs.Common.{◌≡◌, ap, sym, ◌∙◌, subst, arith}
 use Rattle.std.specs.Prelude.{slice_get, IsSomeAnd}
 use Rattle.lock_rules.specs.Steps.{IfGot, IfNot}
 use Rattle.clof_compose.specs.Calls.{HasOpened}
