@@ -1,4 +1,4 @@
-use Rattle.std.proofs.Common.{◌≡◌, ◌∙◌, arith}
+use Rattle.std.proofs.Common.{◌≡◌, ◌∙◌, ap, arith, length}
 use Rattle.std.proofs.lemmas.Result.{IfOk-weaker}
 use denote.Param.Send.{sendable}
 use Rattle.lock_levels.proofs.Levels.{shape_named}
@@ -54,3 +54,39 @@ returns-else-top-eq0-clause-shape g c =
     let same : c.in_ok-root.root.trail.shape ≡ c.args.shape.now = c.in_ok-root.ensures.shape ∙ c.in_ok-copied.ensures in
     IfOk-weaker c.rise.result _ _ (λ made is. is.left_is.shape_is ∙ shape_named fresh_book_tag c.in_ok-root.root c.args.shape.now same)
     c.rise.ensures
+
+pub rise_flat-requires-clause-top : goal.rise_flat-requires-clause-top
+rise_flat-requires-clause-top g c κs within =
+    let kinds = ap length c.as_slice.ensures in
+    let plan = c.requires.plan in let one = c.if-top-eq0.true in omega (arith, kinds, plan, one)
+
+pub rise_flat-requires-clause-shape : goal.rise_flat-requires-clause-shape
+rise_flat-requires-clause-shape g c κs within = c.in_ok-root.ensures.shape ∙ c.in_ok-copied.ensures
+
+pub returns-then-top-eq0-clause-finished : goal.returns-then-top-eq0-clause-finished
+returns-then-top-eq0-clause-finished g c = IfOk-weaker c.rise_flat.result _ _ (λ left is. is.left_is.finished) c.rise_flat.ensures
+
+pub returns-then-top-eq0-clause-sections : goal.returns-then-top-eq0-clause-sections
+returns-then-top-eq0-clause-sections g c =
+    IfOk-weaker c.rise_flat.result _ _ (λ left is. is.left_is.sections_are ∙ c.in_ok-root.ensures.dealt.dealt.told) c.rise_flat.ensures
+
+pub rise-requires-clause-top : goal.rise-requires-clause-top
+rise-requires-clause-top g c κs within =
+    let kinds = ap length c.as_slice.ensures in
+    let plan = c.requires.plan in omega (arith, kinds, plan)
+
+pub rise-requires-clause-most : goal.rise-requires-clause-most
+rise-requires-clause-most g c κs within =
+    let kinds = ap length c.as_slice.ensures in
+    let plan = c.requires.plan in
+    let levels = c.requires.levels in omega (arith, kinds, plan, levels)
+
+pub rise-requires-clause-shape : goal.rise-requires-clause-shape
+rise-requires-clause-shape g c κs within = c.in_ok-root.ensures.shape ∙ c.in_ok-copied.ensures
+
+pub returns-else-top-eq0-clause-finished : goal.returns-else-top-eq0-clause-finished
+returns-else-top-eq0-clause-finished g c = IfOk-weaker c.rise.result _ _ (λ left is. is.left_is.finished) c.rise.ensures
+
+pub returns-else-top-eq0-clause-sections : goal.returns-else-top-eq0-clause-sections
+returns-else-top-eq0-clause-sections g c =
+    IfOk-weaker c.rise.result _ _ (λ left is. is.left_is.sections_are ∙ c.in_ok-root.ensures.dealt.dealt.told) c.rise.ensures
