@@ -11,3 +11,4 @@ pub mod Served
 pub mod Ends
 pub mod Settled
 pub mod Printing
+pub mod Moved
