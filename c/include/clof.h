@@ -38,7 +38,6 @@ enum {
 
     /* Of callers of a composed lock, and of making them. Nothing changed. The numbers of a fault are those that `clof run` prints. */
     CLOF_NO_TURN = 7,   /* the caller has held as often as it may: its equal part of 2^64 - 1 times */
-    CLOF_MORE_THAN_THREE = 8, /* the plan has four or five levels */
     CLOF_TOO_LONG = 9,  /* a text of 2^32 bytes or more */
     CLOF_NO_PU = 10,    /* the machine has no PU with the number at this place */
 
@@ -97,7 +96,6 @@ static inline const char *clof_text(uint32_t code)
     case CLOF_IN_USE: return "a handle has a caller";
     case CLOF_REFUSED: return "no handles, or too many";
     case CLOF_NO_TURN: return "the caller has held as often as it may";
-    case CLOF_MORE_THAN_THREE: return "a plan of more than three levels";
     case CLOF_TOO_LONG: return "a text is too long";
     case CLOF_NO_PU: return "the machine has no such PU";
     case CLOF_DESCRIPTION_EMPTY: return "description: no level";
@@ -175,7 +173,7 @@ typedef struct clof_numbers {
 /* What a composed lock is made by. */
 typedef struct clof_plan {
     const char *description; /* the machine, as `lstopo --of synthetic` prints it */
-    const char *levels;      /* one to three of its layers, the lowest first, the last one machine: "package,machine" */
+    const char *levels;      /* one to five of its layers, the lowest first, the last one machine: "package,machine" */
     const char *locks;       /* the kind of each level's locks, tkt, mcs, clh, hem or with a c: "tkt-mcs"; "": MCS at each level */
     const char *keeps;       /* how many times in a row each lower level hands over inside: "16" */
 } clof_plan;

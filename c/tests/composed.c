@@ -1,4 +1,4 @@
-/* Composed locks of one to three levels: each call at each standing, where one thread comes to it, refused texts, and threads that exclude
+/* Composed locks of one to five levels: each call at each standing, where one thread comes to it, refused texts, and threads that exclude
  * one another. */
 #include <clof.h>
 #include <inttypes.h>
@@ -7,6 +7,7 @@
 #include <stdlib.h>
 
 #define MACHINE "Package:2 Core:4 PU:2"
+#define DEEP "Package:2 L3Cache:2 L2Cache:2 Core:1 PU:2"
 
 static const clof_plan plans[] = {
     {MACHINE, "machine", "mcs", "9"},
@@ -14,6 +15,8 @@ static const clof_plan plans[] = {
     {MACHINE, "core,machine", "hem-clh", "3"},
     {MACHINE, "core,machine", "", "1"},
     {MACHINE, "core,package,machine", "tkt-hem-mcs", "3"},
+    {MACHINE, "pu,core,package,machine", "mcs-tkt-hem-clh", "3"},
+    {DEEP, "core,l2,l3,package,machine", "hem-tkt-mcs-clh-hem", "3"},
 };
 
 static const uint32_t pus[] = {0, 15, 1, 8, 2, 9, 3, 10, 4, 11, 5, 12, 6, 13, 7, 14};
@@ -94,7 +97,7 @@ static const refusal refusals[] = {
     {{MACHINE, "package,machine", "mcs-tas", "9"}, CLOF_LOCK_UNKNOWN, 1, 0},
     {{MACHINE, "package,machine", "mcs", "9"}, CLOF_LENGTHS, 2, 1},
     {{"Package:1 Core:1 PU:1", "machine", "mcs", "9"}, CLOF_NO_PU, 1, 0},
-    {{MACHINE, "pu,core,package,machine", "", "9"}, CLOF_MORE_THAN_THREE, 0, 0},
+    {{DEEP, "pu,core,l2,l3,package,machine", "", "9"}, CLOF_TOO_DEEP, 0, 0},
 };
 
 static void refused(const refusal *wanted)

@@ -66,7 +66,7 @@ pub enum Kind {
 pub struct Plan<'a> {
     /// The machine, as `lstopo --of synthetic` prints it.
     pub description: &'a str,
-    /// One to three of its layers, the lowest first, the last one machine.
+    /// One to five of its layers, the lowest first, the last one machine.
     pub levels: &'a str,
     /// The kind of each level's locks, as `tkt-mcs`; the empty text is MCS at each level.
     pub locks: &'a str,

@@ -73,7 +73,7 @@ fn no_callers_are_refused() {
 
 const MACHINE: &str = "Package:2 Core:4 PU:2";
 
-const PLANS: [Plan<'static>; 4] = [
+const PLANS: [Plan<'static>; 6] = [
     Plan {
         description: MACHINE,
         levels: "machine",
@@ -96,6 +96,18 @@ const PLANS: [Plan<'static>; 4] = [
         description: MACHINE,
         levels: "core,package,machine",
         locks: "tkt-hem-mcs",
+        keeps: "3",
+    },
+    Plan {
+        description: MACHINE,
+        levels: "pu,core,package,machine",
+        locks: "mcs-tkt-hem-clh",
+        keeps: "3",
+    },
+    Plan {
+        description: "Package:2 L3Cache:2 L2Cache:2 Core:1 PU:2",
+        levels: "pu,l2,l3,package,machine",
+        locks: "hem-tkt-mcs-clh-hem",
         keeps: "3",
     },
 ];

@@ -20,7 +20,7 @@ use Rattle.level_handles.specs.Calls.{HandleDoes, HandleFrees}
 use Rattle.level_handles.specs.Making.{Makes}
 use Rattle.level_handles.specs.declared.any_depth.AnyDepth.{AnyDepth}
 use Rattle.level_handles.specs.declared.making.Made.{Made}
-use Rattle.level_handles.specs.declared.making.Made.TheVariants.{Done, NoMemory, InUse, TooDeep, Refused}
+use Rattle.level_handles.specs.declared.making.Made.TheVariants.{Done, NoMemory, InUse, Refused}
 use Rattle.clof_c.specs.declared.composed_codes.ClofNumbers.{ClofNumbers}
 
 -- what a call answered; no answer is that of an empty handle
@@ -37,7 +37,6 @@ composed_made_code Done = 0
 composed_made_code NoMemory = 4
 composed_made_code InUse = 5
 composed_made_code Refused = 6
-composed_made_code TooDeep = 8
 
 abbrev pub numbers_by : ℕ → ℕ → ClofNumbers
 numbers_by first second = record { first = first; second = second }

@@ -8,7 +8,7 @@ use level_handles::{ClofComposedCaller, make};
 use lock_setting::read_setting;
 use std::alloc::Global;
 
-/// Makes a composed lock of one to three levels by a plan on the machine of a description, and a caller of it on each of the PUs, in order,
+/// Makes a composed lock of one to five levels by a plan on the machine of a description, and a caller of it on each of the PUs, in order,
 /// for each of the handles. Where the texts are refused, the numbers tell where.
 #[unsafe(no_mangle)]
 pub extern "C" fn clof_make_composed_of(

@@ -1,4 +1,4 @@
-//! Every call of a composed lock's caller at every standing, who holds after whom, and what making answers, at locks of one to three
+//! Every call of a composed lock's caller at every standing, who holds after whom, and what making answers, at locks of one to five
 //! levels.
 use crate::composed::{
     clof_composed_begin, clof_composed_begin_release, clof_composed_enter, clof_composed_free,
@@ -29,8 +29,11 @@ struct Words<'a> {
 /// The machine on which callers stand in two packages, and in two cores of each.
 const MACHINE: &[u8] = b"Package:2 Core:2 PU:1";
 
-/// Locks of one, two and three levels, of Hemlock locks: their holder leaves by a further call where a caller is behind it.
-const LOCKS: [Words<'static>; 3] = [
+/// A machine with as many layers as a plan may have levels, and one more.
+const DEEP: &[u8] = b"Package:2 L3Cache:2 L2Cache:1 Core:1 PU:1";
+
+/// Locks of one to five levels, of Hemlock locks: their holder leaves by a further call where a caller is behind it.
+const LOCKS: [Words<'static>; 5] = [
     Words {
         description: MACHINE,
         levels: b"machine",
@@ -47,6 +50,18 @@ const LOCKS: [Words<'static>; 3] = [
         description: MACHINE,
         levels: b"core,package,machine",
         locks: b"hem-hem-hem",
+        keeps: b"9",
+    },
+    Words {
+        description: MACHINE,
+        levels: b"pu,core,package,machine",
+        locks: b"hem-hem-hem-hem",
+        keeps: b"9",
+    },
+    Words {
+        description: DEEP,
+        levels: b"core,l2,l3,package,machine",
+        locks: b"hem-hem-hem-hem-hem",
         keeps: b"9",
     },
 ];
@@ -252,11 +267,11 @@ const REFUSED: [(&[u8], &[u8], &[u8], &[u8], u32, u64, u64); 12] = [
     (MACHINE, b"package,machine", b"mcs", b"9", 45, 2, 1),
     (MACHINE, b"package,machine", b"mcs-mcs", b"65536", 46, 0, 0),
     (
-        MACHINE,
-        b"pu,core,package,machine",
-        b"mcs-mcs-mcs-mcs",
+        DEEP,
+        b"pu,core,l2,l3,package,machine",
+        b"mcs-mcs-mcs-mcs-mcs-mcs",
         b"9",
-        8,
+        42,
         0,
         0,
     ),

@@ -8,18 +8,22 @@ use Rattle.level_callers.specs.Seen.{Seen}
 use Rattle.level_callers.specs.declared.reply.Reply.{Reply}
 use Rattle.level_callers.specs.declared.reply.Reply.TheVariants.{Done, Elsewhere}
 use Rattle.level_handles.specs.declared.any_depth.AnyDepth.{AnyDepth}
-use Rattle.level_handles.specs.declared.any_depth.AnyDepth.TheVariants.{One, Two, Three}
+use Rattle.level_handles.specs.declared.any_depth.AnyDepth.TheVariants.{One, Two, Three, Four, Five}
 
 abbrev pub seen_of : AnyDepth → Seen
 seen_of (One c) = c
 seen_of (Two c) = c
 seen_of (Three c) = c
+seen_of (Four c) = c
+seen_of (Five c) = c
 
 -- how many levels its lock has
 abbrev pub levels_of : AnyDepth → ℕ
 levels_of (One c) = 1
 levels_of (Two c) = 2
 levels_of (Three c) = 3
+levels_of (Four c) = 4
+levels_of (Five c) = 5
 
 -- an empty handle stays empty, and the answer says so; else the handle has a caller, with which the call does what it does
 abbrev pub HandleDoes : (Seen → Seen → Reply → Type 0) → Option AnyDepth → Option AnyDepth → Option Reply → Type 0

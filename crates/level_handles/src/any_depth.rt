@@ -3,15 +3,17 @@ ghost use Rattle.std.specs.Prelude.{◌≡◌};
 ghost use Rattle.level_callers.specs.Goes.{Acts};
 ghost use Rattle.level_handles.specs.Calls.{levels_of, seen_of};
 
-use crate::depths::{OneLevel, ThreeLevels, TwoLevels};
+use crate::depths::{FiveLevels, FourLevels, OneLevel, ThreeLevels, TwoLevels};
 use level_callers::{Call, Reply};
 
-/// A caller of a composed lock of one to three levels.
+/// A caller of a composed lock of one to five levels.
 #[derive(Drop)]
 pub enum AnyDepth {
     One(OneLevel),
     Two(TwoLevels),
     Three(ThreeLevels),
+    Four(FourLevels),
+    Five(FiveLevels),
 }
 
 impl AnyDepth {
@@ -24,6 +26,8 @@ impl AnyDepth {
             AnyDepth::One(caller) => caller.act(call),
             AnyDepth::Two(caller) => caller.act(call),
             AnyDepth::Three(caller) => caller.act(call),
+            AnyDepth::Four(caller) => caller.act(call),
+            AnyDepth::Five(caller) => caller.act(call),
         }
     }
 }

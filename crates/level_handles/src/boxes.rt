@@ -8,11 +8,17 @@ ghost use Rattle.level_callers.specs.Seen.{AreFresh};
 ghost use Rattle.level_handles.specs.Making.{AreBoxed, IsAdded, IsLockOf, IsNew, MayMake};
 
 use crate::any_depth::AnyDepth;
-use crate::depths::{FirstLock, OneLevel, SecondLock, ThirdLock, ThreeLevels, TwoLevels};
+use crate::depths::{
+    FifthLock, FirstLock, FiveLevels, FourLevels, FourthLock, OneLevel, SecondLock, ThirdLock,
+    ThreeLevels, TwoLevels,
+};
 use clof_compose::{Composed, Resting, Root};
 use keep_local::{Shape, Share};
 use level_callers::{Caller, make_callers};
-use lock_levels::{HasKinds, LevelOver, Plan, add_below, kind_at, make_top_of};
+use lock_depths::{
+    LockOfFour, LockOfThree, LockOfTwo, level_below, make_of_four, make_of_three, make_of_two,
+};
+use lock_levels::{HasKinds, LevelOver, Plan, make_top_of};
 use own_payload::{Noted, new_unrecorded_root};
 use std::alloc::Global;
 
@@ -20,7 +26,7 @@ use std::alloc::Global;
 /// `None` for want of memory.
 pub(crate) fn boxes_for(alloc: Global, plan: &Plan, shape: &Shape) -> Option<Vec<Box<AnyDepth>>>
     requires plan { length plan.now.kinds ≡ top_of shape.now + 1 }
-    requires levels { top_of shape.now < 3 }
+    requires levels { top_of shape.now < 5 }
     requires formed { IsWellFormed shape.now }
     requires some { 0 < callers_of shape.now }
     requires few { callers_of shape.now < 2 ^ 32 }
@@ -36,8 +42,12 @@ pub(crate) fn boxes_for(alloc: Global, plan: &Plan, shape: &Shape) -> Option<Vec
         one_level(alloc, plan, shape, root, shares)
     } else if levels == 2 {
         two_levels(alloc, plan, shape, root, shares)
-    } else {
+    } else if levels == 3 {
         three_levels(alloc, plan, shape, root, shares)
+    } else if levels == 4 {
+        four_levels(alloc, plan, shape, root, shares)
+    } else {
+        five_levels(alloc, plan, shape, root, shares)
     }
 }
 
@@ -110,38 +120,63 @@ fn three_levels(
     ensures count { IfSome result (λ made. length made.items ≡ callers_of shape.now) }
     ensures callers { IfSome result (λ made. (lock : Tag) × IsLockOf shape.now lock × AreBoxed (IsNew lock 3) made.items) }
 {
-    let Ok((lock, passes)) = make_top_of::<Noted<()>>(alloc, plan, root, shape, 2) else {
+    let Some((lock, passes)) = make_of_two(alloc, plan, shape, root, 1) else {
         return None;
     };
-    let callers = with_second::<FirstLock>(alloc, plan, shape, lock, passes, shares)?;
+    let callers = with_lowest::<LockOfTwo>(alloc, plan, shape, lock, passes, shares)?;
     three_boxes(alloc, callers)
 }
 
-// The callers of a lock of which the levels from 2 on are made.
-fn with_second<H: HasKinds<Noted<()>> + Drop>(
+// The callers of a lock of four levels around this root.
+fn four_levels(
     alloc: Global,
     plan: &Plan,
     shape: &Shape,
-    high: H,
-    passes: Vec<H::Pass>,
+    root: Root<Noted<()>>,
     shares: Vec<Share>,
-) -> Option<Vec<Caller<LevelOver<Noted<()>, LevelOver<Noted<()>, H>>>>>
-    requires raised { IsRaised H.Pass.rest (H.has high) (H.sound high) (H.level high) (H.count high) (H.tag high) shape.now 2
-        (H.tag high) passes.items }
-    requires kinds { H.has_kinds high plan.now.kinds 2 }
-    requires plan { length plan.now.kinds ≡ top_of shape.now + 1 }
-    requires level { 1 < top_of shape.now }
+) -> Option<Vec<Box<AnyDepth>>>
+    requires plan { length plan.now.kinds ≡ 4 }
+    requires top { top_of shape.now ≡ 3 }
     requires formed { IsWellFormed shape.now }
+    requires some { 0 < callers_of shape.now }
     requires few { callers_of shape.now < 2 ^ 32 }
-    requires may { MayMake (H.tag high) shape.now shares.items }
+    requires fit { IsFit (λ n. n.calls.callers) root }
+    requires shape { (trail_of root).shape ≡ shape.now }
+    requires may { MayMake (root_tag (λ _. leaf 0) root) shape.now shares.items }
     ensures count { IfSome result (λ made. length made.items ≡ callers_of shape.now) }
-    ensures callers { IfSome result (λ made. (lock : Tag) × IsLockOf shape.now lock × AreFresh lock made.items) }
+    ensures callers { IfSome result (λ made. (lock : Tag) × IsLockOf shape.now lock × AreBoxed (IsNew lock 4) made.items) }
 {
-    let kind = kind_at(plan, 1);
-    let Ok((lock, passes)) = add_below::<Noted<()>, H>(alloc, kind, shape, 1, high, passes) else {
+    let Some((lock, passes)) = make_of_three(alloc, plan, shape, root, 1) else {
         return None;
     };
-    with_lowest::<LevelOver<Noted<()>, H>>(alloc, plan, shape, lock, passes, shares)
+    let callers = with_lowest::<LockOfThree>(alloc, plan, shape, lock, passes, shares)?;
+    four_boxes(alloc, callers)
+}
+
+// The callers of a lock of five levels around this root.
+fn five_levels(
+    alloc: Global,
+    plan: &Plan,
+    shape: &Shape,
+    root: Root<Noted<()>>,
+    shares: Vec<Share>,
+) -> Option<Vec<Box<AnyDepth>>>
+    requires plan { length plan.now.kinds ≡ 5 }
+    requires top { top_of shape.now ≡ 4 }
+    requires formed { IsWellFormed shape.now }
+    requires some { 0 < callers_of shape.now }
+    requires few { callers_of shape.now < 2 ^ 32 }
+    requires fit { IsFit (λ n. n.calls.callers) root }
+    requires shape { (trail_of root).shape ≡ shape.now }
+    requires may { MayMake (root_tag (λ _. leaf 0) root) shape.now shares.items }
+    ensures count { IfSome result (λ made. length made.items ≡ callers_of shape.now) }
+    ensures callers { IfSome result (λ made. (lock : Tag) × IsLockOf shape.now lock × AreBoxed (IsNew lock 5) made.items) }
+{
+    let Some((lock, passes)) = make_of_four(alloc, plan, shape, root, 1) else {
+        return None;
+    };
+    let callers = with_lowest::<LockOfFour>(alloc, plan, shape, lock, passes, shares)?;
+    five_boxes(alloc, callers)
 }
 
 // The callers of a lock of which the levels from 1 on are made.
@@ -164,8 +199,7 @@ fn with_lowest<H: HasKinds<Noted<()>> + Drop>(
     ensures count { IfSome result (λ made. length made.items ≡ callers_of shape.now) }
     ensures callers { IfSome result (λ made. (lock : Tag) × IsLockOf shape.now lock × AreFresh lock made.items) }
 {
-    let kind = kind_at(plan, 0);
-    let Ok((lock, passes)) = add_below::<Noted<()>, H>(alloc, kind, shape, 0, high, passes) else {
+    let Some((lock, passes)) = level_below::<H>(alloc, plan, shape, 0, high, passes) else {
         return None;
     };
     callers_for::<LevelOver<Noted<()>, H>>(alloc, plan, shape, lock, passes, shares)
@@ -222,6 +256,30 @@ fn three_boxes(alloc: Global, mut callers: Vec<Caller<ThirdLock>>) -> Option<Vec
     let mut boxes = Vec::new(alloc);
     while let Some(caller) = callers.pop() {
         add(alloc, &mut boxes, AnyDepth::Three(ThreeLevels::of(caller)))?;
+    }
+    Some(boxes)
+}
+
+// The callers of a lock of four levels, each in a box, the last one first.
+fn four_boxes(alloc: Global, mut callers: Vec<Caller<FourthLock>>) -> Option<Vec<Box<AnyDepth>>>
+    ensures count { IfSome result (λ made. length made.items ≡ length callers.items) }
+    ensures callers { (lock : Tag) → AreFresh lock callers.items → IfSome result (λ made. AreBoxed (IsNew lock 4) made.items) }
+{
+    let mut boxes = Vec::new(alloc);
+    while let Some(caller) = callers.pop() {
+        add(alloc, &mut boxes, AnyDepth::Four(FourLevels::of(caller)))?;
+    }
+    Some(boxes)
+}
+
+// The callers of a lock of five levels, each in a box, the last one first.
+fn five_boxes(alloc: Global, mut callers: Vec<Caller<FifthLock>>) -> Option<Vec<Box<AnyDepth>>>
+    ensures count { IfSome result (λ made. length made.items ≡ length callers.items) }
+    ensures callers { (lock : Tag) → AreFresh lock callers.items → IfSome result (λ made. AreBoxed (IsNew lock 5) made.items) }
+{
+    let mut boxes = Vec::new(alloc);
+    while let Some(caller) = callers.pop() {
+        add(alloc, &mut boxes, AnyDepth::Five(FiveLevels::of(caller)))?;
     }
     Some(boxes)
 }

@@ -3,6 +3,7 @@ ghost use Rattle.std.specs.Prelude.{◌≡◌};
 ghost use Rattle.level_callers.specs.Goes.{Acts};
 
 use level_callers::{Call, Caller, Reply};
+use lock_depths::{LockOfFour, LockOfThree, LockOfTwo};
 use lock_levels::{LevelOver, LockKind, TopOf};
 use own_payload::Noted;
 use std::marker::{Model, PhantomData};
@@ -14,7 +15,13 @@ pub(crate) type FirstLock = TopOf<Noted<()>>;
 pub(crate) type SecondLock = LevelOver<Noted<()>, FirstLock>;
 
 /// A lock of three levels.
-pub(crate) type ThirdLock = LevelOver<Noted<()>, SecondLock>;
+pub(crate) type ThirdLock = LevelOver<Noted<()>, LockOfTwo>;
+
+/// A lock of four levels.
+pub(crate) type FourthLock = LevelOver<Noted<()>, LockOfThree>;
+
+/// A lock of five levels.
+pub(crate) type FifthLock = LevelOver<Noted<()>, LockOfFour>;
 
 /// A caller of a lock of one level.
 #[derive(Drop)]
@@ -117,6 +124,82 @@ impl ThreeLevels {
         ensures same { result ≡ caller }
     {
         ThreeLevels {
+            caller,
+            kinds: PhantomData,
+        }
+    }
+
+    /// Does a call.
+    pub(crate) fn act(&mut self, call: Call) -> Reply
+        ensures acts { Acts call self.old self.new result }
+    {
+        self.caller.act(call)
+    }
+}
+
+/// A caller of a lock of four levels.
+#[derive(Drop)]
+pub struct FourLevels {
+    caller: Caller<FourthLock>,
+    kinds: PhantomData<LockKind>,
+}
+
+impl Model for FourLevels {
+    ghost use Rattle.level_callers.specs.Seen.{Seen, seen_code};
+
+    ghost Value = { Seen };
+
+    ghost coded = { seen_code };
+
+    ghost view = { λ c. c.caller };
+
+    ghost invariant = { λ _. Unit {0} };
+}
+
+impl FourLevels {
+    /// This caller.
+    pub(crate) fn of(caller: Caller<FourthLock>) -> FourLevels
+        ensures same { result ≡ caller }
+    {
+        FourLevels {
+            caller,
+            kinds: PhantomData,
+        }
+    }
+
+    /// Does a call.
+    pub(crate) fn act(&mut self, call: Call) -> Reply
+        ensures acts { Acts call self.old self.new result }
+    {
+        self.caller.act(call)
+    }
+}
+
+/// A caller of a lock of five levels.
+#[derive(Drop)]
+pub struct FiveLevels {
+    caller: Caller<FifthLock>,
+    kinds: PhantomData<LockKind>,
+}
+
+impl Model for FiveLevels {
+    ghost use Rattle.level_callers.specs.Seen.{Seen, seen_code};
+
+    ghost Value = { Seen };
+
+    ghost coded = { seen_code };
+
+    ghost view = { λ c. c.caller };
+
+    ghost invariant = { λ _. Unit {0} };
+}
+
+impl FiveLevels {
+    /// This caller.
+    pub(crate) fn of(caller: Caller<FifthLock>) -> FiveLevels
+        ensures same { result ≡ caller }
+    {
+        FiveLevels {
             caller,
             kinds: PhantomData,
         }

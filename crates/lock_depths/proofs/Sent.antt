@@ -47,6 +47,9 @@ top_pass_shared = let one = pass_shared in let two = receipt_shared in search se
 pub low_pass_shared : IsSync (LevelPass.the_row Pass.the_row)
 low_pass_shared = let one = pass_shared in let two = receipt_shared in search sendable depth 20
 
+pub low_pass_sent : IsSend (LevelPass.the_row Pass.the_row)
+low_pass_sent = level_pass.the_send _ pass.the_send
+
 module _ (N : RattleType) (sent : IsSend N) where
   root_sent : IsSend (Root.the_row N)
   root_sent = root.the_send N sent
@@ -71,25 +74,21 @@ module _ (N : RattleType) (sent : IsSend N) where
     tokens = top_tokens;
   }
 
-  -- a lock below which a level is added, and its tokens
-  module _ {L P Q H E : RattleType} (lock : IsSend L) (shared : IsSync L) (t : TokensCross P Q H E) where
-    own_sent : IsSend (Own.the_row N P H)
-    own_sent = own.the_send N P H t.pass_sent t.held_sent
-
-    pub below : (g : Ghosts (Own.the_row N P H).Denot)
-        → Crosses (Level.the_row (AnyLock.the_row (Own.the_row N P H) g) L Pass.the_row P) (LevelPass.the_row Pass.the_row)
-        (LevelQueue.the_row N Queue.the_row P H Q) (LevelHeld.the_row N P H) (LevelLeave.the_row N (Leave.the_row (Own.the_row N P H)) P H E)
-    below g = record {
-      lock_sent = level.the_send _ _ _ _ (any_lock.the_send _ g own_sent) lock pass.the_send t.pass_sent;
-      lock_shared = level.the_sync _ _ _ _ (any_lock.the_sync _ g own_sent) shared pass_shared t.pass_shared_is;
-      tokens = record {
-        pass_sent = level_pass.the_send _ pass.the_send;
-        pass_shared_is = low_pass_shared;
-        queue_sent = level_queue.the_send _ _ _ _ _ queue.the_send t.pass_sent t.held_sent t.queue_sent;
-        held_sent = level_held.the_send _ _ _ t.pass_sent t.held_sent;
-        leave_sent = level_leave.the_send _ _ _ _ _ (leave.the_send _ own_sent) t.pass_sent t.held_sent t.leave_sent;
-      };
-    }
+  -- a level below a lock
+  pub below : (L P Q H E : RattleType) → Crosses L P Q H E → (g : Ghosts (Own.the_row N P H).Denot)
+      → Crosses (Level.the_row (AnyLock.the_row (Own.the_row N P H) g) L Pass.the_row P) (LevelPass.the_row Pass.the_row)
+      (LevelQueue.the_row N Queue.the_row P H Q) (LevelHeld.the_row N P H) (LevelLeave.the_row N (Leave.the_row (Own.the_row N P H)) P H E)
+  below L P Q H E c g = let t = c.tokens in let o : IsSend (Own.the_row N P H) = own.the_send N P H t.pass_sent t.held_sent in record {
+    lock_sent = level.the_send _ _ _ _ (any_lock.the_send _ g o) c.lock_sent pass.the_send t.pass_sent;
+    lock_shared = level.the_sync _ _ _ _ (any_lock.the_sync _ g o) c.lock_shared pass_shared t.pass_shared_is;
+    tokens = record {
+      pass_sent = low_pass_sent;
+      pass_shared_is = low_pass_shared;
+      queue_sent = level_queue.the_send _ _ _ _ _ queue.the_send t.pass_sent t.held_sent t.queue_sent;
+      held_sent = level_held.the_send _ _ _ t.pass_sent t.held_sent;
+      leave_sent = level_leave.the_send _ _ _ _ _ (leave.the_send _ o) t.pass_sent t.held_sent t.leave_sent;
+    };
+  }
 
   -- the tokens of a level, as fields
   module _ {P Q H E : RattleType} (t : TokensCross P Q H E) where
@@ -132,6 +131,3 @@ module _ (g : Ghosts (Root.the_row (Noted.the_row unit)).Denot) where
 pub noted_top_tokens : TokensCross (TopPass.the_row Pass.the_row) (TopQueue.the_row Queue.the_row) (TopHeld.the_row (Noted.the_row unit))
     (TopLeave.the_row (Leave.the_row (Root.the_row (Noted.the_row unit))))
 noted_top_tokens = top_tokens (Noted.the_row unit) noted_sent
-
-pub low_pass_sent : IsSend (LevelPass.the_row Pass.the_row)
-low_pass_sent = level_pass.the_send _ pass.the_send

@@ -34,21 +34,25 @@ two_tokens : TokensCross LowPass QueueOfTwo.the_row HeldOfTwo.the_row LeaveOfTwo
 two_tokens = let t = noted_top_tokens in record {
   pass_sent = low_pass_sent;
   pass_shared_is = low_pass_shared;
-  queue_sent = recorded_send _ _ _ QueueOfTwo.the_type.to_one (struct_send (shape QueueOfTwo.the_type) (queue_inside N noted_sent t, tt));
+  queue_sent =
+      recorded_send _ _ _ QueueOfTwo.the_type.to_one (struct_send (shape QueueOfTwo.the_type) (queue_inside N noted_sent t, tt));
   held_sent = recorded_send _ _ _ HeldOfTwo.the_type.to_one (struct_send (shape HeldOfTwo.the_type) (held_inside N noted_sent t, tt));
-  leave_sent = recorded_send _ _ _ LeaveOfTwo.the_type.to_one (struct_send (shape LeaveOfTwo.the_type) (leave_inside N noted_sent t, tt));
+  leave_sent =
+      recorded_send _ _ _ LeaveOfTwo.the_type.to_one (struct_send (shape LeaveOfTwo.the_type) (leave_inside N noted_sent t, tt));
 }
 
 two_sent : IsSend LockOfTwo.the_row
 two_sent =
-    let inside = lock_inside N noted_sent in let p : IsSend (TopPass.the_row Pass.the_row) = noted_top_tokens.pass_sent in let h : IsSend (TopHeld.the_row N) = noted_top_tokens.held_sent in
+    let inside = lock_inside N noted_sent in let t = noted_top_tokens in
+    let p : IsSend (TopPass.the_row Pass.the_row) = t.pass_sent in let h : IsSend (TopHeld.the_row N) = t.held_sent in
     recorded_send _ _ _ LockOfTwo.the_type.to_one
     (struct_send (shape LockOfTwo.the_type) (search (inside, noted_top_sent) depth 12, (search sendable, tt)))
 
 two_shared : IsSync LockOfTwo.the_row
 two_shared =
-    let inside = shared_inside N noted_sent in let y : IsSync (TopPass.the_row Pass.the_row) = noted_top_tokens.pass_shared_is in
-    let p : IsSend (TopPass.the_row Pass.the_row) = noted_top_tokens.pass_sent in let h : IsSend (TopHeld.the_row N) = noted_top_tokens.held_sent in
+    let inside = shared_inside N noted_sent in let t = noted_top_tokens in
+    let y : IsSync (TopPass.the_row Pass.the_row) = t.pass_shared_is in
+    let p : IsSend (TopPass.the_row Pass.the_row) = t.pass_sent in let h : IsSend (TopHeld.the_row N) = t.held_sent in
     recorded_sync _ _ _ LockOfTwo.the_type.to_one
     (struct_sync (shape LockOfTwo.the_type) (search (inside, noted_top_shared) depth 12, (search sendable, tt)))
 
@@ -59,21 +63,25 @@ three_tokens : TokensCross LowPass QueueOfThree.the_row HeldOfThree.the_row Leav
 three_tokens = let t = two_tokens in record {
   pass_sent = low_pass_sent;
   pass_shared_is = low_pass_shared;
-  queue_sent = recorded_send _ _ _ QueueOfThree.the_type.to_one (struct_send (shape QueueOfThree.the_type) (queue_inside N noted_sent t, tt));
+  queue_sent =
+      recorded_send _ _ _ QueueOfThree.the_type.to_one (struct_send (shape QueueOfThree.the_type) (queue_inside N noted_sent t, tt));
   held_sent = recorded_send _ _ _ HeldOfThree.the_type.to_one (struct_send (shape HeldOfThree.the_type) (held_inside N noted_sent t, tt));
-  leave_sent = recorded_send _ _ _ LeaveOfThree.the_type.to_one (struct_send (shape LeaveOfThree.the_type) (leave_inside N noted_sent t, tt));
+  leave_sent =
+      recorded_send _ _ _ LeaveOfThree.the_type.to_one (struct_send (shape LeaveOfThree.the_type) (leave_inside N noted_sent t, tt));
 }
 
 three_sent : IsSend LockOfThree.the_row
 three_sent =
-    let inside = lock_inside N noted_sent in let p : IsSend LowPass = two_tokens.pass_sent in let h : IsSend HeldOfTwo.the_row = two_tokens.held_sent in
+    let inside = lock_inside N noted_sent in let t = two_tokens in
+    let p : IsSend LowPass = t.pass_sent in let h : IsSend HeldOfTwo.the_row = t.held_sent in
     recorded_send _ _ _ LockOfThree.the_type.to_one
     (struct_send (shape LockOfThree.the_type) (search (inside, two_sent) depth 12, (search sendable, tt)))
 
 three_shared : IsSync LockOfThree.the_row
 three_shared =
-    let inside = shared_inside N noted_sent in let y : IsSync LowPass = two_tokens.pass_shared_is in
-    let p : IsSend LowPass = two_tokens.pass_sent in let h : IsSend HeldOfTwo.the_row = two_tokens.held_sent in
+    let inside = shared_inside N noted_sent in let t = two_tokens in
+    let y : IsSync LowPass = t.pass_shared_is in
+    let p : IsSend LowPass = t.pass_sent in let h : IsSend HeldOfTwo.the_row = t.held_sent in
     recorded_sync _ _ _ LockOfThree.the_type.to_one
     (struct_sync (shape LockOfThree.the_type) (search (inside, two_shared) depth 12, (search sendable, tt)))
 
@@ -84,21 +92,25 @@ four_tokens : TokensCross LowPass QueueOfFour.the_row HeldOfFour.the_row LeaveOf
 four_tokens = let t = three_tokens in record {
   pass_sent = low_pass_sent;
   pass_shared_is = low_pass_shared;
-  queue_sent = recorded_send _ _ _ QueueOfFour.the_type.to_one (struct_send (shape QueueOfFour.the_type) (queue_inside N noted_sent t, tt));
+  queue_sent =
+      recorded_send _ _ _ QueueOfFour.the_type.to_one (struct_send (shape QueueOfFour.the_type) (queue_inside N noted_sent t, tt));
   held_sent = recorded_send _ _ _ HeldOfFour.the_type.to_one (struct_send (shape HeldOfFour.the_type) (held_inside N noted_sent t, tt));
-  leave_sent = recorded_send _ _ _ LeaveOfFour.the_type.to_one (struct_send (shape LeaveOfFour.the_type) (leave_inside N noted_sent t, tt));
+  leave_sent =
+      recorded_send _ _ _ LeaveOfFour.the_type.to_one (struct_send (shape LeaveOfFour.the_type) (leave_inside N noted_sent t, tt));
 }
 
 four_sent : IsSend LockOfFour.the_row
 four_sent =
-    let inside = lock_inside N noted_sent in let p : IsSend LowPass = three_tokens.pass_sent in let h : IsSend HeldOfThree.the_row = three_tokens.held_sent in
+    let inside = lock_inside N noted_sent in let t = three_tokens in
+    let p : IsSend LowPass = t.pass_sent in let h : IsSend HeldOfThree.the_row = t.held_sent in
     recorded_send _ _ _ LockOfFour.the_type.to_one
     (struct_send (shape LockOfFour.the_type) (search (inside, three_sent) depth 12, (search sendable, tt)))
 
 four_shared : IsSync LockOfFour.the_row
 four_shared =
-    let inside = shared_inside N noted_sent in let y : IsSync LowPass = three_tokens.pass_shared_is in
-    let p : IsSend LowPass = three_tokens.pass_sent in let h : IsSend HeldOfThree.the_row = three_tokens.held_sent in
+    let inside = shared_inside N noted_sent in let t = three_tokens in
+    let y : IsSync LowPass = t.pass_shared_is in
+    let p : IsSend LowPass = t.pass_sent in let h : IsSend HeldOfThree.the_row = t.held_sent in
     recorded_sync _ _ _ LockOfFour.the_type.to_one
     (struct_sync (shape LockOfFour.the_type) (search (inside, three_shared) depth 12, (search sendable, tt)))
 

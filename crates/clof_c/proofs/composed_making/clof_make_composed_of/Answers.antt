@@ -1,5 +1,10 @@
 use Rattle.std.proofs.Common.{refl, inl, inr}
+use Rattle.clof_c.proofs.Few.{few_levels}
 use Rattle.clof_c.proofs.composed_making.clof_make_composed_of.Goals as goal
+
+pub make-requires-clause-levels : goal.make-requires-clause-levels
+make-requires-clause-levels c =
+    few_levels _ c.in-Ok.setting.plan c.in-Ok.setting.shape c.in-Ok.ensures.setting c.in-Ok.ensures.kinds
 
 pub returns-in-Ok : goal.returns-in-Ok
 returns-in-Ok c = record {

@@ -1,0 +1,23 @@
+-- How many levels texts may tell.
+use Rattle.std.proofs.Common.{◌≡◌, ℕ, ◌+◌, ◌<◌, List, length, ap, ◌∙◌, arith}
+use Rattle.std.specs.Prelude.{Option, Some, None}
+use Rattle.std.proofs.lemmas.List.{length-replicate}
+use Rattle.keep_local.specs.declared.shape.Shape.{Shape}
+use Rattle.keep_local.specs.Shapes.{top_of}
+use Rattle.lock_plan.specs.Plans.{AreKinds}
+use Rattle.lock_plan.specs.declared.kind.LockKind.{LockKind}
+use Rattle.lock_plan.specs.declared.kind.LockKind.TheVariants.{Mcs}
+use Rattle.lock_plan.specs.declared.plan.Plan.{Plan}
+use Rattle.lock_setting.specs.Settings.{IsSettingOf, Texts, locks_given}
+
+kinds_each : (levels : ℕ) (locks : Option (List ℕ)) (kinds : List LockKind) → AreKinds levels locks kinds → length kinds ≡ levels
+kinds_each levels None kinds are = ap length are ∙ length-replicate levels Mcs
+kinds_each levels (Some text) kinds are = are.1
+
+-- a lock of a plan has five levels at most
+pub few_levels : (texts : Texts) (plan : Plan) (shape : Shape) → IsSettingOf texts plan shape → length plan.kinds ≡ top_of shape + 1
+    → top_of shape < 5
+few_levels texts plan shape setting many =
+    let few = setting.plan_is.levels_are.few in
+    let each = kinds_each (length plan.depths) (locks_given texts.locks) plan.kinds setting.plan_is.kinds_are in
+    omega (arith, few, each, many)
