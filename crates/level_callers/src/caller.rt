@@ -8,6 +8,7 @@ ghost use Rattle.level_callers.specs.Goes.{HasClimbed, HasLooked, HasBegunToLeav
 use crate::holder::noted;
 use crate::reply::Reply;
 use clof_compose::Composed;
+use crossbeam_utils::CachePadded;
 use keep_local::Share;
 use lock_callers::{Stage, Standing};
 use lock_rules::Step;
@@ -22,11 +23,12 @@ use std::sync::Arc;
 pub struct Caller<C: Composed<Noted<()>>> {
     pub(crate) lock: Arc<C>,
     pub(crate) share: Share,
-    pub(crate) stage: Stage<C::Pass, C::Queue, C::Held, C::Leave>,
+    pub(crate) stage: CachePadded<Stage<C::Pass, C::Queue, C::Held, C::Leave>>,
 }
 
 impl<C: Composed<Noted<()>>> Model for Caller<C> {
     ghost use Rattle.std.specs.Arc.{arc_value};
+    ghost use Rattle.crossbeam_utils.specs.Padded.{padded_value};
     ghost use Rattle.lock_rules.specs.Tag.{leaf};
     ghost use Rattle.lock_callers.specs.Sound.{standing_of};
     ghost use Rattle.level_callers.specs.Seen.{Seen, seen_code};
@@ -37,19 +39,19 @@ impl<C: Composed<Noted<()>>> Model for Caller<C> {
     ghost coded = { seen_code };
 
     ghost view = { λ c. record {
-      standing = standing_of c.stage;
+      standing = standing_of (padded_value c.stage);
       lock = C.tag (arc_value c.lock);
       caller = c.share.caller;
       made = c.share.made;
       allowed = c.share.quota;
-      level = level_of C.Queue.climb C.Held.stand C.Leave.descent c.stage;
-      loads = loads_of C.Queue.climb C.Held.stand C.Leave.descent c.stage;
+      level = level_of C.Queue.climb C.Held.stand C.Leave.descent (padded_value c.stage);
+      loads = loads_of C.Queue.climb C.Held.stand C.Leave.descent (padded_value c.stage);
     } };
 
     ghost invariant = { λ c. IsSound (C.sound (arc_value c.lock)) (C.level (arc_value c.lock)) (C.tag (arc_value c.lock)) c.share
         (IsToken C.Pass.rest C.Queue.climb C.Queue.climbs C.Held.stand C.Held.stands C.Leave.descent C.Leave.descends
         (λ n. n.calls.callers) (λ _. leaf 0) (C.has (arc_value c.lock)) (C.level (arc_value c.lock)) (C.tag (arc_value c.lock)) c.share
-        c.stage) };
+        (padded_value c.stage)) };
 }
 
 impl<C: Composed<Noted<()>>> Caller<C> {
@@ -64,25 +66,25 @@ impl<C: Composed<Noted<()>>> Caller<C> {
     pub fn begin(&mut self) -> Reply
         ensures goes { Begins self.old self.new result }
     {
-        match mem::replace(&mut self.stage, Stage::Spent) {
+        match mem::replace(&mut *self.stage, Stage::Spent) {
             Stage::Idle(pass) if self.share.may_turn() => {
                 match self.lock.begin(pass, &mut self.share) {
                     Step::Not(queue) => {
-                        self.stage = Stage::Queued(queue);
+                        *self.stage = Stage::Queued(queue);
                         Reply::NotYet
                     }
                     Step::Got(held) => {
-                        self.stage = Stage::Holding(noted(&*self.lock, held, &self.share));
+                        *self.stage = Stage::Holding(noted(&*self.lock, held, &self.share));
                         Reply::Done
                     }
                 }
             }
             Stage::Idle(pass) => {
-                self.stage = Stage::Idle(pass);
+                *self.stage = Stage::Idle(pass);
                 Reply::NoTurn
             }
             other => {
-                self.stage = other;
+                *self.stage = other;
                 Reply::Elsewhere
             }
         }
@@ -93,19 +95,19 @@ impl<C: Composed<Noted<()>>> Caller<C> {
         ensures goes { Polls self.old self.new result }
         ensures climbed { HasClimbed self.old self.new result }
     {
-        match mem::replace(&mut self.stage, Stage::Spent) {
+        match mem::replace(&mut *self.stage, Stage::Spent) {
             Stage::Queued(queue) => match self.lock.poll(queue, &mut self.share) {
                 Step::Not(queue) => {
-                    self.stage = Stage::Queued(queue);
+                    *self.stage = Stage::Queued(queue);
                     Reply::NotYet
                 }
                 Step::Got(held) => {
-                    self.stage = Stage::Holding(noted(&*self.lock, held, &self.share));
+                    *self.stage = Stage::Holding(noted(&*self.lock, held, &self.share));
                     Reply::Done
                 }
             },
             other => {
-                self.stage = other;
+                *self.stage = other;
                 Reply::Elsewhere
             }
         }
@@ -127,19 +129,19 @@ impl<C: Composed<Noted<()>>> Caller<C> {
         ensures goes { BeginsRelease self.old self.new result }
         ensures left { HasBegunToLeave self.old self.new result }
     {
-        match mem::replace(&mut self.stage, Stage::Spent) {
+        match mem::replace(&mut *self.stage, Stage::Spent) {
             Stage::Holding(held) => match self.lock.begin_release(held) {
                 Step::Not(leave) => {
-                    self.stage = Stage::Leaving(leave);
+                    *self.stage = Stage::Leaving(leave);
                     Reply::NotYet
                 }
                 Step::Got(pass) => {
-                    self.stage = Stage::Idle(pass);
+                    *self.stage = Stage::Idle(pass);
                     Reply::Done
                 }
             },
             other => {
-                self.stage = other;
+                *self.stage = other;
                 Reply::Elsewhere
             }
         }
@@ -150,19 +152,19 @@ impl<C: Composed<Noted<()>>> Caller<C> {
         ensures goes { PollsRelease self.old self.new result }
         ensures descended { HasDescended self.old self.new result }
     {
-        match mem::replace(&mut self.stage, Stage::Spent) {
+        match mem::replace(&mut *self.stage, Stage::Spent) {
             Stage::Leaving(leave) => match self.lock.poll_release(leave) {
                 Step::Not(leave) => {
-                    self.stage = Stage::Leaving(leave);
+                    *self.stage = Stage::Leaving(leave);
                     Reply::NotYet
                 }
                 Step::Got(pass) => {
-                    self.stage = Stage::Idle(pass);
+                    *self.stage = Stage::Idle(pass);
                     Reply::Done
                 }
             },
             other => {
-                self.stage = other;
+                *self.stage = other;
                 Reply::Elsewhere
             }
         }

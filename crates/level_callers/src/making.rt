@@ -10,6 +10,7 @@ ghost use Rattle.level_callers.specs.Sound.{IsOwn};
 
 use crate::caller::Caller;
 use clof_compose::{Composed, Resting};
+use crossbeam_utils::CachePadded;
 use keep_local::Share;
 use lock_callers::Stage;
 use own_payload::Noted;
@@ -84,7 +85,7 @@ impl<C: Composed<Noted<()>>> Caller<C> {
         requires own { IsOwn (C.has (arc_value lock)) share (C.Pass.rest pass).context }
         ensures idle { result ≡ idle_of (C.tag (arc_value lock)) share.quota share.caller }
     {
-        let stage = Stage::Idle(pass);
+        let stage = CachePadded::new(Stage::Idle(pass));
         Caller { lock, share, stage }
     }
 }

@@ -5,6 +5,7 @@ ghost use Rattle.lock_callers.specs.declared.standing.Standing.TheVariants.{Idle
 
 use crate::stage::Stage;
 use crate::standing::{Reply, Standing};
+use crossbeam_utils::CachePadded;
 use lock_rules::{Basic, Plain, Step};
 use std::marker::Model;
 use std::mem;
@@ -15,11 +16,12 @@ use std::sync::Arc;
 #[derive(Drop)]
 pub struct Caller<B: Basic<Plain<()>>> {
     pub(crate) lock: Arc<B>,
-    pub(crate) stage: Stage<B::Pass, B::Queue, B::Held, B::Leave>,
+    pub(crate) stage: CachePadded<Stage<B::Pass, B::Queue, B::Held, B::Leave>>,
 }
 
 impl<B: Basic<Plain<()>>> Model for Caller<B> {
     ghost use Rattle.std.specs.Arc.{arc_value};
+    ghost use Rattle.crossbeam_utils.specs.Padded.{padded_value};
     ghost use Rattle.lock_callers.specs.Seen.{Seen, seen_code};
     ghost use Rattle.lock_callers.specs.Sound.{IsSound, standing_of, loads_of, tested_of};
 
@@ -28,14 +30,14 @@ impl<B: Basic<Plain<()>>> Model for Caller<B> {
     ghost coded = { seen_code };
 
     ghost view = { λ c. record {
-      standing = standing_of c.stage;
+      standing = standing_of (padded_value c.stage);
       lock = B.name (arc_value c.lock);
-      loads = loads_of B.Queue.waiting B.Held.holder B.Leave.waiting c.stage;
-      tested = tested_of B.Held.holder c.stage;
+      loads = loads_of B.Queue.waiting B.Held.holder B.Leave.waiting (padded_value c.stage);
+      tested = tested_of B.Held.holder (padded_value c.stage);
     } };
 
     ghost invariant = { λ c. IsSound B.Pass.place B.Queue.waiting B.Held.holder B.Leave.waiting B.Leave.rests
-        (B.name (arc_value c.lock)) (B.tag (arc_value c.lock)) c.stage };
+        (B.name (arc_value c.lock)) (B.tag (arc_value c.lock)) (padded_value c.stage) };
 }
 
 impl<B: Basic<Plain<()>>> Caller<B> {
@@ -50,19 +52,19 @@ impl<B: Basic<Plain<()>>> Caller<B> {
     pub fn begin(&mut self) -> Reply
         ensures goes { Goes (is_idle self.old.standing) Queued Holding self.old self.new result }
     {
-        match mem::replace(&mut self.stage, Stage::Spent) {
+        match mem::replace(&mut *self.stage, Stage::Spent) {
             Stage::Idle(pass) => match self.lock.begin(pass) {
                 Step::Not(queue) => {
-                    self.stage = Stage::Queued(queue);
+                    *self.stage = Stage::Queued(queue);
                     Reply::NotYet
                 }
                 Step::Got(held) => {
-                    self.stage = Stage::Holding(held);
+                    *self.stage = Stage::Holding(held);
                     Reply::Done
                 }
             },
             other => {
-                self.stage = other;
+                *self.stage = other;
                 Reply::Elsewhere
             }
         }
@@ -73,19 +75,19 @@ impl<B: Basic<Plain<()>>> Caller<B> {
         ensures goes { Goes (is_queued self.old.standing) Queued Holding self.old self.new result }
         ensures loaded { LoadedOnce self.old self.new result }
     {
-        match mem::replace(&mut self.stage, Stage::Spent) {
+        match mem::replace(&mut *self.stage, Stage::Spent) {
             Stage::Queued(queue) => match self.lock.poll(queue) {
                 Step::Not(queue) => {
-                    self.stage = Stage::Queued(queue);
+                    *self.stage = Stage::Queued(queue);
                     Reply::NotYet
                 }
                 Step::Got(held) => {
-                    self.stage = Stage::Holding(held);
+                    *self.stage = Stage::Holding(held);
                     Reply::Done
                 }
             },
             other => {
-                self.stage = other;
+                *self.stage = other;
                 Reply::Elsewhere
             }
         }
@@ -107,19 +109,19 @@ impl<B: Basic<Plain<()>>> Caller<B> {
         ensures goes { Goes (is_holding self.old.standing) Leaving Idle self.old self.new result }
         ensures loaded { LoadedOnce self.old self.new result }
     {
-        match mem::replace(&mut self.stage, Stage::Spent) {
+        match mem::replace(&mut *self.stage, Stage::Spent) {
             Stage::Holding(held) => match self.lock.begin_release(held) {
                 Step::Not(leave) => {
-                    self.stage = Stage::Leaving(leave);
+                    *self.stage = Stage::Leaving(leave);
                     Reply::NotYet
                 }
                 Step::Got(pass) => {
-                    self.stage = Stage::Idle(pass);
+                    *self.stage = Stage::Idle(pass);
                     Reply::Done
                 }
             },
             other => {
-                self.stage = other;
+                *self.stage = other;
                 Reply::Elsewhere
             }
         }
@@ -130,19 +132,19 @@ impl<B: Basic<Plain<()>>> Caller<B> {
         ensures goes { Goes (is_leaving self.old.standing) Leaving Idle self.old self.new result }
         ensures loaded { LoadedOnce self.old self.new result }
     {
-        match mem::replace(&mut self.stage, Stage::Spent) {
+        match mem::replace(&mut *self.stage, Stage::Spent) {
             Stage::Leaving(leave) => match self.lock.poll_release(leave) {
                 Step::Not(leave) => {
-                    self.stage = Stage::Leaving(leave);
+                    *self.stage = Stage::Leaving(leave);
                     Reply::NotYet
                 }
                 Step::Got(pass) => {
-                    self.stage = Stage::Idle(pass);
+                    *self.stage = Stage::Idle(pass);
                     Reply::Done
                 }
             },
             other => {
-                self.stage = other;
+                *self.stage = other;
                 Reply::Elsewhere
             }
         }
@@ -162,14 +164,14 @@ impl<B: Basic<Plain<()>>> Caller<B> {
     pub fn waiters(&mut self) -> Option<bool>
         ensures tells { Tells (is_holding self.old.standing) self.old self.new result }
     {
-        match mem::replace(&mut self.stage, Stage::Spent) {
+        match mem::replace(&mut *self.stage, Stage::Spent) {
             Stage::Holding(mut held) => {
                 let told = self.lock.waiter(&mut held);
-                self.stage = Stage::Holding(held);
+                *self.stage = Stage::Holding(held);
                 Some(told)
             }
             other => {
-                self.stage = other;
+                *self.stage = other;
                 None
             }
         }

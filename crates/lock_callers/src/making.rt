@@ -8,6 +8,7 @@ ghost use Rattle.lock_callers.specs.Seen.{AreOf};
 
 use crate::caller::Caller;
 use crate::stage::Stage;
+use crossbeam_utils::CachePadded;
 use lock_rules::{Basic, Plain};
 use std::alloc::Global;
 use std::sync::Arc;
@@ -40,7 +41,7 @@ fn callers_of<B: Basic<Plain<()>> + Drop>(
     let mut callers = Vec::new(alloc);
     while let Some(pass) = passes.pop() {
         let lock = Arc::try_clone(&lock).ok()?;
-        let stage = Stage::Idle(pass);
+        let stage = CachePadded::new(Stage::Idle(pass));
         callers.push(Caller { lock, stage }).ok()?;
     }
     Some(callers)

@@ -53,7 +53,15 @@ returns-then-levels-eq4-clause-callers c =
 pub returns-else-levels-eq4-clause-callers : goal.returns-else-levels-eq4-clause-callers
 returns-else-levels-eq4-clause-callers c =
     let many : 5 ≡ top_of c.args.shape.now + 1 = let many_kinds = ap length c.as_slice-levels.ensures in
-    omega (arith, many_kinds, c.requires.plan, c.requires.levels, c.if-levels-eq1.false, c.if-levels-eq2.false, c.if-levels-eq3.false,
-    c.if-levels-eq4.false) in
+    omega (
+      arith,
+      many_kinds,
+      c.requires.plan,
+      c.requires.levels,
+      c.if-levels-eq1.false,
+      c.if-levels-eq2.false,
+      c.if-levels-eq3.false,
+      c.if-levels-eq4.false,
+    ) in
     subst (λ n. IfSome c.five_levels.result (λ made. (lock : Tag) × IsLockOf c.args.shape.now lock × AreBoxed (IsNew lock n) made.items))
     many c.five_levels.ensures.callers
