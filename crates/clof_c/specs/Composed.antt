@@ -20,7 +20,7 @@ use Rattle.level_handles.specs.Calls.{HandleDoes, HandleFrees}
 use Rattle.level_handles.specs.Making.{Makes}
 use Rattle.level_handles.specs.declared.any_depth.AnyDepth.{AnyDepth}
 use Rattle.level_handles.specs.declared.making.Made.{Made}
-use Rattle.level_handles.specs.declared.making.Made.TheVariants.{Done, NoMemory, InUse, Refused}
+use Rattle.level_handles.specs.declared.making.Made.TheVariants.{Done, NoMemory, InUse, TooDeep, Refused}
 use Rattle.clof_c.specs.declared.composed_codes.ClofNumbers.{ClofNumbers}
 
 -- what a call answered; no answer is that of an empty handle
@@ -37,6 +37,7 @@ composed_made_code Done = 0
 composed_made_code NoMemory = 4
 composed_made_code InUse = 5
 composed_made_code Refused = 6
+composed_made_code TooDeep = 8
 
 abbrev pub numbers_by : ℕ → ℕ → ClofNumbers
 numbers_by first second = record { first = first; second = second }
@@ -130,13 +131,14 @@ pub record AreRefused (texts : Texts) (old new : List (Option AnyDepth)) (number
   pub code_is : code ≡ fault_code fault
   pub numbers_are : numbers ≡ fault_numbers fault
 
--- the texts tell a plan and a shape, and the handles are as making leaves them
+-- the texts tell a plan and a shape, the handles are as making leaves them, and it never finds the plan too deep
 pub record AreMade (texts : Texts) (old new : List (Option AnyDepth)) (numbers : ClofNumbers) (code : ℕ) : Type 0 where
   pub plan : Plan
   pub shape : Shape
   pub setting : IsSettingOf texts plan shape
   pub made : Made
   pub makes : Makes shape old new made
+  pub fits : made ≡ TooDeep → ⊥
   pub code_is : code ≡ composed_made_code made
   pub numbers_are : numbers ≡ numbers_by 0 0
 

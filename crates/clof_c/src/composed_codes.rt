@@ -55,6 +55,7 @@ pub fn composed_made_code(made: Made) -> u32
         Made::NoMemory => 4,
         Made::InUse => 5,
         Made::Refused => 6,
+        Made::TooDeep => 8,
     }
 }
 

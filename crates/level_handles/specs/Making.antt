@@ -15,7 +15,7 @@ use Rattle.lock_handles.specs.Calls.{IsSomeThat}
 use Rattle.level_handles.specs.Calls.{levels_of, seen_of}
 use Rattle.level_handles.specs.declared.any_depth.AnyDepth.{AnyDepth}
 use Rattle.level_handles.specs.declared.making.Made.{Made}
-use Rattle.level_handles.specs.declared.making.Made.TheVariants.{Done, NoMemory, InUse, Refused}
+use Rattle.level_handles.specs.declared.making.Made.TheVariants.{Done, NoMemory, InUse, TooDeep, Refused}
 
 -- the caller with this number of a new lock of so many levels
 pub record IsNew (lock : Tag) (levels number : ℕ) (c : AnyDepth) : Type 0 where
@@ -59,7 +59,8 @@ AreFreshOf shape held = (lock : Tag) × IsLockOf shape lock × AreHeld (IsNew lo
 
 -- each answer with its cause; at any other than done nothing changes
 abbrev pub Makes : Shape → List (Option AnyDepth) → List (Option AnyDepth) → Made → Type 0
-Makes shape old new Done = AreFor shape old × AreEmpty old × (length new ≡ length old) × AreFreshOf shape new
-Makes shape old new NoMemory = AreFor shape old × AreEmpty old × (new ≡ old)
-Makes shape old new InUse = AreFor shape old × (AreEmpty old → ⊥) × (new ≡ old)
+Makes shape old new Done = AreFor shape old × (top_of shape < 5) × AreEmpty old × (length new ≡ length old) × AreFreshOf shape new
+Makes shape old new NoMemory = AreFor shape old × (top_of shape < 5) × AreEmpty old × (new ≡ old)
+Makes shape old new InUse = AreFor shape old × (top_of shape < 5) × (AreEmpty old → ⊥) × (new ≡ old)
+Makes shape old new TooDeep = AreFor shape old × (4 < top_of shape) × (new ≡ old)
 Makes shape old new Refused = (AreFor shape old → ⊥) × (new ≡ old)

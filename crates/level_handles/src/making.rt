@@ -1,5 +1,5 @@
 //! How the callers of a composed lock are made and put into handles.
-ghost use Rattle.std.specs.Prelude.{◌≡◌, ◌+◌, ◌<◌, ◌↔◌, ℕ, length, map, IsTrue};
+ghost use Rattle.std.specs.Prelude.{◌≡◌, ◌+◌, ◌↔◌, ℕ, length, map, IsTrue};
 ghost use Rattle.lock_rules.specs.Tag.{Tag};
 ghost use Rattle.keep_local.specs.Shapes.{IsWellFormed, top_of};
 ghost use Rattle.level_handles.specs.Making.{AreBoxed, AreEmpty, AreHeld, IsNew, Makes};
@@ -11,20 +11,20 @@ use keep_local::Shape;
 use lock_levels::Plan;
 use std::alloc::Global;
 
-/// What making answers. `InUse` is a handle that has a caller already, `Refused` not as many handles as the shape has callers, or none, or
-/// more than 2^32 - 1.
+/// What making answers. `InUse` is a handle that has a caller already, `TooDeep` a plan of more than five levels, `Refused` not as many
+/// handles as the shape has callers, or none, or more than 2^32 - 1.
 #[derive(Clone, Copy, PartialEq, Eq, Debug, Drop)]
 pub enum Made {
     Done,
     NoMemory,
     InUse,
+    TooDeep,
     Refused,
 }
 
 /// Makes a lock for the callers of a shape, whose levels have the kinds of the plan, and puts its callers into the handles, in order.
 pub fn make(alloc: Global, plan: &Plan, shape: &Shape, handles: &mut [ClofComposedCaller]) -> Made
     requires plan { length plan.now.kinds ≡ top_of shape.now + 1 }
-    requires levels { top_of shape.now < 5 }
     requires formed { IsWellFormed shape.now }
     ensures makes { Makes shape.now (map (λ h. h.held) handles.old) (map (λ h. h.held) handles.new) result }
 {
@@ -33,6 +33,9 @@ pub fn make(alloc: Global, plan: &Plan, shape: &Shape, handles: &mut [ClofCompos
     };
     if count == 0 || handles.len() != shape.paths.as_slice().len() {
         return Made::Refused;
+    }
+    if plan.kinds.as_slice().len() > 5 {
+        return Made::TooDeep;
     }
     if !are_empty(alloc, handles) {
         return Made::InUse;

@@ -12,6 +12,7 @@ returns-in-Some c =
     record {
       makes = (
         simp length-map (grind (arith, common_steps), omega arith, omega arith),
+        grind (arith, common_steps),
         c.are_empty.ensures.empty.0 empty,
         simp length-map (omega arith),
         (one.0, one.1, c.fill.ensures.filled one.0 (top_of c.args.shape.now + 1) one.2),
