@@ -11,7 +11,7 @@ use drill_text::{sections, summary};
 use lock_plan::Plan;
 use out_of_memory::OutOfMemory;
 use placed_runner::{Gate, Section, spread};
-use planned_runner::{Manner, Sharing, run};
+use planned_sharing::{Sharing, run_shared};
 use std::alloc::Global;
 use std::sync::Wait;
 use std::thread::Threads;
@@ -89,10 +89,10 @@ fn drilled_by<R: Threads + Wait + Sync, G: Gate + Sync>(
     ensures { IfOk result (λ printed. printed.items ≡ drill_text number) }
 {
     let shape = shape_for(alloc, tree, plan, sections)?;
-    let manner = Manner::Cohorts(Sharing {
+    let sharing = Sharing {
         threads: DRILL_THREADS,
         quantum: DRILL_QUANTUM,
-    });
-    let left = run(rt, alloc, plan, &shape, sections, manner, gate)?;
+    };
+    let left = run_shared(rt, alloc, plan, &shape, sections, sharing, gate)?;
     summary(alloc, number, &left.journal)
 }

@@ -21,7 +21,9 @@ use keep_local::Shape;
 use lock_plan::Plan;
 use out_of_memory::OutOfMemory;
 use placed_runner::{Gate, Section, read_sections};
-use planned_runner::{Manner, Sharing, run, run_marked};
+use planned_receipts::run_marked;
+use planned_runner::run;
+use planned_sharing::{Sharing, run_shared};
 use std::alloc::Global;
 use std::sync::Wait;
 use std::thread::Threads;
@@ -127,21 +129,15 @@ fn plain_text<R: Threads + Wait + Sync, G: Gate + Sync>(
     requires small { sum_by (λ section. length section.bytes.now) sections.now < 2 ^ 32 }
     ensures { IfOk result (λ printed. IsRun (map section_view sections.now) shape.now printed.items) }
 {
-    let left = run(rt, alloc, plan, shape, sections, manner_of(&asked), gate)?;
+    let left = match asked.sharing {
+        None => run(rt, alloc, plan, shape, sections, asked.walk, gate)?,
+        Some(sharing) => {
+            let sharing = Sharing {
+                threads: sharing.threads,
+                quantum: sharing.quantum,
+            };
+            run_shared(rt, alloc, plan, shape, sections, sharing, gate)?
+        }
+    };
     printed(alloc, sections, &left)
-}
-
-// How the callers of a run without receipts come to their holds.
-fn manner_of(asked: &Running<'_>) -> Manner {
-    match asked.sharing {
-        Some(sharing) => Manner::Cohorts(Sharing {
-            threads: sharing.threads,
-            quantum: sharing.quantum,
-        }),
-        None => if asked.walk {
-            Manner::Walk
-        } else {
-            Manner::Threads
-        },
-    }
 }

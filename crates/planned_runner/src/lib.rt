@@ -4,12 +4,6 @@
 //! on one, takes the lock apart, and gives what they leave.
 #![tactic(auto)]
 
-mod manner;
-mod marked_runs;
 mod runs;
-mod shapes;
-mod shared_runs;
 
-pub use manner::{Manner, Sharing};
-pub use marked_runs::run_marked;
 pub use runs::run;

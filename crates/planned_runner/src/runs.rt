@@ -4,9 +4,6 @@ ghost use Rattle.keep_local.specs.Shapes.{IsWellFormed, callers_of, top_of};
 ghost use Rattle.run_texts.specs.Callers.{caller_limit};
 ghost use Rattle.threaded_runner.specs.Finished.{IsFinished};
 
-use crate::manner::Manner;
-use crate::shapes::copied;
-use crate::shared_runs::run_shared;
 use clof_compose::TopPass;
 use keep_local::Shape;
 use lock_levels::{LowPass, Plan};
@@ -14,44 +11,16 @@ use lock_rising::{Given, rise, rise_flat};
 use lock_rules::Pass;
 use out_of_memory::OutOfMemory;
 use run_texts::{Gate, Section};
-use run_work::{Brought, Plain};
+use run_work::{Brought, Plain, copied_shape};
 use std::alloc::Global;
 use std::sync::Wait;
 use std::thread::Threads;
 use threaded_runner::{Book, Finished, Job, root_of};
 
-/// Has the callers of these sections give their commands under the lock of a plan with a shape: each in a thread of its own, served in turn
-/// by fewer threads, or, for a walk, all stepped in rounds on the calling one. It gives what they leave. Without memory for the lock or the
-/// run, or for a command in it, nothing is given. A gate is told of each hold on threads.
+/// Has the callers of these sections give their commands under the lock of a plan with a shape: each in a thread of its own or, for a walk,
+/// all stepped in rounds on the calling one. It gives what they leave. Without memory for the lock or the run, or for a command in it,
+/// nothing is given. A gate is told of each hold on threads.
 pub fn run<'a, R: Threads + Wait + Sync, G: Gate + Sync>(
-    rt: &R,
-    alloc: Global,
-    plan: &Plan,
-    shape: &Shape,
-    sections: &[Section<'a>],
-    manner: Manner,
-    gate: &G,
-) -> Result<Finished<'a>, OutOfMemory>
-    requires plan { length plan.now.kinds ≡ top_of shape.now + 1 }
-    requires levels { top_of shape.now < 5 }
-    requires formed { IsWellFormed shape.now }
-    requires callers { callers_of shape.now ≡ length sections.now }
-    requires some { 0 < length sections.now }
-    requires few { length sections.now ≤ caller_limit }
-    requires small { sum_by (λ section. length section.bytes.now) sections.now < 2 ^ 32 }
-    ensures finished { IfOk result (λ left. IsFinished left.trail left.journal) }
-    ensures shape { IfOk result (λ left. left.trail.shape ≡ shape.now) }
-    ensures sections { IfOk result (λ left. left.journal.sections ≡ map (λ section. section.bytes.now) sections.now) }
-{
-    match manner {
-        Manner::Walk => run_own(rt, alloc, plan, shape, sections, true, gate),
-        Manner::Threads => run_own(rt, alloc, plan, shape, sections, false, gate),
-        Manner::Cohorts(sharing) => run_shared(rt, alloc, plan, shape, sections, sharing, gate),
-    }
-}
-
-// The same with a thread a caller, or as a walk.
-fn run_own<'a, R: Threads + Wait + Sync, G: Gate + Sync>(
     rt: &R,
     alloc: Global,
     plan: &Plan,
@@ -71,7 +40,7 @@ fn run_own<'a, R: Threads + Wait + Sync, G: Gate + Sync>(
     ensures shape { IfOk result (λ left. left.trail.shape ≡ shape.now) }
     ensures sections { IfOk result (λ left. left.journal.sections ≡ map (λ section. section.bytes.now) sections.now) }
 {
-    let (root, shares) = root_of(alloc, sections, copied(alloc, shape)?)?;
+    let (root, shares) = root_of(alloc, sections, copied_shape(alloc, shape)?)?;
     let brought = Brought {
         shares,
         sections,

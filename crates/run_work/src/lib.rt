@@ -9,7 +9,9 @@ mod marked;
 mod parts;
 mod plain;
 mod seated;
+mod shapes;
 
 pub use marked::{FreshBrought, FreshLists, Receipted};
 pub use plain::{Brought, Lists, Plain};
 pub use seated::{Room, Seated, Waiting};
+pub use shapes::copied_shape;

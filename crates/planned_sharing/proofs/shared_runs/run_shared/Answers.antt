@@ -18,11 +18,12 @@ use Rattle.cohort_runner.proofs.Crossing.{caller_sent}
 use Rattle.cohort_runner.specs.contracts.caller.CallerNumbered.TheImpl as numbered
 use Rattle.threaded_runner.specs.Books.{book_tag}
 use Rattle.run_work.proofs.Crossing.{room_shared}
-use Rattle.planned_runner.proofs.shared_runs.run_shared.Goals as goal
+use Rattle.planned_sharing.proofs.shared_runs.run_shared.Goals as goal
 
 pub rise_flat-requires-clause-may : goal.rise_flat-requires-clause-may
 rise_flat-requires-clause-may g c κs within =
-    let same : c.in_ok-root.root.trail.shape ≡ c.args.shape.now = ap (λ t. t.shape) c.in_ok-root.ensures.trail ∙ c.in_ok-copied.ensures in
+    let same : c.in_ok-root.root.trail.shape ≡ c.args.shape.now =
+    ap (λ t. t.shape) c.in_ok-root.ensures.trail ∙ c.in_ok-copied_shape.ensures in
     let at_home : length c.in_ok-homes.field-0.items ≡ length c.args.sections.now =
     ap length c.in_ok-homes.ensures ∙ length-map c.args.shape.now.paths (λ path. slice_index path 0) ∙ c.requires.callers in
     record {
@@ -35,7 +36,8 @@ rise_flat-requires-clause-may g c κs within =
 
 pub rise-requires-clause-may : goal.rise-requires-clause-may
 rise-requires-clause-may g c κs within =
-    let same : c.in_ok-root.root.trail.shape ≡ c.args.shape.now = ap (λ t. t.shape) c.in_ok-root.ensures.trail ∙ c.in_ok-copied.ensures in
+    let same : c.in_ok-root.root.trail.shape ≡ c.args.shape.now =
+    ap (λ t. t.shape) c.in_ok-root.ensures.trail ∙ c.in_ok-copied_shape.ensures in
     let at_home : length c.in_ok-homes.field-0.items ≡ length c.args.sections.now =
     ap length c.in_ok-homes.ensures ∙ length-map c.args.shape.now.paths (λ path. slice_index path 0) ∙ c.requires.callers in
     record {
@@ -77,13 +79,15 @@ rise-requires-sync-K g c κs within =
 
 pub returns-then-top-eq0-clause-shape : goal.returns-then-top-eq0-clause-shape
 returns-then-top-eq0-clause-shape g c =
-    let same : c.in_ok-root.root.trail.shape ≡ c.args.shape.now = ap (λ t. t.shape) c.in_ok-root.ensures.trail ∙ c.in_ok-copied.ensures in
+    let same : c.in_ok-root.root.trail.shape ≡ c.args.shape.now =
+    ap (λ t. t.shape) c.in_ok-root.ensures.trail ∙ c.in_ok-copied_shape.ensures in
     IfOk-weaker c.rise_flat.result _ _ (λ left is. is.shape_is ∙ shape_named book_tag c.in_ok-root.root c.args.shape.now same)
     c.rise_flat.ensures
 
 pub returns-else-top-eq0-clause-shape : goal.returns-else-top-eq0-clause-shape
 returns-else-top-eq0-clause-shape g c =
-    let same : c.in_ok-root.root.trail.shape ≡ c.args.shape.now = ap (λ t. t.shape) c.in_ok-root.ensures.trail ∙ c.in_ok-copied.ensures in
+    let same : c.in_ok-root.root.trail.shape ≡ c.args.shape.now =
+    ap (λ t. t.shape) c.in_ok-root.ensures.trail ∙ c.in_ok-copied_shape.ensures in
     IfOk-weaker c.rise.result _ _ (λ left is. is.shape_is ∙ shape_named book_tag c.in_ok-root.root c.args.shape.now same)
     c.rise.ensures
 
@@ -93,7 +97,7 @@ rise_flat-requires-clause-top g c κs within =
     let plan = c.requires.plan in let one = c.if-top-eq0.true in omega (arith, kinds, plan, one)
 
 pub rise_flat-requires-clause-shape : goal.rise_flat-requires-clause-shape
-rise_flat-requires-clause-shape g c κs within = ap (λ t. t.shape) c.in_ok-root.ensures.trail ∙ c.in_ok-copied.ensures
+rise_flat-requires-clause-shape g c κs within = ap (λ t. t.shape) c.in_ok-root.ensures.trail ∙ c.in_ok-copied_shape.ensures
 
 pub returns-then-top-eq0-clause-finished : goal.returns-then-top-eq0-clause-finished
 returns-then-top-eq0-clause-finished g c = IfOk-weaker c.rise_flat.result _ _ (λ left is. is.finished) c.rise_flat.ensures
@@ -114,7 +118,7 @@ rise-requires-clause-most g c κs within =
     let levels = c.requires.levels in omega (arith, kinds, plan, levels)
 
 pub rise-requires-clause-shape : goal.rise-requires-clause-shape
-rise-requires-clause-shape g c κs within = ap (λ t. t.shape) c.in_ok-root.ensures.trail ∙ c.in_ok-copied.ensures
+rise-requires-clause-shape g c κs within = ap (λ t. t.shape) c.in_ok-root.ensures.trail ∙ c.in_ok-copied_shape.ensures
 
 pub returns-else-top-eq0-clause-finished : goal.returns-else-top-eq0-clause-finished
 returns-else-top-eq0-clause-finished g c = IfOk-weaker c.rise.result _ _ (λ left is. is.finished) c.rise.ensures

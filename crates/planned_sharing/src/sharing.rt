@@ -1,16 +1,5 @@
-//! How the callers of a run come to their holds.
+//! Threads that serve callers in turn.
 ghost use Rattle.std.specs.Prelude.{◌<◌, ◌≤◌};
-
-/// How the callers of a run come to their holds.
-#[derive(Clone, Copy)]
-pub enum Manner {
-    /// Each has a thread of its own.
-    Threads,
-    /// All are stepped in rounds on the calling thread.
-    Walk,
-    /// They wait, at the node of the lowest level where each stands, for threads that serve them in turn.
-    Cohorts(Sharing),
-}
 
 /// Threads that serve callers in turn.
 #[derive(Clone, Copy)]

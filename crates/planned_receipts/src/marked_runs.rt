@@ -6,7 +6,6 @@ ghost use Rattle.run_texts.specs.Callers.{caller_limit};
 ghost use Rattle.threaded_runner.specs.Finished.{IsFinished};
 ghost use Rattle.fresh_runner.specs.Marked.{AreMarked};
 
-use crate::shapes::copied;
 use clof_compose::TopPass;
 use fresh_runner::{
     FreshBook, FreshJob, Marked, fresh_books_may_be_sent, fresh_books_may_be_shared, fresh_root_of,
@@ -17,7 +16,7 @@ use lock_rising::{Given, rise, rise_flat};
 use lock_rules::Pass;
 use out_of_memory::OutOfMemory;
 use run_texts::{Gate, Section};
-use run_work::{FreshBrought, Receipted};
+use run_work::{FreshBrought, Receipted, copied_shape};
 use std::alloc::Global;
 use std::sync::Wait;
 use std::thread::Threads;
@@ -47,7 +46,7 @@ pub fn run_marked<'a, R: Threads + Wait + Sync, G: Gate + Sync>(
 {
     fresh_books_may_be_sent();
     fresh_books_may_be_shared();
-    let (root, shares, seens) = fresh_root_of(alloc, sections, copied(alloc, shape)?)?;
+    let (root, shares, seens) = fresh_root_of(alloc, sections, copied_shape(alloc, shape)?)?;
     let brought = FreshBrought {
         shares,
         seens,

@@ -1,5 +1,5 @@
 use Rattle.std.proofs.Common.{◌≡◌, take}
-use Rattle.planned_runner.proofs.shapes.copied.Given as goal
+use Rattle.run_work.proofs.shapes.copied_shape.Given as goal
 
 -- the paths so far
 abbrev pub invariant-loop-path : goal.invariant-loop-path

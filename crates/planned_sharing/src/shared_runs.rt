@@ -4,8 +4,8 @@ ghost use Rattle.keep_local.specs.Shapes.{IsWellFormed, callers_of, top_of};
 ghost use Rattle.run_texts.specs.Callers.{caller_limit};
 ghost use Rattle.threaded_runner.specs.Finished.{IsFinished};
 
-use crate::manner::Sharing;
-use crate::shapes::{copied, homes};
+use crate::homes::homes;
+use crate::sharing::Sharing;
 use clof_compose::TopPass;
 use cohort_desks::Desk;
 use cohort_runner::Caller;
@@ -15,14 +15,15 @@ use lock_rising::{Given, rise, rise_flat};
 use lock_rules::Pass;
 use out_of_memory::OutOfMemory;
 use run_texts::{Gate, Section};
-use run_work::{Room, Seated, Waiting};
+use run_work::{Room, Seated, Waiting, copied_shape};
 use std::alloc::Global;
 use std::sync::Wait;
 use std::thread::Threads;
 use threaded_runner::{Book, Finished, root_of};
 
-/// The run of `runs` whose callers share threads.
-pub(crate) fn run_shared<'a, R: Threads + Wait + Sync, G: Gate + Sync>(
+/// Has the callers of these sections give their commands under the lock of a plan with a shape, served in turn by threads that they share.
+/// It gives what they leave. Without memory for the lock or the run, or for a command in it, nothing is given. A gate is told of each hold.
+pub fn run_shared<'a, R: Threads + Wait + Sync, G: Gate + Sync>(
     rt: &R,
     alloc: Global,
     plan: &Plan,
@@ -44,7 +45,7 @@ pub(crate) fn run_shared<'a, R: Threads + Wait + Sync, G: Gate + Sync>(
 {
     top_passes_may_be_sent();
     low_passes_may_be_sent();
-    let (root, shares) = root_of(alloc, sections, copied(alloc, shape)?)?;
+    let (root, shares) = root_of(alloc, sections, copied_shape(alloc, shape)?)?;
     let Sharing { threads, quantum } = sharing;
     let brought = Waiting {
         shares,

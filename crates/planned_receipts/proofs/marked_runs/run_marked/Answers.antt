@@ -3,7 +3,7 @@ use Rattle.std.proofs.lemmas.Result.{IfOk-weaker}
 use denote.Param.Send.{sendable}
 use Rattle.lock_levels.proofs.Levels.{shape_named}
 use Rattle.fresh_runner.specs.Books.{fresh_book_tag}
-use Rattle.planned_runner.proofs.marked_runs.run_marked.Goals as goal
+use Rattle.planned_receipts.proofs.marked_runs.run_marked.Goals as goal
 
 pub rise_flat-requires-send-P : goal.rise_flat-requires-send-P
 rise_flat-requires-send-P g c κs within =
@@ -23,7 +23,7 @@ rise-requires-sync-P g c κs within =
 
 pub rise_flat-requires-clause-may : goal.rise_flat-requires-clause-may
 rise_flat-requires-clause-may g c κs within =
-    let same : c.in_ok-root.root.trail.shape ≡ c.args.shape.now = c.in_ok-root.ensures.shape ∙ c.in_ok-copied.ensures in
+    let same : c.in_ok-root.root.trail.shape ≡ c.args.shape.now = c.in_ok-root.ensures.shape ∙ c.in_ok-copied_shape.ensures in
     record {
       formed = c.requires.formed;
       few = omega (arith, c.requires.few, c.requires.callers);
@@ -34,7 +34,7 @@ rise_flat-requires-clause-may g c κs within =
 
 pub rise-requires-clause-may : goal.rise-requires-clause-may
 rise-requires-clause-may g c κs within =
-    let same : c.in_ok-root.root.trail.shape ≡ c.args.shape.now = c.in_ok-root.ensures.shape ∙ c.in_ok-copied.ensures in
+    let same : c.in_ok-root.root.trail.shape ≡ c.args.shape.now = c.in_ok-root.ensures.shape ∙ c.in_ok-copied_shape.ensures in
     record {
       formed = c.requires.formed;
       few = omega (arith, c.requires.few, c.requires.callers);
@@ -45,13 +45,13 @@ rise-requires-clause-may g c κs within =
 
 pub returns-then-top-eq0-clause-shape : goal.returns-then-top-eq0-clause-shape
 returns-then-top-eq0-clause-shape g c =
-    let same : c.in_ok-root.root.trail.shape ≡ c.args.shape.now = c.in_ok-root.ensures.shape ∙ c.in_ok-copied.ensures in
+    let same : c.in_ok-root.root.trail.shape ≡ c.args.shape.now = c.in_ok-root.ensures.shape ∙ c.in_ok-copied_shape.ensures in
     IfOk-weaker c.rise_flat.result _ _ (λ made is. is.left_is.shape_is ∙ shape_named fresh_book_tag c.in_ok-root.root c.args.shape.now same)
     c.rise_flat.ensures
 
 pub returns-else-top-eq0-clause-shape : goal.returns-else-top-eq0-clause-shape
 returns-else-top-eq0-clause-shape g c =
-    let same : c.in_ok-root.root.trail.shape ≡ c.args.shape.now = c.in_ok-root.ensures.shape ∙ c.in_ok-copied.ensures in
+    let same : c.in_ok-root.root.trail.shape ≡ c.args.shape.now = c.in_ok-root.ensures.shape ∙ c.in_ok-copied_shape.ensures in
     IfOk-weaker c.rise.result _ _ (λ made is. is.left_is.shape_is ∙ shape_named fresh_book_tag c.in_ok-root.root c.args.shape.now same)
     c.rise.ensures
 
@@ -61,7 +61,7 @@ rise_flat-requires-clause-top g c κs within =
     let plan = c.requires.plan in let one = c.if-top-eq0.true in omega (arith, kinds, plan, one)
 
 pub rise_flat-requires-clause-shape : goal.rise_flat-requires-clause-shape
-rise_flat-requires-clause-shape g c κs within = c.in_ok-root.ensures.shape ∙ c.in_ok-copied.ensures
+rise_flat-requires-clause-shape g c κs within = c.in_ok-root.ensures.shape ∙ c.in_ok-copied_shape.ensures
 
 pub returns-then-top-eq0-clause-finished : goal.returns-then-top-eq0-clause-finished
 returns-then-top-eq0-clause-finished g c = IfOk-weaker c.rise_flat.result _ _ (λ left is. is.left_is.finished) c.rise_flat.ensures
@@ -82,7 +82,7 @@ rise-requires-clause-most g c κs within =
     let levels = c.requires.levels in omega (arith, kinds, plan, levels)
 
 pub rise-requires-clause-shape : goal.rise-requires-clause-shape
-rise-requires-clause-shape g c κs within = c.in_ok-root.ensures.shape ∙ c.in_ok-copied.ensures
+rise-requires-clause-shape g c κs within = c.in_ok-root.ensures.shape ∙ c.in_ok-copied_shape.ensures
 
 pub returns-else-top-eq0-clause-finished : goal.returns-else-top-eq0-clause-finished
 returns-else-top-eq0-clause-finished g c = IfOk-weaker c.rise.result _ _ (λ left is. is.left_is.finished) c.rise.ensures

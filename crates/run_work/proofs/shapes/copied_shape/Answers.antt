@@ -1,7 +1,7 @@
 use Rattle.std.proofs.Common.{◌≡◌, ◌≤◌, ◌<◌, ℕ, List, [], ◌∷◌, ◌++◌, length, take, get_or, ap, sym, ◌∙◌, subst}
 use Rattle.std.proofs.lemmas.List.{take_all, take_more}
 use Rattle.keep_local.specs.declared.shape.Shape.{Shape}
-use Rattle.planned_runner.proofs.shapes.copied.Goals as goal
+use Rattle.run_work.proofs.shapes.copied_shape.Goals as goal
 
 -- the shape of these paths and keeps
 abbrev made_of : List (List ℕ) → List ℕ → Shape

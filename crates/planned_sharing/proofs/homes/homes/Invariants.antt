@@ -1,6 +1,6 @@
 use Rattle.std.proofs.Common.{◌≡◌, map, take}
 use Rattle.std.specs.Prelude.{slice_index}
-use Rattle.planned_runner.proofs.shapes.homes.Given as goal
+use Rattle.planned_sharing.proofs.homes.homes.Given as goal
 
 -- the homes so far
 abbrev pub invariant-loop-path : goal.invariant-loop-path
